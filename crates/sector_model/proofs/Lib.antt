@@ -1,0 +1,5 @@
+pub mod Stamps
+pub mod Spacing
+pub mod RunsOf
+pub mod Exact
+pub mod PageLaws

@@ -1,0 +1,70 @@
+//! Sectors, and lists of them.
+ghost use Rattle.std.specs.Prelude.{◌≡◌, IfOk, List};
+
+use crate::NoMemory;
+use std::alloc::Global;
+use std::marker::Model;
+
+/// Bytes of a sector.
+pub const SECTOR_BYTES: usize = 512;
+
+/// The 512 bytes of one sector.
+#[derive(Clone, Copy, Debug, PartialEq, Eq)]
+pub struct Sector(pub [u8; 512]);
+
+impl Sector {
+    ghost use Rattle.sector_model.specs.Sectors.{filled, stamped};
+
+    /// A sector whose bytes are all `byte`.
+    #[tactic(auto, unfolding(crate::specs::Sectors::filled))]
+    pub fn filled(byte: u8) -> Sector
+        ensures { result ≡ filled byte }
+    {
+        Sector([byte; 512])
+    }
+
+    /// A sector that repeats the stamp 64 times, big-endian.
+    #[tactic(auto, unfolding(crate::specs::Sectors::stamped))]
+    pub fn stamped(stamp: u64) -> Sector
+        ensures { result ≡ stamped stamp }
+    {
+        let bytes = stamp.to_be_bytes();
+        let mut sector = [0; 512];
+        for i in 0..512 {
+            sector[i] = bytes[i % 8];
+        }
+        Sector(sector)
+    }
+}
+
+/// A list of sectors, as a write carries it.
+#[derive(Debug, Drop)]
+pub struct SectorList {
+    sectors: Vec<Sector>,
+}
+
+impl Model for SectorList {
+    ghost use Rattle.std.specs.Prelude.{List};
+    ghost use Rattle.sector_model.specs.declared.contents.Sector.{Sector};
+
+    ghost Value = { List Sector };
+
+    ghost view = { λ a. a.sectors.items };
+}
+
+impl SectorList {
+    /// A copy of the sectors. It answers only want of memory.
+    pub fn of(alloc: Global, sectors: &[Sector]) -> Result<SectorList, NoMemory>
+        ensures { IfOk result (λ list. list ≡ sectors.now) }
+    {
+        let sectors = sectors.to_vec(alloc)?;
+        Ok(SectorList { sectors })
+    }
+
+    /// The sectors, in order.
+    pub fn as_slice(&self) -> &[Sector]
+        ensures { result.now ≡ self.now }
+    {
+        self.sectors.as_slice()
+    }
+}

@@ -1,0 +1,34 @@
+//! A disk in sectors of 512 bytes: its contents, the runs of its sectors, and pages of changed areas.
+//!
+//! The tracker looks at a disk in blocks of 128 sectors, block `b` being the sectors `128 * b` to
+//! `128 * b + 127`, clipped at the disk's capacity. All numbers here count sectors.
+#![tactic(auto)]
+
+mod contents;
+mod extents;
+mod laws;
+mod paging;
+#[cfg(test)]
+mod tests;
+
+pub use contents::{SECTOR_BYTES, Sector, SectorList};
+pub use extents::{BLOCK_SECTORS, Run, Runs};
+pub use laws::{folds_join, pages_join, runs_are_exact};
+pub use paging::{PAGE_AREAS, Page};
+use std::alloc::{AllocError, AllocFailed};
+
+/// Memory ran out. A call that answers it has changed nothing.
+#[derive(Clone, Copy, Debug, PartialEq, Eq)]
+pub struct NoMemory;
+
+impl From<AllocError> for NoMemory {
+    fn from(_refused: AllocError) -> Self {
+        NoMemory
+    }
+}
+
+impl<T: Drop> From<AllocFailed<T>> for NoMemory {
+    fn from(_refused: AllocFailed<T>) -> Self {
+        NoMemory
+    }
+}

@@ -1,0 +1,91 @@
+//! A page of changed areas, which is filled without taking memory.
+ghost use Rattle.std.specs.Prelude.{◌≡◌, ◌<◌, ◌++◌, ◌∷◌, [], length, IfOk};
+
+use crate::{NoMemory, Run};
+use std::alloc::Global;
+use std::marker::Model;
+
+/// The most areas that one page holds.
+pub const PAGE_AREAS: usize = 1024;
+
+/// Where a page of areas starts, how many sectors it speaks of, and the areas among these.
+///
+/// A tracker answers which areas changed in pages, after VMware's `QueryChangedDiskAreas`: the caller goes on
+/// at the page's start plus its length until that is the capacity.
+#[derive(Debug, Drop)]
+pub struct Page {
+    start: u64,
+    covered: u64,
+    runs: Vec<Run>,
+}
+
+impl Model for Page {
+    ghost use Rattle.std.specs.Prelude.{◌≤◌};
+    ghost use Rattle.std.specs.Vec.{vec_capacity};
+    ghost use Rattle.sector_model.specs.Pages.{PageContents};
+
+    ghost Value = { PageContents };
+
+    ghost view = { λ a. record { start = a.start; covered = a.covered; areas = a.runs.items } };
+
+    ghost invariant = { λ a. 1024 ≤ vec_capacity a.runs };
+}
+
+impl Page {
+    /// An empty page at sector 0, with room for 1,024 areas. It answers only want of memory.
+    pub fn new(alloc: Global) -> Result<Page, NoMemory>
+        ensures { IfOk result (λ page. page ≡ record { start = 0; covered = 0; areas = [] }) }
+    {
+        let runs = Vec::with_capacity(alloc, PAGE_AREAS)?;
+        Ok(Page {
+            start: 0,
+            covered: 0,
+            runs,
+        })
+    }
+
+    /// The first sector that the page speaks of.
+    pub fn start(&self) -> u64
+        ensures { result ≡ self.now.start }
+    {
+        self.start
+    }
+
+    /// How many sectors the page speaks of.
+    pub fn length(&self) -> u64
+        ensures { result ≡ self.now.covered }
+    {
+        self.covered
+    }
+
+    /// The areas, in the order in which they were pushed.
+    pub fn areas(&self) -> &[Run]
+        ensures { result.now ≡ self.now.areas }
+    {
+        self.runs.as_slice()
+    }
+
+    /// Empties the page, and lets it start at a sector.
+    pub fn clear(&mut self, start: u64)
+        ensures { self.new ≡ record { start = start; covered = 0; areas = [] } }
+    {
+        self.runs.clear();
+        self.start = start;
+        self.covered = 0;
+    }
+
+    /// Adds an area behind the others. It takes no memory.
+    pub fn push(&mut self, run: Run)
+        requires { length self.old.areas < 1024 }
+        ensures { self.new ≡ record self.old { areas = self.old.areas ++ run ∷ [] } }
+    {
+        self.runs.push(run).unwrap();
+    }
+
+    /// Sets how many sectors the page speaks of.
+    pub fn cover(&mut self, length: u64)
+        ensures { self.new ≡ record self.old { covered = length } }
+    {
+        self.covered = length;
+    }
+}
