@@ -1,0 +1,4 @@
+pub mod UuidBytes
+pub mod SpellingLemmas
+pub mod NumberLemmas
+pub mod AnswerLemmas

@@ -1,0 +1,72 @@
+-- The spelling of a change identifier, what a text may lack, and the number that its UUID packs.
+use Rattle.std.specs.Prelude.{◌≡◌, ℕ, ◌+◌, ◌*◌, ◌^◌, ◌≤◌, ◌<◌, ◌==◌, List, ◌∷◌, ◌++◌, Contains, Result, Ok, Err, decimal}
+use Rattle.std.specs.Int.{w128, to_be_bytes}
+use Rattle.std.specs.List.{before_first, after_first}
+use Rattle.uuid.specs.Text.{hyphenated_text, lower}
+use Rattle.change_id.specs.declared.ChangeId.{ChangeId}
+use Rattle.change_id.specs.declared.IdRefused.{IdRefused}
+use Rattle.change_id.specs.declared.IdRefused.TheVariants.{Form, Uuid, Number}
+
+-- one number of 128 bits: 32 for the machine, then 32 for the disk, then 64 for the resets
+abbrev pub packed : (machine disk resets : ℕ) → ℕ
+packed machine disk resets = machine * 2 ^ 96 + disk * 2 ^ 64 + resets
+
+-- the code of `/`
+abbrev pub slash : ℕ
+slash = 47
+
+-- a UUID as text: its sixteen bytes, the highest first, hyphenated and in lower case
+unfoldable pub uuid_text : ℕ → List ℕ
+uuid_text uuid = hyphenated_text lower (to_be_bytes w128 uuid)
+
+-- the one spelling of an identifier
+abbrev pub spelling : (uuid seq : ℕ) → List ℕ
+spelling uuid seq = uuid_text uuid ++ slash ∷ decimal seq
+
+-- a UUID of 128 bits, and a number from 1 to 2 ^ 64 - 1
+pub record IsIdentifier (id : ChangeId) : Type 0 where
+  pub uuid_fits : id.uuid < 2 ^ 128
+  pub counted : 1 ≤ id.seq
+  pub seq_fits : id.seq < 2 ^ 64
+
+-- the text is the spelling of the identifier
+pub record Spells (text : List ℕ) (id : ChangeId) : Type 0 where
+  pub identifier : IsIdentifier id
+  pub spelled : text ≡ spelling id.uuid id.seq
+
+-- the text of some UUID
+abbrev pub IsUuidText : List ℕ → Type 0
+IsUuidText text = (uuid : ℕ) × (uuid < 2 ^ 128) × (text ≡ uuid_text uuid)
+
+-- the decimal digits of some number from 1 to 2 ^ 64 - 1
+abbrev pub IsNumberText : List ℕ → Type 0
+IsNumberText text = (n : ℕ) × (1 ≤ n) × (n < 2 ^ 64) × (text ≡ decimal n)
+
+-- what stands before the first slash of a text, and what stands after it
+abbrev pub uuid_part : List ℕ → List ℕ
+uuid_part text = before_first (λ b. b == slash) text
+
+abbrev pub number_part : List ℕ → List ℕ
+number_part text = after_first (λ b. b == slash) text
+
+-- the text has no slash
+abbrev pub LacksSlash : List ℕ → Type 0
+LacksSlash text = ¬ (Contains text slash)
+
+-- it has one, and no UUID before the first
+pub record LacksUuid (text : List ℕ) : Type 0 where
+  pub divided : Contains text slash
+  pub no_uuid : ¬ (IsUuidText (uuid_part text))
+
+-- it has one, a UUID before the first, and no number after it
+pub record LacksNumber (text : List ℕ) : Type 0 where
+  pub divided : Contains text slash
+  pub has_uuid : IsUuidText (uuid_part text)
+  pub no_number : ¬ (IsNumberText (number_part text))
+
+-- what reading a text may answer
+abbrev pub IsAnswer : List ℕ → Result ChangeId IdRefused → Type 0
+IsAnswer text (Ok id) = Spells text id
+IsAnswer text (Err Form) = LacksSlash text
+IsAnswer text (Err Uuid) = LacksUuid text
+IsAnswer text (Err Number) = LacksNumber text

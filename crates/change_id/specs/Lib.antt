@@ -1,0 +1,2 @@
+pub mod ChangeId
+pub mod Laws

@@ -1,0 +1,287 @@
+//! Change identifiers of the form `<UUID>/<number>`, as VMware's changed block tracking has them.
+//! Here the UUID packs the machine, the disk and how often the disk's tracking was reset, and the
+//! number counts the disk's snapshots since the last reset.
+#![tactic(auto)]
+
+ghost use Rattle.std.specs.Prelude.{◌≡◌, ◌≤◌, ◌<◌, ◌↔◌, ◌==◌, Contains, IfNone, IfSome, IsTrue, MatchOption, position, slice_index, decimal, drop, length, take};
+ghost use Rattle.change_id.specs.declared.ChangeId.{ChangeId};
+ghost use Rattle.change_id.specs.ChangeId.{packed, spelling, uuid_text, uuid_part, number_part, IsUuidText, IsNumberText, IsAnswer, Spells, LacksSlash, LacksUuid, LacksNumber, slash};
+ghost use Rattle.change_id.specs.Laws.{OneAnswer, WrittenParses, SpellingsDiffer, PackingsDiffer};
+
+use std::error::Error;
+use std::fmt;
+use uuid::Uuid;
+
+/// The most decimal digits that a `u64` has.
+const MAX_DIGITS: usize = 20;
+
+/// A disk's state at one of its snapshots.
+#[derive(Clone, Copy, Debug, PartialEq, Eq)]
+pub struct ChangeId {
+    /// What [`pack`] gives for the machine, the disk and its resets.
+    pub uuid: u128,
+    /// The number of the snapshot since the last reset, from 1 on.
+    pub seq: u64,
+}
+
+/// From when on a query asks for the changed areas.
+#[derive(Clone, Copy, Debug, PartialEq, Eq)]
+pub enum Since {
+    /// From the beginning on.
+    All,
+    /// From the snapshot of this identifier on.
+    From(ChangeId),
+}
+
+/// Why a text is no identifier.
+#[derive(Clone, Copy, Debug, PartialEq, Eq)]
+pub enum IdRefused {
+    /// It has no slash.
+    Form = 1,
+    /// What stands before the first slash is no lower-case hyphenated UUID.
+    Uuid = 2,
+    /// What stands after it is no decimal number from 1 to 2^64 - 1, or has a leading zero.
+    Number = 3,
+}
+
+impl fmt::Display for IdRefused {
+    fn fmt<W: fmt::Write>(&self, f: &mut fmt::Formatter<W>) -> fmt::Result {
+        match self {
+            IdRefused::Form => write!(f, "a change identifier has a slash"),
+            IdRefused::Uuid => write!(f, "no lower-case hyphenated UUID before the slash"),
+            IdRefused::Number => write!(f, "no number from 1 to 2^64 - 1 after the slash"),
+        }
+    }
+}
+
+impl Error for IdRefused {}
+
+/// The UUID of a disk's identifiers, as a number: from the highest bit on, 32 bits for the machine,
+/// 32 for the disk, and 64 for how often the disk's tracking was reset.
+pub fn pack(machine: u32, disk: u32, resets: u64) -> u128
+    ensures { result ≡ packed machine disk resets }
+{
+    (u128::from(machine) << 96) + (u128::from(disk) << 64) + u128::from(resets)
+}
+
+/// Reads the one spelling that [`write_to`] writes. A refusal names the first part that is wrong,
+/// from the front: [`IdRefused::Form`] where there is no slash, [`IdRefused::Uuid`] for what
+/// stands before the first one, [`IdRefused::Number`] for what stands after it.
+pub fn parse(text: &[u8]) -> Result<ChangeId, IdRefused>
+    ensures answer { IsAnswer text.now result }
+    ensures spelled { (id : ChangeId) → Spells text.now id → result ≡ Ok id }
+    ensures form { (result ≡ Err IdRefused.Form) ↔ LacksSlash text.now }
+    ensures uuid { (result ≡ Err IdRefused.Uuid) ↔ LacksUuid text.now }
+    ensures number { (result ≡ Err IdRefused.Number) ↔ LacksNumber text.now }
+{
+    let (front, back) = split_at_slash(text).ok_or(IdRefused::Form)?;
+    let uuid = parse_uuid(front).ok_or(IdRefused::Uuid)?;
+    let seq = parse_number(back).ok_or(IdRefused::Number)?;
+    Ok(ChangeId { uuid, seq })
+}
+
+/// Writes the one spelling of `id` to the front of `out`, and gives its length in bytes. The rest
+/// of `out` stays as it was.
+pub fn write_to(id: &ChangeId, out: &mut [u8; 57]) -> usize
+    requires { 1 ≤ id.now.seq }
+    ensures text { take result out.new ≡ spelling id.now.uuid id.now.seq }
+    ensures rest { drop result out.new ≡ drop result out.old }
+    ensures fits { result ≤ 57 }
+{
+    let mut buffer = [0; 36];
+    let uuid = Uuid::from_u128(id.uuid)
+        .hyphenated()
+        .encode_lower(&mut buffer);
+    out[..36].copy_from_slice(uuid.as_bytes());
+    out[36] = b'/';
+    let (digits, start) = decimal_digits(id.seq);
+    let end = 37 + MAX_DIGITS - start;
+    out[37..end].copy_from_slice(&digits[start..]);
+    end
+}
+
+// What stands before the first slash, and after it.
+fn split_at_slash(text: &[u8]) -> Option<(&[u8], &[u8])>
+    ensures { MatchOption result (LacksSlash text.now) (λ x. Contains text.now slash
+        × (x.0.now ≡ uuid_part text.now) × (x.1.now ≡ number_part text.now)) }
+{
+    let at = first_slash(text)?;
+    Some((&text[..at], &text[at + 1..]))
+}
+
+fn first_slash(text: &[u8]) -> Option<usize>
+    ensures place { result ≡ position (λ b. b == slash) text.now }
+    ensures within { IfSome result (λ at. at < length text.now) }
+    ensures none { IfNone result (LacksSlash text.now) }
+{
+    text.iter().position(|b| *b == b'/')
+}
+
+// The UUID of a lower-case hyphenated text. The crate `uuid` reads other forms and upper case
+// too, so its text is compared with what was read.
+fn parse_uuid(text: &[u8]) -> Option<u128>
+    ensures { MatchOption result (¬ (IsUuidText text.now)) (λ uuid. text.now ≡ uuid_text uuid) }
+{
+    let uuid = Uuid::try_parse_ascii(text).ok()?;
+    let mut buffer = [0; 36];
+    let lower = uuid.hyphenated().encode_lower(&mut buffer);
+    if lower.as_bytes() == text {
+        Some(uuid.as_u128())
+    } else {
+        None
+    }
+}
+
+// The number of a text of decimal digits, of which the first is not 0.
+fn parse_number(text: &[u8]) -> Option<u64>
+    ensures { MatchOption result (¬ (IsNumberText text.now)) (λ n. (1 ≤ n) × (text.now ≡ decimal n)) }
+{
+    if !starts_above_zero(text) {
+        return None;
+    }
+    std::str::from_utf8(text).ok()?.parse().ok()
+}
+
+// Whether the first byte is a digit other than 0.
+fn starts_above_zero(text: &[u8]) -> bool
+    ensures { IsTrue result ↔ ((49 ≤ slice_index text.now 0) × (slice_index text.now 0 ≤ 57)) }
+{
+    matches!(text, [b'1'..=b'9', ..])
+}
+
+// The decimal digits of a number, at the end of the array, and where they begin.
+fn decimal_digits(number: u64) -> ([u8; MAX_DIGITS], usize)
+    ensures start { result.1 < MAX_DIGITS }
+    ensures digits { drop result.1 result.0 ≡ decimal number }
+{
+    let mut digits = [0; MAX_DIGITS];
+    let mut start = MAX_DIGITS - 1;
+    let mut rest = number;
+    while rest >= 10 {
+        digits[start] = b'0' + (rest % 10) as u8;
+        start -= 1;
+        rest /= 10;
+    }
+    digits[start] = b'0' + rest as u8;
+    (digits, start)
+}
+
+/// No text has two answers: [`parse`] is determined by what it ensures.
+pub fn one_answer()
+    ensures { OneAnswer }
+{}
+
+/// What [`write_to`] writes, [`parse`] reads as the same identifier.
+pub fn written_parses()
+    ensures { WrittenParses }
+{}
+
+/// No two identifiers share a spelling.
+pub fn spellings_differ()
+    ensures { SpellingsDiffer }
+{}
+
+/// No two triples of machine, disk and resets share a packing.
+pub fn packings_differ()
+    ensures { PackingsDiffer }
+{}
+
+#[cfg(test)]
+mod tests {
+    use super::*;
+    use std::test::Fail;
+
+    // The UUID of machine 1, disk 0, before any reset.
+    const FIRST: u128 = 1 << 96;
+
+    #[test]
+    fn packed_ids_have_their_text(rt: HostRuntime) {
+        let vectors = [
+            ((1, 0, 0), "00000001-0000-0000-0000-000000000000/1"),
+            ((1, 0, 1), "00000001-0000-0000-0000-000000000001/1"),
+            ((10, 3, 2), "0000000a-0000-0003-0000-000000000002/1"),
+        ];
+        for ((machine, disk, resets), text) in vectors {
+            let id = ChangeId {
+                uuid: pack(machine, disk, resets),
+                seq: 1,
+            };
+            let mut out = [b'#'; 57];
+            let len = write_to(&id, &mut out);
+            assert_eq!(rt; &out[..len], text.as_bytes(), "{text}");
+            assert!(rt; out[len..].iter().all(|b| *b == b'#'), "after {text}");
+            assert_eq!(rt; parse(&out[..len]), Ok(id), "{text}");
+        }
+    }
+
+    #[test]
+    fn only_the_one_spelling_parses(rt: HostRuntime) {
+        let vectors = [
+            ("", Err(IdRefused::Form)),
+            ("/1", Err(IdRefused::Uuid)),
+            (
+                "0000000A-0000-0000-0000-000000000000/1",
+                Err(IdRefused::Uuid),
+            ),
+            (
+                "00000001-0000-0000-0000-000000000000/",
+                Err(IdRefused::Number),
+            ),
+            (
+                "00000001-0000-0000-0000-000000000000/01",
+                Err(IdRefused::Number),
+            ),
+            (
+                "00000001-0000-0000-0000-000000000000/0",
+                Err(IdRefused::Number),
+            ),
+            (
+                "00000001-0000-0000-0000-000000000000/18446744073709551616",
+                Err(IdRefused::Number),
+            ),
+            (
+                "00000001-0000-0000-0000-000000000000/18446744073709551615",
+                Ok(ChangeId {
+                    uuid: FIRST,
+                    seq: u64::MAX,
+                }),
+            ),
+        ];
+        for (text, answer) in vectors {
+            assert_eq!(rt; parse(text.as_bytes()), answer, "{text}");
+        }
+    }
+
+    #[test]
+    fn the_longest_spelling_fills_the_buffer(rt: HostRuntime) {
+        let mut out = [0; 57];
+        let id = ChangeId {
+            uuid: u128::MAX,
+            seq: u64::MAX,
+        };
+        let text = b"ffffffff-ffff-ffff-ffff-ffffffffffff/18446744073709551615";
+        assert_eq!(rt; write_to(&id, &mut out), 57);
+        assert_eq!(rt; &out, text);
+        assert_ne!(rt; Since::From(id), Since::All);
+    }
+
+    #[test]
+    fn refusals_say_what_is_wrong(rt: HostRuntime) -> Result<(), Fail> {
+        let vectors = [
+            (IdRefused::Form, "a change identifier has a slash"),
+            (
+                IdRefused::Uuid,
+                "no lower-case hyphenated UUID before the slash",
+            ),
+            (
+                IdRefused::Number,
+                "no number from 1 to 2^64 - 1 after the slash",
+            ),
+        ];
+        for (refusal, text) in vectors {
+            let printed = format!(in rt.alloc(); "{refusal}")?;
+            assert_eq!(rt; printed.as_str(), text);
+        }
+        Ok(())
+    }
+}
