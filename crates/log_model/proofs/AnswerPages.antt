@@ -1,0 +1,49 @@
+-- The pages of an answer.
+use Rattle.std.proofs.Common.{◌≡◌, ℕ, ◌<◌, ◌+◌, ◌^◌, ◌≤◌, List, [], ◌∷◌, Bool, true, false, cond, Option, Ok, Err, sym, ap, subst, refl, ◌∙◌, arith}
+use Rattle.std.proofs.lemmas.Bool.{lt-ltb, le-ltb}
+use Rattle.std.proofs.lemmas.List.Elements.{All-from_recursion}
+use Rattle.sector_model.specs.Areas.{end_of, in_blocks, areas_of, AreSpacedFrom}
+use Rattle.sector_model.specs.Pages.{areas_from}
+use Rattle.sector_model.specs.declared.extents.Run.{Run}
+use Rattle.sector_model.proofs.Spacing.{Kept, runs_of-kept}
+use Rattle.sector_model.proofs.PageLaws.{pages_joined}
+use Rattle.change_id.specs.declared.ChangeId.{ChangeId}
+use Rattle.change_id.specs.declared.Since.{Since}
+use Rattle.change_id.specs.declared.Since.TheVariants.{All as Everything, From}
+use Rattle.log_model.specs.declared.entries.Entry.{Entry}
+use Rattle.log_model.specs.Answers.{answer, accepts, numbered_place}
+use Rattle.log_model.specs.Marks.{mark, in_force}
+use Rattle.log_model.specs.Touched.{touched, touched_areas}
+use Rattle.log_model.specs.Laws.{AnswerPagesJoin, AllPagesAreTheAnswer}
+
+ok_part : (b : Bool) (x y : List Run) (e : Option ChangeId) → cond b (Ok x) (Err e) ≡ Ok y → x ≡ y
+ok_part true x y e h = cc
+ok_part false x y e h = absurd (cc)
+
+-- from sector 0 on, nothing is left out or clipped
+areas_from-start : (m : ℕ) (rs : List Run) → AreSpacedFrom m rs → areas_from 0 rs ≡ rs
+areas_from-start m [] h = refl
+areas_from-start m (r ∷ rs) h =
+    let past : 0 < end_of r = omega (arith, h.1) in
+    rw (lt-ltb 0 (end_of r) past, le-ltb r.first 0 (omega arith)) (ap (λ (more : List Run). r ∷ more) (areas_from-start (end_of r + 1) rs h.2))
+
+-- an answer is the areas of some blocks
+answered : (machine c d s : ℕ) (since : Since) (log : List Entry) (areas : List Run) → answer machine c d s since log ≡ Ok areas → (blocks : List ℕ) × (areas ≡ areas_of c blocks)
+answered machine c d s Everything log areas found = (touched c d 0 (mark s log) log, cc)
+answered machine c d s (From id) log areas found =
+    (touched c d (numbered_place d id.seq log) (mark s log) log, sym (ok_part (accepts machine d s id log) (touched_areas c d (numbered_place d id.seq log) (mark s log) log) areas (in_force machine d log) found))
+
+kept : (machine c d s : ℕ) (since : Since) (log : List Entry) (areas : List Run) → c < 2 ^ 64 → answer machine c d s since log ≡ Ok areas → Kept 0 c areas
+kept machine c d s since log areas fits found =
+    let blocks = answered machine c d s since log areas found in
+    subst (Kept 0 c) (sym blocks.1) (runs_of-kept (in_blocks blocks.0) c fits)
+
+pub answer_pages_join : AnswerPagesJoin
+answer_pages_join machine c d s since log areas start pages fits found are =
+    let k = kept machine c d s since log areas fits found in
+    pages_joined c areas start pages k.spaced (All-from_recursion (λ r. end_of r ≤ c) areas k.ends) are
+
+pub all_pages_are_the_answer : AllPagesAreTheAnswer
+all_pages_are_the_answer machine c d s since log areas pages fits found are =
+    let k = kept machine c d s since log areas fits found in
+    answer_pages_join machine c d s since log areas 0 pages fits found are ∙ areas_from-start 0 areas k.spaced

@@ -1,0 +1,58 @@
+-- Legal logs and their prefixes.
+use Rattle.std.proofs.Common.{◌≡◌, ℕ, ◌+◌, ◌<◌, ◌≤◌, List, [], ◌∷◌, ◌++◌, length, take, Some, subst, sym, ap, ◌∙◌, arith, ◌⊎◌, inl, inr, length-append, length-take}
+use Rattle.std.specs.List.{slice_get}
+use Rattle.std.proofs.lemmas.Bool.{cases_eq}
+use Rattle.std.proofs.lemmas.List.{take-take, take-append-le}
+use Rattle.std.proofs.lemmas.Option.{slice_get_within, same_Some}
+use Rattle.std.proofs.Math.Seq.{take-append_seam}
+use Rattle.log_model.specs.declared.entries.Entry.{Entry}
+use Rattle.log_model.specs.Legal.{Legal, MayStand}
+use Rattle.log_model.specs.Laws.{PrefixesAreLegal, LegalGrows}
+use Rattle.log_model.proofs.Last.{slice_get-last, slice_get-front, slice_get-take}
+
+pub length-take-le : {X : Type 0} (n : ℕ) (xs : List X) → length (take n xs) ≤ length xs
+length-take-le n xs = omega (arith, length-take n xs)
+
+pub within_take : {X : Type 0} (n k : ℕ) (xs : List X) → k < length (take n xs) → k < n
+within_take n k xs h = omega (arith, length-take n xs)
+
+pub prefixes_are_legal : PrefixesAreLegal
+prefixes_are_legal capacities log n legal = record {
+  short = omega (arith, legal.short, length-take-le n log);
+  each = λ place e read.
+      let inside : place < n = within_take n place log (slice_get_within (take n log) place e read) in
+      let whole : slice_get log place ≡ Some e = sym (slice_get-take log n place inside) ∙ read in
+      let le : place ≤ n = omega arith in
+      subst (λ (front : List Entry). MayStand capacities front e) (sym (take-take place n log le)) (legal.each place e whole);
+}
+
+-- the entry at a place of a log with one more is an old one, or the new one at the end
+last_or_old : (log : List Entry) (e x : Entry) (k : ℕ) → slice_get (log ++ e ∷ []) k ≡ Some x → ((k < length log) × (slice_get log k ≡ Some x)) ⊎ ((k ≡ length log) × (e ≡ x))
+last_or_old log e x k read =
+    let inside : k < length log + 1 = omega (arith, slice_get_within (log ++ e ∷ []) k x read, length-append log (e ∷ [])) in
+    elim (cases_eq k (length log)) [
+      | inl same ↦ inr (same, same_Some e x (sym (slice_get-last log e) ∙ ap (slice_get (log ++ e ∷ [])) (sym same) ∙ read))
+      | inr other ↦ let old : k < length log = omega arith in inl (old, sym (slice_get-front log (e ∷ []) k old) ∙ read)
+    ]
+
+pub legal_grows : LegalGrows
+legal_grows capacities log e legal room stands = record {
+  short = omega (arith, length-append log (e ∷ []));
+  each = λ place x read.
+      elim (last_or_old log e x place read) [
+        | inl old ↦
+            let le : place ≤ length log = omega (arith, old.0) in
+            subst (λ (front : List Entry). MayStand capacities front x) (sym (take-append-le place log (e ∷ []) le)) (legal.each place x old.1)
+        | inr new ↦
+            subst (λ (y : Entry). MayStand capacities (take place (log ++ e ∷ [])) y) new.1
+            (subst (λ (front : List Entry). MayStand capacities front e) (sym (ap (λ n. take n (log ++ e ∷ [])) new.0 ∙ take-append_seam log (e ∷ []))) stands)
+      ];
+}
+
+-- what a legal log with one entry more says of that entry
+pub legal_last : (capacities : List ℕ) (log : List Entry) (e : Entry) → Legal capacities (log ++ e ∷ []) → MayStand capacities log e
+legal_last capacities log e legal =
+    subst (λ (front : List Entry). MayStand capacities front e) (take-append_seam log (e ∷ [])) (legal.each (length log) e (slice_get-last log e))
+
+pub legal_front : (capacities : List ℕ) (log more : List Entry) → Legal capacities (log ++ more) → Legal capacities log
+legal_front capacities log more legal = subst (Legal capacities) (take-append_seam log more) (prefixes_are_legal capacities (log ++ more) (length log) legal)

@@ -1,0 +1,14 @@
+pub mod Last
+pub mod LegalLogs
+pub mod OffLaws
+pub mod NumberLaws
+pub mod Replaced
+pub mod TouchedLaws
+pub mod AnswerPages
+pub mod FoldLemmas
+pub mod AreaLemmas
+pub mod PageFilled
+pub mod Accepted
+pub mod OwnedLaws
+pub mod SectorAt
+pub mod Later

@@ -1,0 +1,49 @@
+-- When a page is full, and when it is the last.
+use Rattle.std.proofs.Common.{◌≡◌, ℕ, ◌-◌, ◌<◌, ◌≤◌, List, [], ◌∷◌, ◌++◌, length, get_or, take, cond, refl, sym, ap, ◌∙◌, arith, length-append}
+use Rattle.std.proofs.lemmas.Bool.{lt-ltb, le-ltb}
+use Rattle.std.proofs.lemmas.List.{take_all, take-append-le, append-nil}
+use Rattle.std.proofs.Math.ListN.{get_or-append}
+use Rattle.sector_model.specs.Areas.{end_of}
+use Rattle.sector_model.specs.Pages.{PageContents, areas_from, page_of, page_end}
+use Rattle.sector_model.specs.declared.extents.Run.{Run}
+
+pub get_or-pushed : (xs : List Run) (r d : Run) → get_or (xs ++ r ∷ []) (length xs) d ≡ r
+get_or-pushed [] r d = refl
+get_or-pushed (x ∷ xs) r d = get_or-pushed xs r d
+
+pub last_pushed : (xs : List Run) (r d : Run) → get_or (xs ++ r ∷ []) (length (xs ++ r ∷ []) - 1) d ≡ r
+last_pushed xs r d =
+    let last : length (xs ++ r ∷ []) - 1 ≡ length xs = omega (arith, length-append xs (r ∷ [])) in
+    ap (λ i. get_or (xs ++ r ∷ []) i d) last ∙ get_or-pushed xs r d
+
+page_is : (start covered other : ℕ) (areas others : List Run) → covered ≡ other → areas ≡ others
+    → ◌≡◌ {A = PageContents} (record { start = start; covered = covered; areas = areas }) (record { start = start; covered = other; areas = others })
+page_is start covered other areas others same told = ap (λ n. record { start = start; covered = n; areas = areas }) same ∙ ap (λ xs. record { start = start; covered = other; areas = xs }) told
+
+-- 1,024 areas, behind which more follow
+pub full_page : (c start at : ℕ) (areas told more : List Run) (r : Run) → areas_from start areas ≡ told ++ r ∷ more → length told ≡ 1024
+    → ((d : Run) → 0 < length told → end_of (get_or told (length told - 1) d) ≡ at)
+    → record { start = start; covered = at - start; areas = told } ≡ page_of c areas start
+full_page c start at areas told more r all long ended =
+    let rest : List Run = areas_from start areas in
+    let more_than : 1024 < length rest = omega (arith, ap length all, length-append told (r ∷ more)) in
+    let zero_run : Run = record { first = 0; count = 0 } in
+    let inside : 1023 < length told = omega arith in
+    let last : 1023 ≡ length told - 1 = omega arith in
+    let le : 1024 ≤ length told = omega arith in
+    let ends : page_end c rest ≡ at =
+    ap (λ b. cond b (end_of (get_or rest 1023 zero_run)) c) (lt-ltb 1024 (length rest) more_than)
+    ∙ ap (λ xs. end_of (get_or xs 1023 zero_run)) all ∙ ap end_of (get_or-append told (r ∷ more) zero_run 1023 inside) ∙ ap (λ i. end_of (get_or told i zero_run)) last ∙ ended zero_run (omega arith) in
+    let front : take 1024 rest ≡ told = ap (take 1024) all ∙ take-append-le 1024 told (r ∷ more) le ∙ take_all 1024 told (omega arith) in
+    page_is start (at - start) (page_end c rest - start) told (take 1024 rest) (ap (λ n. n - start) (sym ends)) (sym front)
+
+-- all areas that are left
+pub last_page : (c start : ℕ) (areas told : List Run) → areas_from start areas ≡ told ++ [] → length told ≤ 1024
+    → record { start = start; covered = c - start; areas = told } ≡ page_of c areas start
+last_page c start areas told all few =
+    let rest : List Run = areas_from start areas in
+    let same : rest ≡ told = all ∙ append-nil told in
+    let short : length rest ≤ 1024 = omega (arith, ap length same) in
+    let zero_run : Run = record { first = 0; count = 0 } in
+    let ends : page_end c rest ≡ c = ap (λ b. cond b (end_of (get_or rest 1023 zero_run)) c) (le-ltb 1024 (length rest) short) in
+    page_is start (c - start) (page_end c rest - start) told (take 1024 rest) (ap (λ n. n - start) (sym ends)) (sym (take_all 1024 rest short ∙ same))

@@ -1,0 +1,146 @@
+-- The blocks that are touched between two places.
+use Rattle.std.proofs.Common.{◌≡◌, ℕ, zero, suc, ◌+◌, ◌/◌, ◌<◌, ◌≤◌, List, [], ◌∷◌, ◌++◌, length, take, drop, Bool, true, false, cond, ◌||◌, ◌&&◌, eqb, nat_eq, Option, Some, None, sym, ap, subst, refl, ◌∙◌, arith, length-take, inl, inr}
+use Rattle.std.specs.List.{fold, cons_option, slice_get, list_any, range_with_len, AllByRecursion}
+use Rattle.std.proofs.lemmas.Bool.{cases_lt, cases_eq, eqb-true, eq-eqb}
+use Rattle.std.proofs.lemmas.Option.{slice_get_past}
+use Rattle.std.proofs.lemmas.List.{take-take, take-append-drop, drop-append-le, drop_all, length-replicate}
+use Rattle.std.proofs.lemmas.List.Sums.{fold-append}
+use Rattle.std.proofs.lemmas.List.Elements.{filter_map-append}
+use Rattle.std.proofs.lemmas.List.Folds.{list_any-append}
+use Rattle.std.proofs.lemmas.Map.Views.{any-filter_same}
+use Rattle.sector_model.specs.Disk.{Write as Replacement, after_write, fold_writes, fresh_disk}
+use Rattle.sector_model.specs.Sectors.{zero_sector}
+use Rattle.sector_model.specs.Areas.{touches, touched_blocks, block_count, in_blocks}
+use Rattle.sector_model.specs.declared.contents.Sector.{Sector}
+use Rattle.log_model.specs.declared.entries.Act.{Act}
+use Rattle.log_model.specs.declared.entries.Act.TheVariants.{Write, Snap, Remove, Reset, Enable, Off, On}
+use Rattle.log_model.specs.declared.entries.Entry.{Entry}
+use Rattle.log_model.specs.Entries.{writes_of, write_to, contents}
+use Rattle.log_model.specs.Legal.{Legal, ActMayStand, capacity_of}
+use Rattle.log_model.specs.Touched.{between}
+use Rattle.log_model.specs.Laws.{TouchedJoins, UntouchedStays}
+use Rattle.log_model.proofs.Last.{by_last}
+use Rattle.log_model.proofs.LegalLogs.{legal_last, legal_front, prefixes_are_legal}
+use Rattle.log_model.proofs.Replaced.{Fits, untouched, length-after_writes}
+
+pub writes-append : (d : ℕ) (xs ys : List Entry) → writes_of d (xs ++ ys) ≡ writes_of d xs ++ writes_of d ys
+writes-append d xs ys = let found : Entry → Option Replacement = λ e. write_to d e.act in filter_map-append found xs ys
+
+-- whether sector s is of a touched block: its block is one of the disk's, and a write touches it
+pub in_touched : (c s : ℕ) (ws : List Replacement) → in_blocks (touched_blocks c ws) s ≡ (list_any (touches (s / 128)) ws && list_any (nat_eq (s / 128)) (range_with_len 0 (block_count c)))
+in_touched c s ws =
+    any-filter_same (nat_eq (s / 128)) (λ b. list_any (touches b) ws) (list_any (touches (s / 128)) ws)
+    (λ b same. ap (λ x. list_any (touches x) ws) (sym (eqb-true (s / 128) b same))) (range_with_len 0 (block_count c))
+
+and_or : (a b r : Bool) → ((a || b) && r) ≡ ((a && r) || (b && r))
+and_or true true true = refl
+and_or true true false = refl
+and_or true false true = refl
+and_or true false false = refl
+and_or false b r = refl
+
+-- the entries between i and k are those up to j and those from j on
+pub between-joins : (i j k : ℕ) (log : List Entry) → i ≤ j → j ≤ k → between i k log ≡ between i j log ++ between j k log
+between-joins i j k log first second =
+    let all : take j log ++ drop j (take k log) ≡ take k log = ap (λ (xs : List Entry). xs ++ drop j (take k log)) (sym (take-take j k log second)) ∙ take-append-drop j (take k log) in
+    elim (cases_lt (length log) i) [
+      | inr long ↦
+          let le : i ≤ length (take j log) = omega (arith, length-take j log) in
+          ap (drop i) (sym all) ∙ drop-append-le i (take j log) (drop j (take k log)) le
+      | inl short ↦
+          let none_k : between i k log ≡ [] = drop_all i (take k log) (omega (arith, length-take k log)) in
+          let none_j : between i j log ≡ [] = drop_all i (take j log) (omega (arith, length-take j log)) in
+          let none_l : between j k log ≡ [] = drop_all j (take k log) (omega (arith, length-take k log)) in
+          none_k ∙ sym (ap (λ (xs : List Entry). xs ++ between j k log) none_j ∙ none_l)
+    ]
+
+pub touched_joins : TouchedJoins
+touched_joins c d i j k log sector first second =
+    let early : List Replacement = writes_of d (between i j log) in
+    let late : List Replacement = writes_of d (between j k log) in
+    let known : Bool = list_any (nat_eq (sector / 128)) (range_with_len 0 (block_count c)) in
+    let both : writes_of d (between i k log) ≡ early ++ late = ap (writes_of d) (between-joins i j k log first second) ∙ writes-append d (between i j log) (between j k log) in
+    in_touched c sector (writes_of d (between i k log)) ∙ ap (λ (ws : List Replacement). list_any (touches (sector / 128)) ws && known) both
+    ∙ ap (λ b. b && known) (list_any-append (touches (sector / 128)) early late)
+    ∙ and_or (list_any (touches (sector / 128)) early) (list_any (touches (sector / 128)) late) known
+    ∙ sym (ap (λ b. b || in_blocks (touched_blocks c late) sector) (in_touched c sector early) ∙ ap (λ b. (list_any (touches (sector / 128)) early && known) || b) (in_touched c sector late))
+
+-- ---- the writes of a legal log lie within their disks
+
+fits-push : (c : ℕ) (xs ys : List Replacement) → AllByRecursion (Fits c) xs → AllByRecursion (Fits c) ys → AllByRecursion (Fits c) (xs ++ ys)
+fits-push c [] ys h k = k
+fits-push c (x ∷ xs) ys h k = (h.0, fits-push c xs ys h.1 k)
+
+fits-back : (c : ℕ) (xs ys : List Replacement) → AllByRecursion (Fits c) (xs ++ ys) → AllByRecursion (Fits c) ys
+fits-back c [] ys h = h
+fits-back c (x ∷ xs) ys h = fits-back c xs ys h.1
+
+one_fits_at : (c disk d first : ℕ) (sectors : List Sector) (b : Bool) → eqb disk d ≡ b → (disk ≡ d → first + length sectors ≤ c)
+    → AllByRecursion (Fits c) (cons_option (cond b (Some (record { first = first; sectors = sectors })) None) [])
+one_fits_at c disk d first sectors true same h = (h (eqb-true disk d same), tt)
+one_fits_at c disk d first sectors false same h = tt
+
+one_fits : (capacities : List ℕ) (d : ℕ) (log : List Entry) (who : ℕ) (act : Act) → ActMayStand capacities log who act
+    → AllByRecursion (Fits (capacity_of capacities d)) (writes_of d (record { who = who; act = act } ∷ []))
+one_fits capacities d log who (Write disk first sectors) stands =
+    one_fits_at (capacity_of capacities d) disk d first sectors (eqb disk d) refl (λ same. subst (λ x. first + length sectors ≤ capacity_of capacities x) same stands.within)
+one_fits capacities d log who (Snap id owner) stands = tt
+one_fits capacities d log who (Remove id) stands = tt
+one_fits capacities d log who (Reset disk) stands = tt
+one_fits capacities d log who Enable stands = tt
+one_fits capacities d log who Off stands = tt
+one_fits capacities d log who On stands = tt
+
+pub writes_fit : (capacities : List ℕ) (d : ℕ) (log : List Entry) → Legal capacities log → AllByRecursion (Fits (capacity_of capacities d)) (writes_of d log)
+writes_fit capacities d =
+    by_last (λ log. Legal capacities log → AllByRecursion (Fits (capacity_of capacities d)) (writes_of d log)) (λ _. tt)
+    (λ log e rest legal. subst (AllByRecursion (Fits (capacity_of capacities d))) (sym (writes-append d log (e ∷ [])))
+    (fits-push (capacity_of capacities d) (writes_of d log) (writes_of d (e ∷ [])) (rest (legal_front capacities log (e ∷ []) legal)) (one_fits capacities d log e.who e.act (legal_last capacities log e legal))))
+
+pub length-contents : (capacities : List ℕ) (d : ℕ) (log : List Entry) → Legal capacities log → length (contents (capacity_of capacities d) d log) ≡ capacity_of capacities d
+length-contents capacities d log legal =
+    length-after_writes (capacity_of capacities d) (fresh_disk (capacity_of capacities d)) (writes_of d log) (length-replicate (capacity_of capacities d) zero_sector) (writes_fit capacities d log legal)
+
+-- ---- a sector of no touched block
+
+or_true : (a : Bool) → (a || true) ≡ true
+or_true true = refl
+or_true false = refl
+
+and_true : (a k : Bool) → k ≡ true → (a && k) ≡ false → a ≡ false
+and_true true k is h = sym is ∙ h
+and_true false k is h = refl
+
+pub any_below : (b a n : ℕ) → a ≤ b → b < a + n → list_any (nat_eq b) (range_with_len a n) ≡ true
+any_below b a zero from less = absurd (omega arith)
+any_below b a (suc n) from less =
+    elim (cases_eq b a) [
+      | inl same ↦ ap (λ x. x || list_any (nat_eq b) (range_with_len (a + 1) n)) (eq-eqb b a same)
+      | inr other ↦ ap (λ x. nat_eq b a || x) (any_below b (a + 1) n (omega arith) (omega arith)) ∙ or_true (nat_eq b a)
+    ]
+
+not_touched : (c s : ℕ) (ws : List Replacement) → s < c → in_blocks (touched_blocks c ws) s ≡ false → list_any (touches (s / 128)) ws ≡ false
+not_touched c s ws less none =
+    let inside : s / 128 < 0 + block_count c = omega arith in
+    and_true (list_any (touches (s / 128)) ws) (list_any (nat_eq (s / 128)) (range_with_len 0 (block_count c))) (any_below (s / 128) 0 (block_count c) (omega arith) inside) (sym (in_touched c s ws) ∙ none)
+
+pub untouched_stays : UntouchedStays
+untouched_stays capacities d i k log sector legal le none =
+    let c : ℕ = capacity_of capacities d in
+    let early : List Replacement = writes_of d (take i log) in
+    let mid : List Replacement = writes_of d (between i k log) in
+    let front : take i (take k log) ≡ take i log = take-take i k log le in
+    let all : writes_of d (take k log) ≡ early ++ mid =
+    ap (writes_of d) (sym (take-append-drop i (take k log)) ∙ ap (λ (xs : List Entry). xs ++ between i k log) front) ∙ writes-append d (take i log) (between i k log) in
+    let later : contents c d (take k log) ≡ fold after_write (contents c d (take i log)) mid = ap (fold_writes c) all ∙ fold-append after_write (fresh_disk c) early mid in
+    let legal_i : Legal capacities (take i log) = prefixes_are_legal capacities log i legal in
+    let legal_k : Legal capacities (take k log) = prefixes_are_legal capacities log k legal in
+    elim (cases_lt sector c) [
+      | inl inside ↦
+          ap (λ (disk : List Sector). slice_get disk sector) later
+          ∙ untouched c (contents c d (take i log)) mid sector (length-contents capacities d (take i log) legal_i)
+          (fits-back c early mid (subst (AllByRecursion (Fits c)) all (writes_fit capacities d (take k log) legal_k))) (not_touched c sector mid inside none)
+      | inr past ↦
+          slice_get_past (contents c d (take k log)) sector (omega (arith, past, length-contents capacities d (take k log) legal_k))
+          ∙ sym (slice_get_past (contents c d (take i log)) sector (omega (arith, past, length-contents capacities d (take i log) legal_i)))
+    ]

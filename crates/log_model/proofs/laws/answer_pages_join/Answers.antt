@@ -1,0 +1,8 @@
+use Rattle.log_model.proofs.AnswerPages.{answer_pages_join, all_pages_are_the_answer}
+use Rattle.log_model.proofs.laws.answer_pages_join.Goals as goal
+
+pub returns-clause-from_start : goal.returns-clause-from_start
+returns-clause-from_start c = answer_pages_join
+
+pub returns-clause-whole : goal.returns-clause-whole
+returns-clause-whole c = all_pages_are_the_answer

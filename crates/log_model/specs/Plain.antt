@@ -1,0 +1,45 @@
+-- Words of the plain machine's own steps: each says of a log what one pass over it finds.
+use Rattle.std.specs.Prelude.{◌≡◌, ℕ, ◌-◌, ◌/◌, List, [], ◌∷◌, ◌++◌, Bool, false, nat_le, Option, Some, None, unwrap_or, slice_get, Result, Ok, Err, if◌then◌else◌}
+use Rattle.std.specs.List.{fold, list_any, filter}
+use Rattle.std.specs.Option.{option_map_or}
+use Rattle.sector_model.specs.Disk.{Write as Replacement}
+use Rattle.sector_model.specs.Areas.{touches}
+use Rattle.sector_model.specs.Sectors.{zero_sector}
+use Rattle.sector_model.specs.declared.contents.Sector.{Sector}
+use Rattle.log_model.specs.declared.entries.Entry.{Entry}
+use Rattle.log_model.specs.Entries.{write_to}
+use Rattle.log_model.specs.Link.{LinkState, is_by}
+
+-- sector `at` after a write, if it is one to the disk
+abbrev pub sector_of_write : ℕ → Sector → Option Replacement → Sector
+sector_of_write at sector None = sector
+sector_of_write at sector (Some w) = if nat_le w.first at then unwrap_or (slice_get w.sectors (at - w.first)) sector else sector
+
+abbrev pub sector_after : ℕ → ℕ → Sector → Entry → Sector
+sector_after d at sector e = sector_of_write at sector (write_to d e.act)
+
+-- what the log leaves of sector `at` of disk d
+abbrev pub sector_at : ℕ → ℕ → List Entry → Sector
+sector_at d at log = fold (sector_after d at) zero_sector log
+
+-- the entry touches the block of a sector of disk d
+abbrev pub entry_touches : ℕ → ℕ → Entry → Bool
+entry_touches d sector e = option_map_or (touches (sector / 128)) (write_to d e.act) false
+
+-- an entry of the log does
+abbrev pub is_touched : ℕ → ℕ → List Entry → Bool
+is_touched d sector log = list_any (entry_touches d sector) log
+
+-- the entry stands behind the others where the call is accepted; else all is as it was
+abbrev pub Appends : {T E : Type 0} → Result T E → Entry → List Entry → List Entry → Type 0
+Appends (Ok answer) e old new = new ≡ old ++ e ∷ []
+Appends (Err refusal) e old new = new ≡ old
+
+-- a machine that one caller alone reaches: all entries under the caller's number are the caller's own
+abbrev pub plain_state : ℕ → List ℕ → ℕ → List Entry → LinkState
+plain_state machine capacities caller entries =
+    record { machine = machine; capacities = capacities; caller = caller; turn = None; seen = entries; own = filter (is_by caller) entries }
+
+-- the machine with one entry more, which is the caller's own where it is under the caller's number
+abbrev pub with_entry : LinkState → Entry → LinkState
+with_entry before e = record before { seen = before.seen ++ e ∷ []; own = before.own ++ filter (is_by before.caller) (e ∷ []) }

@@ -1,0 +1,232 @@
+ghost use Rattle.std.specs.Prelude.{◌≡◌, ◌∷◌, [], Some, None};
+ghost use Rattle.sector_model.specs.Sectors.{filled, zero_sector};
+ghost use Rattle.log_model.specs.declared.entries.Owner.{Owner};
+ghost use Rattle.log_model.specs.declared.entries.Act.{Act};
+ghost use Rattle.log_model.specs.Entries.{contents};
+ghost use Rattle.log_model.specs.Legal.{machine_on, owner_of};
+ghost use Rattle.log_model.specs.Marks.{mark, epoch, number, tracking, in_force, id_at};
+ghost use Rattle.log_model.specs.Frozen.{frozen, off_place};
+ghost use Rattle.log_model.specs.Touched.{touched};
+ghost use Rattle.log_model.specs.Answers.{numbered_place};
+ghost use Rattle.log_model.specs.SmallLog.{small_log};
+ghost use Rattle.log_model.specs.declared.folds.Tracking.{Tracking};
+
+use crate::{
+    Act, EntryList, Link, LinkRefused, MOST_ENTRIES, Owner, PlainMachine, WriteRefused,
+    accepted_may_stand, answer_pages_join, later_entries_keep, legal_logs, numbers_have_no_gap,
+    off_is_frozen, touched_blocks_join,
+};
+use change_id::{ChangeId, Since, pack};
+use sector_model::{Page, Run, Sector};
+use std::alloc::Global;
+use std::process::Abort;
+use std::test::Fail;
+
+const OPERATOR: Owner = Owner::Operator;
+
+/// The definitions on a small log. The proof computes them.
+fn definitions_on_small_logs()
+    ensures now { contents 2 0 small_log ≡ filled 2 ∷ filled 1 ∷ [] }
+    ensures at_first { frozen 2 0 1 small_log ≡ filled 1 ∷ filled 1 ∷ [] }
+    ensures mark { mark 2 small_log ≡ 5 }
+    ensures touched { touched 300 0 3 5 small_log ≡ 0 ∷ [] }
+    ensures off { off_place 2 small_log ≡ Some 4 }
+    ensures on_before { off_place 1 small_log ≡ None }
+    ensures second { number 0 small_log ≡ 0 }
+    ensures resets { epoch 0 small_log ≡ 1 }
+    ensures first_id { id_at 1 0 1 small_log ≡ Some (record { uuid = 79228162514264337593543950336; seq = 1 }) }
+    ensures none_in_force { in_force 1 0 small_log ≡ None }
+    ensures owner { owner_of 2 small_log ≡ Some (Owner.Migration 7) }
+    ensures removed { owner_of 1 small_log ≡ None }
+{}
+
+fn run(first: u64, count: u64) -> Run {
+    Run { first, count }
+}
+
+/// The identifier of disk 0 of machine 1.
+fn id(resets: u64, seq: u64) -> ChangeId {
+    ChangeId {
+        uuid: pack(1, 0, resets),
+        seq,
+    }
+}
+
+/// A machine with the number 1 and one disk, for a caller of this number.
+fn machine(alloc: Global, capacity: u64, caller: u32) -> Result<PlainMachine, Fail> {
+    Ok(PlainMachine::new(alloc, 1, &[capacity], caller)?)
+}
+
+/// Writes one sector of disk 0.
+fn write(alloc: Global, on: &mut PlainMachine, first: u64, byte: u8) -> Result<(), Fail> {
+    Ok(on.write(alloc, 3, 0, first, &[Sector::filled(byte)])?)
+}
+
+#[test]
+fn the_last_block_is_clipped_and_no_tracking_has_no_identifier(
+    rt: HostRuntime,
+) -> Result<(), Fail> {
+    let alloc = rt.alloc();
+    let mut link = machine(alloc, 200, 1)?;
+    let mut page = Page::new(alloc)?;
+    write(alloc, &mut link, 199, 1)?;
+    let snapped = link.snap(alloc, OPERATOR, false)?;
+    assert_eq!(rt; (snapped.id, snapped.mark, snapped.off_place), (1, 1, None));
+    assert_eq!(rt; link.change_id(1, 0)?, None);
+    link.query(1, 0, Since::All, 0, &mut page)?;
+    assert_eq!(rt; page.areas(), [run(128, 72)].as_slice());
+    assert_eq!(rt; (page.start(), page.length()), (0, 200));
+    Ok(())
+}
+
+#[test]
+fn a_query_tells_what_changed_between_two_snapshots(rt: HostRuntime) -> Result<(), Fail> {
+    let alloc = rt.alloc();
+    let mut link = machine(alloc, 256, 1)?;
+    let mut page = Page::new(alloc)?;
+    link.enable(alloc)?;
+    assert_eq!(rt; link.facts().tracking, false);
+    link.snap(alloc, OPERATOR, false)?;
+    assert_eq!(rt; link.change_id(1, 0)?, Some(id(0, 1)));
+    assert_eq!(rt; link.facts().tracking, true);
+    write(alloc, &mut link, 127, 1)?;
+    write(alloc, &mut link, 128, 1)?;
+    link.snap(alloc, OPERATOR, false)?;
+    link.query(2, 0, Since::From(id(0, 1)), 0, &mut page)?;
+    assert_eq!(rt; page.areas(), [run(0, 256)].as_slice());
+    assert_eq!(rt;
+        (link.change_id(2, 0)?, page.length()),
+        (Some(id(0, 2)), 256)
+    );
+
+    // Since its own identifier nothing changed, and a start at the capacity is out of range.
+    link.query(2, 0, Since::From(id(0, 2)), 0, &mut page)?;
+    assert_eq!(rt; (page.areas().len(), page.length()), (0, 256));
+    let past = link.query(2, 0, Since::From(id(0, 2)), 256, &mut page);
+    assert_eq!(rt; past, Err(LinkRefused::Range));
+
+    // A number that no snapshot has yet is strange, and the identifier in force is told.
+    link.snap(alloc, OPERATOR, false)?;
+    let later = link.query(3, 0, Since::From(id(0, 7)), 0, &mut page);
+    assert_eq!(rt; later, Err(LinkRefused::Strange(Some(id(0, 3)))));
+
+    // A reset makes all identifiers strange, and those of old snapshots stay what they were.
+    link.reset(alloc, 0)?;
+    let old = link.query(2, 0, Since::From(id(0, 1)), 0, &mut page);
+    assert_eq!(rt; old, Err(LinkRefused::Strange(None)));
+    link.query(2, 0, Since::All, 0, &mut page)?;
+    assert_eq!(rt; page.areas(), [run(0, 256)].as_slice());
+    assert_eq!(rt; link.change_id(2, 0)?, Some(id(0, 2)));
+    let next = link.snap(alloc, OPERATOR, false)?;
+    assert_eq!(rt; link.change_id(next.id, 0)?, Some(id(1, 1)));
+    Ok(())
+}
+
+#[test]
+fn a_snapshot_keeps_what_it_froze_until_it_is_removed(rt: HostRuntime) -> Result<(), Fail> {
+    let alloc = rt.alloc();
+    let mut link = machine(alloc, 256, 1)?;
+    let mut read = [Sector::filled(9); 2];
+    write(alloc, &mut link, 5, 1)?;
+    link.snap(alloc, OPERATOR, false)?;
+    write(alloc, &mut link, 5, 2)?;
+    link.read_snap(1, 0, 4, &mut read)?;
+    assert_eq!(rt; read, [Sector::filled(0), Sector::filled(1)]);
+    link.remove(alloc, OPERATOR, 1)?;
+    assert_eq!(rt;
+        link.remove(alloc, OPERATOR, 1),
+        Err(LinkRefused::UnknownSnap)
+    );
+    link.snap(alloc, OPERATOR, false)?;
+    link.read_snap(2, 0, 5, &mut read)?;
+    assert_eq!(rt; read, [Sector::filled(2), Sector::filled(0)]);
+    assert_eq!(rt; link.owned_from(OPERATOR, 0), Some(2));
+    assert_eq!(rt; link.owned_from(OPERATOR, 3), None);
+    Ok(())
+}
+
+#[test]
+fn each_refusal_comes_with_its_cause(rt: HostRuntime) -> Result<(), Fail> {
+    let alloc = rt.alloc();
+    let mut link = machine(alloc, 256, 1)?;
+    let owner = Owner::Migration(7);
+    assert_eq!(rt; link.snap(alloc, owner, true), Err(LinkRefused::Running));
+    assert_eq!(rt; link.power_on(alloc), Err(LinkRefused::AlreadyOn));
+    assert_eq!(rt; link.power_off(alloc)?, 0);
+    assert_eq!(rt; link.power_off(alloc), Err(LinkRefused::AlreadyOff));
+    let write_off = link.write(alloc, 3, 0, 0, &[Sector::filled(1)]);
+    assert_eq!(rt; write_off, Err(WriteRefused::Off));
+    let last = link.snap(alloc, owner, true)?;
+    assert_eq!(rt; last.off_place, Some(0));
+    assert_eq!(rt;
+        link.remove(alloc, OPERATOR, last.id),
+        Err(LinkRefused::Owned)
+    );
+    assert_eq!(rt; link.reset(alloc, 1), Err(LinkRefused::Range));
+    link.enable(alloc)?;
+    assert_eq!(rt; link.enable(alloc), Err(LinkRefused::AlreadyEnabled));
+    assert_eq!(rt; LinkRefused::AlreadyEnabled.number(), Some(9));
+    assert_eq!(rt; power_cycle(alloc, &mut link), Err(LinkRefused::AlreadyOff));
+    assert_eq!(rt; link.power_on(alloc)?, 3);
+    assert_eq!(rt; link.facts().on, true);
+    Ok(())
+}
+
+/// Off and on again, through the trait alone.
+fn power_cycle<L: Link>(alloc: Global, link: &mut L) -> Result<u64, LinkRefused> {
+    link.power_off(alloc)?;
+    link.power_on(alloc)
+}
+
+#[test]
+fn a_migration_s_snapshot_is_removed_under_the_number_1_alone(rt: HostRuntime) -> Result<(), Fail> {
+    let alloc = rt.alloc();
+    let mut link = machine(alloc, 256, 2)?;
+    let owner = Owner::Migration(7);
+    let snapped = link.snap(alloc, owner, false)?;
+    assert_eq!(rt;
+        link.remove(alloc, owner, snapped.id),
+        Err(LinkRefused::Owned)
+    );
+    Ok(())
+}
+
+#[test]
+fn a_full_log_is_spent(rt: HostRuntime) -> Result<(), Fail> {
+    let alloc = rt.alloc();
+    let mut link = machine(alloc, 256, 1)?;
+    for _ in 0..MOST_ENTRIES {
+        link.reset(alloc, 0)?;
+    }
+    assert_eq!(rt; link.snap(alloc, OPERATOR, false), Err(LinkRefused::Spent));
+    assert_eq!(rt;
+        link.write(alloc, 3, 0, 0, &[Sector::filled(1)]),
+        Err(WriteRefused::LogFull)
+    );
+    assert_eq!(rt; link.log().len(), MOST_ENTRIES);
+    Ok(())
+}
+
+#[test]
+fn a_list_of_entries_is_copied(rt: HostRuntime) -> Result<(), Fail> {
+    let alloc = rt.alloc();
+    let mut link = machine(alloc, 256, 1)?;
+    write(alloc, &mut link, 5, 1)?;
+    link.enable(alloc)?;
+    let list = EntryList::of(alloc, link.log())?;
+    assert_eq!(rt; list.as_slice().len(), 2);
+    assert!(rt; matches!(list.as_slice()[1].act, Act::Enable));
+    Ok(())
+}
+
+#[test]
+fn the_laws_hold() {
+    legal_logs();
+    accepted_may_stand();
+    off_is_frozen();
+    numbers_have_no_gap();
+    later_entries_keep();
+    definitions_on_small_logs();
+    touched_blocks_join();
+    answer_pages_join();
+}
