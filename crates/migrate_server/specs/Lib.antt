@@ -1,0 +1,12 @@
+pub mod Commands
+pub mod Lines
+pub mod Replies
+pub mod Moves
+pub mod Copies
+pub mod Source
+pub mod Reading
+pub mod States
+pub mod Fills
+pub mod Session
+pub mod Answers
+pub mod Ends

@@ -1,0 +1,213 @@
+use crate::{Devices, Fleet, Gate, Outcome, Status, migrate};
+use edge_traits::{MemDisk, MemSink, MemSource};
+use sector_model::{NoMemory, Sector};
+use std::alloc::Global;
+use std::test::Fail;
+use target_volume::{MemVolumes, Name, Volume, VolumeName, VolumeStore};
+
+const MOVE: &str = "{\"cmd\":\"move\",\"name\":\"t\",\"sectors\":256,\"writes\":[[5,1,171]]}\n";
+
+const MOVED: &str = "{\"ok\":true,\"state\":\"complete\",\"writes\":1,\"written\":256}\n";
+
+const NOT_BUILT: &str = "{\"error\":\"command\",\"ok\":false}\n";
+
+const FAILED: &str = "{\"error\":\"volume\",\"ok\":false}\n";
+
+struct Open;
+
+impl Gate for Open {}
+
+/// What the source, the sink and the store are to do.
+#[derive(Drop)]
+struct Setting<'a> {
+    piece: usize,
+    failing_reads: &'a [u64],
+    failing_puts: &'a [u64],
+    failing_calls: &'a [u64],
+}
+
+const SOUND: Setting<'static> = Setting {
+    piece: 1 << 16,
+    failing_reads: &[],
+    failing_puts: &[],
+    failing_calls: &[],
+};
+
+/// How a run ended, what was written, and the store.
+#[derive(Drop)]
+struct EndedRun {
+    status: Status,
+    sink: MemSink,
+    volumes: MemVolumes,
+}
+
+fn served_in(
+    rt: &HostRuntime,
+    setting: &Setting,
+    words: &[String],
+    lines: &[u8],
+) -> Result<EndedRun, Fail> {
+    let alloc = rt.alloc();
+    let piece = setting.piece.max(1);
+    let mut source = MemSource::new(alloc, lines, piece, setting.failing_reads)?;
+    let mut sink = MemSink::new(alloc, 1 << 12, setting.failing_puts)?;
+    let devices = Devices {
+        disk: MemDisk::new(alloc, &[], 0, &[])?,
+        volumes: MemVolumes::new(alloc, 90, setting.failing_calls)?,
+    };
+    let fleet = Fleet::empty();
+    let outcome = migrate(
+        rt,
+        alloc,
+        words,
+        &mut source,
+        &mut sink,
+        devices,
+        fleet,
+        &Open,
+    );
+    let Outcome {
+        status,
+        volumes,
+        ..
+    } = outcome;
+    Ok(EndedRun {
+        status,
+        sink,
+        volumes,
+    })
+}
+
+fn served(rt: &HostRuntime, lines: &str) -> Result<EndedRun, Fail> {
+    served_in(rt, &SOUND, &[], lines.as_bytes())
+}
+
+fn held(run: &EndedRun) -> &[u8] {
+    run.sink.held()
+}
+
+/// The sectors of the volume `t`, from the first on.
+fn read_back(alloc: Global, mut store: MemVolumes) -> Result<[Sector; 256], Fail> {
+    let name = VolumeName::Given(Name::of(alloc, "t")?);
+    let mut volume = store.open(&name, 256)?;
+    let mut sectors = [Sector::filled(1); 256];
+    volume.read(0, &mut sectors)?;
+    store.keep_back(volume);
+    Ok(sectors)
+}
+
+#[test]
+fn a_move_fills_its_volume(rt: HostRuntime) -> Result<(), Fail> {
+    let run = served(&rt, MOVE)?;
+    assert_eq!(rt; held(&run), MOVED.as_bytes());
+    assert_eq!(rt; run.status, Status::Ok);
+    let mut expected = [Sector::filled(0); 256];
+    expected[5] = Sector::filled(171);
+    assert!(rt; read_back(rt.alloc(), run.volumes)? == expected);
+    Ok(())
+}
+
+#[test]
+fn a_move_without_writes_gives_zeros_and_takes_its_name(rt: HostRuntime) -> Result<(), Fail> {
+    let lines = "{\"cmd\":\"move\",\"name\":\"t\",\"sectors\":256,\"writes\":[]}\n\
+                 {\"cmd\":\"move\",\"name\":\"t\",\"sectors\":256,\"writes\":[]}\n";
+    let run = served(&rt, lines)?;
+    let whole =
+        "{\"ok\":true,\"state\":\"complete\",\"writes\":0,\"written\":256}\n{\"error\":\"name-taken\",\"ok\":false}\n";
+    assert_eq!(rt; held(&run), whole.as_bytes());
+    assert!(rt; read_back(rt.alloc(), run.volumes)? == [Sector::filled(0); 256]);
+    Ok(())
+}
+
+#[test]
+fn a_line_has_one_reply_and_a_blank_one_none(rt: HostRuntime) -> Result<(), Fail> {
+    let run = served(&rt, "\n \t\r\nmove\n{\"cmd\":\"move\"}\n{\"cmd\":\"stop\"}")?;
+    let whole =
+        "{\"error\":\"command\",\"ok\":false}\n{\"error\":\"command\",\"ok\":false}\n{\"error\":\"command\",\"ok\":false}\n";
+    assert_eq!(rt; held(&run), whole.as_bytes());
+    assert_eq!(rt; run.status, Status::Ok);
+    Ok(())
+}
+
+#[test]
+fn a_failing_store_is_told_and_the_next_line_answered(rt: HostRuntime) -> Result<(), Fail> {
+    let setting = Setting {
+        failing_calls: &[1],
+        ..SOUND
+    };
+    let run = served_in(&rt, &setting, &[], MOVE.as_bytes())?;
+    assert_eq!(rt; held(&run), FAILED.as_bytes());
+    assert_eq!(rt; run.status, Status::Ok);
+    assert_eq!(rt; run.volumes.faults(), 1);
+    Ok(())
+}
+
+#[test]
+fn an_input_in_pieces_is_the_same_input(rt: HostRuntime) -> Result<(), Fail> {
+    let setting = Setting { piece: 5, ..SOUND };
+    let run = served_in(&rt, &setting, &[], MOVE.trim_end().as_bytes())?;
+    assert_eq!(rt; held(&run), MOVED.as_bytes());
+    assert_eq!(rt; run.status, Status::Ok);
+    Ok(())
+}
+
+#[test]
+fn a_line_that_a_fault_cuts_has_no_reply(rt: HostRuntime) -> Result<(), Fail> {
+    let setting = Setting {
+        piece: 5,
+        failing_reads: &[3],
+        ..SOUND
+    };
+    let run = served_in(&rt, &setting, &[], MOVE.as_bytes())?;
+    assert_eq!(rt; held(&run), b"".as_slice());
+    assert_eq!(rt; run.status, Status::ReadFault);
+    assert_eq!(rt; run.status.code(), 2);
+    Ok(())
+}
+
+#[test]
+fn a_failing_put_ends_the_run(rt: HostRuntime) -> Result<(), Fail> {
+    let setting = Setting {
+        failing_puts: &[2],
+        ..SOUND
+    };
+    let run = served_in(&rt, &setting, &[], b"a\nb\nc\n")?;
+    assert_eq!(rt;
+        held(&run),
+        b"{\"error\":\"command\",\"ok\":false}\n{\"error\":\"comma".as_slice()
+    );
+    assert_eq!(rt; run.status, Status::WriteFault);
+    assert_eq!(rt; run.status.code(), 4);
+    Ok(())
+}
+
+#[test]
+fn a_word_is_refused_before_any_line_is_read(rt: HostRuntime) -> Result<(), Fail> {
+    let words = vec![in rt.alloc(); String::from_str(rt.alloc(), "--help")?]?;
+    let run = served_in(&rt, &SOUND, &words, MOVE.as_bytes())?;
+    assert_eq!(rt;
+        held(&run),
+        b"usage: warm_migrate [--limit N] [--rig N]\n".as_slice()
+    );
+    assert_eq!(rt; run.status, Status::Usage);
+    assert_eq!(rt; run.status.code(), 1);
+    Ok(())
+}
+
+/// A move, with spaces behind it up to a length.
+fn padded(alloc: Global, length: usize) -> Result<Vec<u8>, NoMemory> {
+    let mut line = MOVE.trim_end().as_bytes().to_vec(alloc)?;
+    line.resize(length, b' ')?;
+    Ok(line)
+}
+
+#[test]
+fn a_line_may_have_two_to_the_twentieth_bytes(rt: HostRuntime) -> Result<(), Fail> {
+    let longest = padded(rt.alloc(), 1 << 20)?;
+    let run = served_in(&rt, &SOUND, &[], &longest)?;
+    assert_eq!(rt; held(&run), MOVED.as_bytes());
+    let too_long = padded(rt.alloc(), (1 << 20) + 1)?;
+    let run = served_in(&rt, &SOUND, &[], &too_long)?;
+    assert_eq!(rt; held(&run), NOT_BUILT.as_bytes());
+    Ok(())
+}
