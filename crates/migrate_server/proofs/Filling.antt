@@ -25,10 +25,11 @@ pub free : (name : VolumeName) (old : Option Shelf) → IfSome old (λ has. IsSo
 free name None h = tt
 free name (Some has) h = none_from (has name) h
 
-pub kept_free : (name : VolumeName) (old new : Option Shelf) → IfSome old (λ has. IsSome (has name) → ⊥)
-    → IfSome old (λ has. IsSome (has name) → IsSomeAnd new (λ after. after name ≡ has name))
-kept_free name None new h = tt
-kept_free name (Some has) new h = λ is. absurd (h is)
+pub kept_free : (name : VolumeName) (old new : Option Shelf) → IfSome old (λ has. IsSome (has name) → ⊥) → OthersStay name old new
+    → IfSome old (λ has. IsSomeAnd new (λ after. (any : VolumeName) → IsSome (has any) → after any ≡ has any))
+kept_free name None new h others = tt
+kept_free name (Some has) None h others = others
+kept_free name (Some has) (Some after) h others = λ any is. others any (λ same. h (subst (λ (n : VolumeName). IsSome (has n)) same is))
 
 abbrev HasCopy : List Sector → ℕ → Kept → Type 0
 HasCopy source c kept = (kept.capacity ≡ c) × IsSomeAnd kept.image (λ i. (i.sectors ≡ source) × IsFlushed i)

@@ -5,4 +5,5 @@ pub mod Lists
 pub mod Sources
 pub mod PartLines
 pub mod Filling
+pub mod Complete
 pub mod Serving

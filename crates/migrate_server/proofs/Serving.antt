@@ -25,6 +25,7 @@ use Rattle.migrate_server.specs.Reading.{ReaderState, Holds, HasNoLf, IsIdle, Ta
 use Rattle.migrate_server.specs.States.{Stored, Stays}
 use Rattle.migrate_server.specs.Session.{Session, Step, Serves}
 use Rattle.migrate_server.specs.Answers.{Answers, Told, Cut, CutFor, bytes_of_reply}
+use Rattle.migrate_server.proofs.Complete.{session_complete}
 use Rattle.migrate_server.proofs.PartLines.{consumes_none, consumes_more}
 
 -- ---- one line
@@ -313,6 +314,7 @@ serves_so_far left a held held_now old now new reader whole p stays unmet =
       state = now;
       session = p.session;
       stays = stays;
+      complete = session_complete old now new (asked_of p.lines) p.replies p.session stays;
       written = text_of p.replies;
       unwritten = [];
       appended = p.written;
@@ -334,6 +336,7 @@ cut_by left a b held held_now held_after old now new reader reader_after buffer 
     let asked = p.lines ++ t.text ∷ [] in
     let s = splits left b reader_after asked (heard_line left a b reader reader_after buffer p.lines p.heard t) in
     let same = asked_more p.lines (t.text ∷ []) ∙ ap (λ l. asked_of p.lines ++ l) (one_asked t.text (cut.1).0) in
+    let session = subst (λ (l : List (List ℕ)). Session old l (p.replies ++ reply ∷ []) new) (sym same) (session_more old now new (asked_of p.lines) p.replies t.text reply p.session (cut.1).1) in
     record {
       input = s.input;
       is_input = s.is_input;
@@ -342,8 +345,9 @@ cut_by left a b held held_now held_after old now new reader reader_after buffer 
       requests = ap asked_of s.whole ∙ asked_more asked s.more;
       replies = p.replies ++ reply ∷ [];
       state = new;
-      session = subst (λ (l : List (List ℕ)). Session old l (p.replies ++ reply ∷ []) new) (sym same) (session_more old now new (asked_of p.lines) p.replies t.text reply p.session (cut.1).1);
+      session = session;
       stays = stays_same new;
+      complete = session_complete old new new (asked_of asked) (p.replies ++ reply ∷ []) session (stays_same new);
       written = text_of p.replies ++ take n line;
       unwritten = drop n line;
       appended = Appends-trans held held_now held_after (text_of p.replies) (take n line) p.written ((cut.2).2);
@@ -371,6 +375,7 @@ serves_end left a b held held_now old now reader reader_after whole p t =
       state = now;
       session = p.session;
       stays = stays_same now;
+      complete = session_complete old now now (asked_of p.lines) p.replies p.session (stays_same now);
       written = text_of p.replies;
       unwritten = [];
       appended = p.written;

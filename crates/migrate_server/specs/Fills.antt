@@ -23,11 +23,12 @@ pub record Found (name : VolumeName) (old new : Stored) : Type 0 where
   pub taken : IfSome old.volumes (λ has. IsSome (has name))
   pub stays : Stays old new
 
--- the store or the volume failed. A volume that was there is as it was, and else there may be one with any contents
+-- the store or the volume failed. Each volume that was there is as it was, and where none was of that name there may be one
+-- with any contents
 pub record Failing (name : VolumeName) (old new : Stored) : Type 0 where
   pub rose : Rose old.faults new.faults
   pub others : OthersStay name old.volumes new.volumes
-  pub kept : IfSome old.volumes (λ has. IsSome (has name) → IsSomeAnd new.volumes (λ after. after name ≡ has name))
+  pub kept : IfSome old.volumes (λ has. IsSomeAnd new.volumes (λ after. (any : VolumeName) → IsSome (has any) → after any ≡ has any))
   pub loans : OtherLoansStay name old.loans new.loans
   pub home : (new.loans name ≡ None) ⊎ (new.loans name ≡ old.loans name)
 

@@ -1,11 +1,12 @@
 -- What the server answers to the lines of an input, and what it leaves of the store.
-use Rattle.std.specs.Prelude.{◌≡◌, ℕ, List, [], ◌∷◌, ◌++◌, length, Option, IfSome}
+use Rattle.std.specs.Prelude.{◌≡◌, ℕ, List, [], ◌∷◌, ◌++◌, length, Option, IfSome, IsSome, IsSomeAnd}
 use Rattle.std.specs.List.{flat_map}
 use Rattle.std.specs.Io.KnownBytes.{Appends}
+use Rattle.target_volume.specs.Images.{IsFlushed}
 use Rattle.target_volume.specs.declared.names.VolumeName.TheVariants.{Given}
 use Rattle.migrate_server.specs.States.{Stored, Stays}
 use Rattle.migrate_server.specs.Fills.{Filled, Found, Failing}
-use Rattle.migrate_server.specs.Lines.{Means, requests_of}
+use Rattle.migrate_server.specs.Lines.{Means, Spells, requests_of}
 use Rattle.migrate_server.specs.Moves.{source_of}
 use Rattle.migrate_server.specs.Replies.{reply_line}
 use Rattle.migrate_server.specs.declared.command.MoveWrite.{MoveWrite}
@@ -44,6 +45,20 @@ Session old (line ∷ lines) (reply ∷ replies) new = (mid : Stored) × Step li
 Session old [] (reply ∷ replies) new = ⊥
 Session old (line ∷ lines) [] new = ⊥
 
+-- the volume of a move that is complete: it holds what the writes leave of a disk of zeros, and nothing of it is loose
+abbrev pub HoldsFold : Command → Stored → Type 0
+HoldsFold (Move name sectors writes) now = IsSomeAnd now.volumes (λ has. IsSomeAnd (has (Given name)) (λ kept.
+    (kept.capacity ≡ sectors) × IsSomeAnd kept.image (λ i. (i.sectors ≡ source_of sectors writes) × IsFlushed i)))
+
+abbrev pub IsComplete : List ℕ → Reply → Stored → Type 0
+IsComplete line (Moved n written) now = (command : Command) × Spells line command × HoldsFold command now
+IsComplete line (Refused why) now = Unit {0}
+
+-- each of these lines whose reply is complete has its volume
+abbrev pub AllComplete : List (List ℕ) → List Reply → Stored → Type 0
+AllComplete (line ∷ lines) (reply ∷ replies) now = IsComplete line reply now × AllComplete lines replies now
+AllComplete lines replies now = Unit {0}
+
 -- An input was served as far as `asked`: its first lines that aren't blank have their replies, what was written is a front
 -- of these replies, and the store is as the session left it. With `whole`, no line is left and all was written.
 pub record Serves (left held held_after : Option (List ℕ)) (old new : Stored) (whole : Type 0) : Type 0 where
@@ -56,6 +71,8 @@ pub record Serves (left held held_after : Option (List ℕ)) (old new : Stored) 
   pub state : Stored
   pub session : Session old asked replies state
   pub stays : Stays state new
+  -- where the store told what it has
+  pub complete : IsSome old.volumes → AllComplete asked replies new
   pub written : List ℕ
   pub unwritten : List ℕ
   pub appended : Appends held held_after written

@@ -211,3 +211,77 @@ fn a_line_may_have_two_to_the_twentieth_bytes(rt: HostRuntime) -> Result<(), Fai
     assert_eq!(rt; held(&run), NOT_BUILT.as_bytes());
     Ok(())
 }
+
+/// Each range of sectors of a disk that has three, and one that is none.
+const RANGES: [(u64, u64); 7] = [(0, 1), (0, 2), (0, 3), (1, 1), (1, 2), (2, 1), (0, 0)];
+
+/// The ranges that are some, filled with 1, 2 and so on.
+fn writes_over(alloc: Global, ranges: &[(u64, u64)]) -> Result<Vec<(u64, u64, u8)>, NoMemory> {
+    let mut writes = Vec::new(alloc);
+    let mut fill = 0u8;
+    for (first, count) in ranges {
+        if *count > 0 {
+            fill = fill.saturating_add(1);
+            writes.push((*first, *count, fill))?;
+        }
+    }
+    Ok(writes)
+}
+
+/// The line of a move of three sectors.
+fn line_of(alloc: Global, writes: &[(u64, u64, u8)]) -> Result<String, Fail> {
+    let mut line = String::from_str(
+        alloc,
+        "{\"cmd\":\"move\",\"name\":\"t\",\"sectors\":3,\"writes\":[",
+    )?;
+    let mut comma = "";
+    for (first, count, fill) in writes {
+        let write = format!(in alloc; "{comma}[{first},{count},{fill}]")?;
+        line.push_str(write.as_str())?;
+        comma = ",";
+    }
+    line.push_str("]}\n")?;
+    Ok(line)
+}
+
+/// What the writes leave of a sector: the byte of the last one that has it.
+fn byte_at(writes: &[(u64, u64, u8)], sector: u64) -> u8 {
+    let mut byte = 0;
+    for (first, count, fill) in writes {
+        if *first <= sector && sector < first.saturating_add(*count) {
+            byte = *fill;
+        }
+    }
+    byte
+}
+
+fn moved(rt: &HostRuntime, writes: &[(u64, u64, u8)]) -> Result<[Sector; 3], Fail> {
+    let alloc = rt.alloc();
+    let line = line_of(alloc, writes)?;
+    let run = served(rt, line.as_str())?;
+    let mut store = run.volumes;
+    let name = VolumeName::Given(Name::of(alloc, "t")?);
+    let mut volume = store.open(&name, 3)?;
+    let mut sectors = [Sector::filled(1); 3];
+    volume.read(0, &mut sectors)?;
+    store.keep_back(volume);
+    Ok(sectors)
+}
+
+#[test]
+fn every_few_writes_of_a_small_disk_are_moved(rt: HostRuntime) -> Result<(), Fail> {
+    for a in RANGES {
+        for b in RANGES {
+            for c in RANGES {
+                let writes = writes_over(rt.alloc(), &[a, b, c])?;
+                let expected = [
+                    Sector::filled(byte_at(&writes, 0)),
+                    Sector::filled(byte_at(&writes, 1)),
+                    Sector::filled(byte_at(&writes, 2)),
+                ];
+                assert!(rt; moved(&rt, &writes)? == expected);
+            }
+        }
+    }
+    Ok(())
+}

@@ -18,7 +18,8 @@ returns-in_err-copied g c =
     record {
       rose = rose_home (store.faults c.args.store.now) (store.faults c.create.new.self) (store.faults c.keep_back.new.self) (g.T.Vol.Volume.faults c.in_ok-volume.volume) (g.T.Vol.Volume.faults c.copy_full-copied.new.volume) (store.loans c.create.new.self) name c.args.sectors c.in_ok-volume.ensures.lent.2 c.in_ok-volume.ensures.later (λ l is. c.keep_back.ensures.rose name l named is) c.in_err-copied.ensures.cause.failed;
       others = others_twice name (store.volumes c.args.store.now) (store.volumes c.create.new.self) (store.volumes c.keep_back.new.self) c.in_ok-volume.ensures.others (c.keep_back.ensures.others name named);
-      kept = kept_free name (store.volumes c.args.store.now) (store.volumes c.keep_back.new.self) untaken;
+      kept = kept_free name (store.volumes c.args.store.now) (store.volumes c.keep_back.new.self) untaken
+          (others_twice name (store.volumes c.args.store.now) (store.volumes c.create.new.self) (store.volumes c.keep_back.new.self) c.in_ok-volume.ensures.others (c.keep_back.ensures.others name named));
       loans = loans_twice name (store.loans c.args.store.now) (store.loans c.create.new.self) (store.loans c.keep_back.new.self) c.in_ok-volume.ensures.other_loans home.1;
       home = inl home.0;
     } in
