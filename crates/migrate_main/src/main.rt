@@ -10,6 +10,7 @@ use crate::input::StandardInput;
 use crate::output::StandardOutput;
 use edge_traits::MemDisk;
 use migrate_server::{Devices, Fleet, Gate, Status, migrate};
+use std::io::ErrorKind;
 use std::process::ExitCode;
 use std::{env, io};
 use target_volume::MemVolumes;
@@ -46,11 +47,12 @@ fn serve(rt: &HostRuntime) -> Option<u8> {
     Some(outcome.status.code())
 }
 
-/// The words after the program's name. Where the system doesn't tell them, one empty word stands
-/// for them, which is no word that the program takes.
+/// The words after the program's name. None means that memory ran out. Where the system doesn't tell
+/// them, one empty word stands for them, which is no word that the program takes.
 fn words(rt: &HostRuntime) -> Option<Vec<String>> {
     match env::args(rt) {
         Ok(words) => words.skip(1).collect(rt.alloc()).ok(),
+        Err(error) if error.kind() == ErrorKind::OutOfMemory => None,
         Err(_) => vec![in rt.alloc(); String::new(rt.alloc())].ok(),
     }
 }
