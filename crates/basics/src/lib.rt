@@ -1,0 +1,13 @@
+//! Small types that belong to no crate above: the failure of an object outside, want of memory, the
+//! calls of an object in memory that are to fail, and a short name.
+#![tactic(auto)]
+
+mod calls;
+mod name;
+mod refusal;
+#[cfg(test)]
+mod tests;
+
+pub use calls::Calls;
+pub use name::{MAX_NAME_BYTES, Name};
+pub use refusal::{Failed, NoMemory};
