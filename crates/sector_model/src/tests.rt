@@ -1,9 +1,9 @@
 ghost use Rattle.std.specs.Prelude.{◌≡◌, ◌≤◌, ◌*◌, ◌<◌, List, [], ◌∷◌, ℕ, All, Some, None};
 ghost use Rattle.std.specs.List.Sorted.{IsStrictlyIncreasing};
-ghost use Rattle.sector_model.specs.Sectors.{filled, zero_sector};
+ghost use Rattle.sector_model.specs.Sector.{filled, zero_sector};
 ghost use Rattle.sector_model.specs.Disk.{fold_writes};
-ghost use Rattle.sector_model.specs.Areas.{touched_blocks, areas_of, complement_of, next_run, end_of};
-ghost use Rattle.sector_model.specs.Pages.{page_of};
+ghost use Rattle.sector_model.specs.Run.{touched_blocks, areas_of, complement_of, next_run, end_of};
+ghost use Rattle.sector_model.specs.Page.{page_of};
 
 use crate::{Page, Run, Runs, Sector, SectorList, folds_join, pages_join, runs_are_exact};
 use std::process::Abort;
