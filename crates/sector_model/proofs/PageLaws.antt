@@ -21,18 +21,18 @@ clip_at : (b : Bool) (r : Run) (start m : ℕ) → ltb r.first start ≡ b → s
 clip_at true r start m e past from some = let h = ltb-true r.first start e in (omega arith, (omega arith, omega arith))
 clip_at false r start m e past from some = (refl, (from, some))
 
-clip : (r : Run) (start m : ℕ) → start < end_of r → m ≤ r.first → 0 < r.count → Clipped r start m
+pub clip : (r : Run) (start m : ℕ) → start < end_of r → m ≤ r.first → 0 < r.count → Clipped r start m
 clip r start m past from some = let h = clip_at (ltb r.first start) r start m refl past from some in record { same_end = h.0; from = h.1.0; some = h.1.1 }
 
 -- ---- areas from a sector on
 
-kept : (start : ℕ) (r : Run) (rs : List Run) → start < end_of r → areas_from start (r ∷ rs) ≡ from_sector start r ∷ areas_from start rs
+pub kept : (start : ℕ) (r : Run) (rs : List Run) → start < end_of r → areas_from start (r ∷ rs) ≡ from_sector start r ∷ areas_from start rs
 kept start r rs past = rw (lt-ltb start (end_of r) past) refl
 
-dropped : (start : ℕ) (r : Run) (rs : List Run) → end_of r ≤ start → areas_from start (r ∷ rs) ≡ areas_from start rs
+pub dropped : (start : ℕ) (r : Run) (rs : List Run) → end_of r ≤ start → areas_from start (r ∷ rs) ≡ areas_from start rs
 dropped start r rs past = rw (le-ltb start (end_of r) past) refl
 
-areas_from-spaced : (m start : ℕ) (rs : List Run) → AreSpacedFrom m rs → AreSpacedFrom m (areas_from start rs)
+pub areas_from-spaced : (m start : ℕ) (rs : List Run) → AreSpacedFrom m rs → AreSpacedFrom m (areas_from start rs)
 areas_from-spaced m start [] h = h
 areas_from-spaced m start (r ∷ rs) h =
     elim (cases_lt start (end_of r)) [
@@ -99,7 +99,7 @@ areas_from-twice start later (r ∷ rs) le =
     ]
 
 -- what is told from a sector on ends behind it
-ends_behind : (start : ℕ) (rs : List Run) (k : ℕ) (d : Run) → k < length (areas_from start rs) → start < end_of (get_or (areas_from start rs) k d)
+pub ends_behind : (start : ℕ) (rs : List Run) (k : ℕ) (d : Run) → k < length (areas_from start rs) → start < end_of (get_or (areas_from start rs) k d)
 ends_behind start [] k d within = absurd (omega arith)
 ends_behind start (r ∷ rs) k d within =
     elim (cases_lt start (end_of r)) [

@@ -1,8 +1,10 @@
 -- What a volume holds after a write, a flush, a filling and a failed write.
-use Rattle.std.proofs.Common.{◌≡◌, ℕ, zero, suc, ◌+◌, ◌-◌, ◌<◌, ◌≤◌, List, [], ◌∷◌, ◌++◌, length, take, drop, replicate, Bool, true, false, Some, refl, sym, ap, ◌∙◌, arith, inl, inr, length-take, length-drop, length-append}
+use Rattle.std.proofs.Common.{◌≡◌, ℕ, zero, suc, ◌+◌, ◌-◌, ◌<◌, ◌≤◌, List, [], ◌∷◌, ◌++◌, length, take, drop, replicate, Bool, true, false, cond, Some, refl, sym, ap, ◌∙◌, arith, inl, inr, length-take, length-drop, length-append}
 use Rattle.std.specs.List.{slice_get, count_by}
 use Rattle.std.proofs.lemmas.Bool.{cases_lt}
 use Rattle.std.proofs.lemmas.List.{length-replicate}
+use Rattle.std.proofs.lemmas.List.Sums.{sum_by-cons}
+use Rattle.sector_model.specs.Sector.{zero_sector}
 use Rattle.sector_model.specs.Disk.{replaced}
 use Rattle.sector_model.specs.VolumeContents.{VolumeContents, IsSized, IsFlushed, loose_count, volume_written, volume_zeroed, volume_flushed, IsBrokenAt, fill_loose, volume_filled, loose_of, loose_sectors, DiffersOnlyWhereLoose}
 use Rattle.sector_model.specs.Laws.{VolumesKeepTheirSize, IsFilling}
@@ -35,7 +37,7 @@ broken-sized capacity first count old new sized fits broken =
 pub keep_their_size : (capacity : ℕ) (v : VolumeContents) → IsSized capacity v → VolumesKeepTheirSize capacity v
 keep_their_size capacity v sized = record {
   written = λ first sectors fits. written-sized capacity first sectors v sized fits;
-  zeroed = λ first count fits. written-sized capacity first (replicate count _) v sized (omega (arith, length-replicate {X = Sector} count _, fits));
+  zeroed = λ first count fits. written-sized capacity first (replicate count zero_sector) v sized (let n : length (replicate count zero_sector) ≡ count = length-replicate count zero_sector in omega (arith, n, fits));
   flushed = (sized.0, length-replicate (length v.loose) false ∙ sized.1);
   filled = λ filling. (length-fill_loose v.loose v.sectors filling ∙ sized.0, sized.1);
   broken = λ first count new fits broken. broken-sized capacity first count v new sized fits broken;
@@ -70,6 +72,9 @@ filling_leaves_others capacity v filling sized = record {
   others = fill_others v.loose v.sectors filling;
 }
 
+abbrev volume : List Sector → List Bool → VolumeContents
+volume sectors loose = record { sectors = sectors; loose = loose }
+
 abbrev Same : List Bool → List Sector → List Sector → Type 0
 Same loose old new = (s : ℕ) → slice_get loose s ≡ Some false → slice_get new s ≡ slice_get old s
 
@@ -91,15 +96,21 @@ refill (true ∷ loose) (x ∷ old) (y ∷ new) sized long same =
 length-loose_of : (loose : List Bool) (sectors : List Sector) → length loose ≡ length sectors → length (loose_of loose sectors) ≡ count_by (λ is_loose. is_loose) loose
 length-loose_of [] sectors sized = refl
 length-loose_of (b ∷ loose) [] sized = absurd (omega arith)
-length-loose_of (false ∷ loose) (x ∷ sectors) sized = length-loose_of loose sectors (omega arith)
-length-loose_of (true ∷ loose) (x ∷ sectors) sized = let more = length-loose_of loose sectors (omega arith) in omega arith
+length-loose_of (false ∷ loose) (x ∷ sectors) sized =
+    let more = length-loose_of loose sectors (omega arith) in
+    let none = sum_by-cons (λ (b : Bool). cond b 1 0) false loose in
+    omega (arith, more, none)
+length-loose_of (true ∷ loose) (x ∷ sectors) sized =
+    let more = length-loose_of loose sectors (omega arith) in
+    let one = sum_by-cons (λ (b : Bool). cond b 1 0) true loose in
+    omega (arith, more, one)
 
 filling_at : (old new : List Sector) (loose now : List Bool) → length loose ≡ length old → length new ≡ length old → now ≡ loose → Same loose old new
-    → (record { sectors = new; loose = now } ≡ record { sectors = fill_loose loose old (loose_of now new); loose = loose })
+    → (◌≡◌ {A = VolumeContents} (record { sectors = new; loose = now }) (record { sectors = fill_loose loose old (loose_of now new); loose = loose }))
     × (length (loose_of now new) ≡ count_by (λ is_loose. is_loose) loose)
 filling_at old new loose now sized long is same = (
   ap (λ (l : List Bool). record { sectors = new; loose = l }) is
-      ∙ ap (λ (xs : List Sector). record { sectors = xs; loose = loose }) (refill loose old new sized long same ∙ ap (λ (l : List Bool). fill_loose loose old (loose_of l new)) (sym is)),
+      ∙ ap (λ (xs : List Sector). volume xs loose) (refill loose old new sized long same ∙ ap (λ (l : List Bool). fill_loose loose old (loose_of l new)) (sym is)),
   ap (λ (l : List Bool). length (loose_of l new)) is ∙ length-loose_of loose new (omega arith),
 )
 

@@ -1,5 +1,6 @@
--- A disk's contents are the list of its sectors, and nothing else: a write replaces the sectors of its range. So what
--- writes leave of a disk is a fold, with which layers, snapshots and copies are compared.
+-- A disk's contents are the list of its sectors, and nothing else: a write replaces the sectors of
+-- its range. So what writes leave of a disk is a fold, with which layers, snapshots and copies are
+-- compared.
 use Rattle.std.specs.Prelude.{ℕ, ◌+◌, ◌≤◌, List, ◌++◌, length, take, drop, replicate}
 use Rattle.std.specs.List.{fold}
 use Rattle.sector_model.specs.Sector.{zero_sector}

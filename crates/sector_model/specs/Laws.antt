@@ -1,4 +1,5 @@
--- What the definitions say together. Each is the contract of a public function of laws.rt whose body does nothing.
+-- What the definitions say together. Each is the contract of a public function of laws.rt whose
+-- body does nothing.
 use Rattle.std.specs.Prelude.{◌≡◌, ℕ, ◌+◌, ◌<◌, ◌≤◌, ◌^◌, List, ◌++◌, length, Bool, ◌&&◌, nat_lt}
 use Rattle.std.specs.List.{fold, flat_map, All}
 use Rattle.sector_model.specs.Disk.{Write, after_write, fold_writes}
@@ -11,23 +12,27 @@ use Rattle.sector_model.specs.declared.sector.Sector.{Sector}
 -- later writes go on from what the earlier ones leave
 abbrev pub FoldsJoin : Type 0
 FoldsJoin = (capacity : ℕ) (earlier later : List Write)
-    → fold_writes capacity (earlier ++ later) ≡ fold after_write (fold_writes capacity earlier) later
+    → fold_writes capacity (earlier ++ later)
+    ≡ fold after_write (fold_writes capacity earlier) later
 
 -- the runs of a test are spaced, and have exactly the sectors below the capacity that pass it
 abbrev pub RunsAreSpaced : Type 0
-RunsAreSpaced = (test : ℕ → Bool) (capacity : ℕ) → capacity < 2 ^ 64 → AreSpaced (runs_of test capacity)
+RunsAreSpaced = (test : ℕ → Bool) (capacity : ℕ)
+    → capacity < 2 ^ 64 → AreSpaced (runs_of test capacity)
 
 abbrev pub RunsAreExact : Type 0
 RunsAreExact = (test : ℕ → Bool) (capacity s : ℕ)
     → in_runs (runs_of test capacity) s ≡ (nat_lt s capacity && test s)
 
--- pages taken from each page's end on tell all areas from the start on, each sector once and in order
+-- pages taken from each page's end on tell all areas from the start on, each sector once and in
+-- order
 abbrev pub PagesJoin : Type 0
 PagesJoin = (capacity : ℕ) (areas : List Run) (start : ℕ) (pages : List PageContents)
     → AreSpaced areas → All (λ r. end_of r ≤ capacity) areas
     → ArePages capacity areas start pages → flat_map (λ p. p.areas) pages ≡ areas_from start areas
 
--- a page that starts below the capacity ends above its start and within the capacity, and its areas lie in it
+-- a page that starts below the capacity ends above its start and within the capacity, and its areas
+-- lie in it
 abbrev pub PagesLieWithin : Type 0
 PagesLieWithin = (capacity : ℕ) (areas : List Run) (start : ℕ)
     → AreSpaced areas → All (λ r. end_of r ≤ capacity) areas
@@ -44,7 +49,8 @@ pub record VolumesKeepTheirSize (capacity : ℕ) (v : VolumeContents) : Type 0 w
   pub broken : (first count : ℕ) (new : VolumeContents) → first + count ≤ capacity
       → IsBrokenAt first count v new → IsSized capacity new
 
--- a filling of a volume where nothing is loose leaves it, and any filling leaves each sector that isn't loose
+-- a filling of a volume where nothing is loose leaves it, and any filling leaves each sector that
+-- isn't loose
 abbrev pub FillingNothing : Type 0
 FillingNothing = (capacity : ℕ) (v : VolumeContents) (filling : List Sector)
     → IsSized capacity v → IsFlushed v → volume_filled filling v ≡ v

@@ -1,5 +1,5 @@
--- The pages in which a list of areas is told: each begins where the one before it ended, and a limit on the areas of
--- one page bounds the memory that an answer takes.
+-- The pages in which a list of areas is told: each begins where the one before it ended, and a
+-- limit on the areas of one page bounds the memory that an answer takes.
 use Rattle.std.specs.Prelude.{◌≡◌, ℕ, ◌-◌, ◌+◌, ◌<◌, ◌≤◌, List, [], ◌∷◌, length, map, take, slice_index_or, nat_lt, if◌then◌else◌}
 use Rattle.std.specs.List.{filter, All}
 use Rattle.sector_model.specs.Run.{end_of, from_sector, AreSpaced}
@@ -16,8 +16,8 @@ pub record PageContents : Type 0 where
 abbrev pub areas_from : (start : ℕ) (areas : List Run) → List Run
 areas_from start areas = map (from_sector start) (filter (λ r. nat_lt start (end_of r)) areas)
 
--- behind the last sector that a page speaks of, for the areas from its start on: where more follow than one page
--- holds, the end of the last one that it holds, else the capacity
+-- behind the last sector that a page speaks of, for the areas from its start on: where more follow
+-- than one page holds, the end of the last one that it holds, else the capacity
 abbrev pub page_end : (capacity : ℕ) (rest : List Run) → ℕ
 page_end capacity rest =
     if nat_lt PAGE_AREAS (length rest)
@@ -39,7 +39,8 @@ ArePages capacity areas start (p ∷ ps) =
     (start < capacity) × (p ≡ page_of capacity areas start)
     × ArePages capacity areas (start + p.covered) ps
 
--- a page that speaks of some sectors below the capacity, whose areas lie in it, none empty, ascending and apart
+-- a page that speaks of some sectors below the capacity, whose areas lie in it, none empty,
+-- ascending and apart
 pub record LiesWithin (capacity : ℕ) (page : PageContents) : Type 0 where
   pub some : 0 < page.covered
   pub within : page.start + page.covered ≤ capacity

@@ -1,6 +1,6 @@
--- Runs of sectors, and blocks of 128 sectors, in which a tracker remembers what changed. A set of sectors is told as
--- its maximal runs, ascending; they are defined sector by sector here, so that no program's way of joining and
--- clipping areas is taken for granted.
+-- Runs of sectors, and blocks of 128 sectors, in which a tracker remembers what changed. A set of
+-- sectors is told as its maximal runs, ascending; they are defined sector by sector here, so that
+-- no program's way of joining and clipping areas is taken for granted.
 use Rattle.std.specs.Prelude.{ℕ, zero, suc, ◌+◌, ◌-◌, ◌*◌, ◌/◌, ◌<◌, ◌≤◌, ◌^◌, min, max, List, [], ◌∷◌, length, Bool, not, ◌==◌, ◌&&◌, nat_eq, nat_lt, nat_le, if◌then◌else◌, Option, option_map}
 use Rattle.std.specs.List.{filter, find, list_any, range_with_len}
 use Rattle.sector_model.specs.Disk.{Write}
@@ -38,7 +38,8 @@ in_runs runs sector = list_any (has sector) runs
 abbrev pub in_blocks : (blocks : List ℕ) (sector : ℕ) → Bool
 in_blocks blocks sector = list_any (nat_eq (sector / BLOCK_SECTORS)) blocks
 
--- ascending from sector m on, with at least one sector in each run and between two, and each end a number of 64 bits
+-- ascending from sector m on, with at least one sector in each run and between two, and each end a
+-- number of 64 bits
 abbrev pub AreSpacedFrom : (m : ℕ) (runs : List Run) → Type 0
 AreSpacedFrom m [] = m ≤ 2 ^ 64
 AreSpacedFrom m (r ∷ rs) = (m ≤ r.first) × (0 < r.count) × AreSpacedFrom (end_of r + 1) rs

@@ -1,6 +1,7 @@
--- What a target volume holds: its sectors, and which of them are loose, that is written since the last flush that
--- succeeded. A stop of the machine may leave anything in a loose sector, and nothing else in any other one, so this
--- pair is all that has to be known of a volume across a stop. A failed flush leaves it as it was.
+-- What a target volume holds: its sectors, and which of them are loose, that is written since the
+-- last flush that succeeded. A stop of the machine may leave anything in a loose sector, and
+-- nothing else in any other one, so this pair is all that has to be known of a volume across a
+-- stop. A failed flush leaves it as it was.
 use Rattle.std.specs.Prelude.{◌≡◌, ℕ, ◌+◌, List, [], ◌∷◌, length, take, drop, replicate, Bool, true, false, Some, slice_get, count_by}
 use Rattle.sector_model.specs.Sector.{zero_sector}
 use Rattle.sector_model.specs.Disk.{replaced}
@@ -37,7 +38,8 @@ volume_zeroed first count v = volume_written first (replicate count zero_sector)
 abbrev pub volume_flushed : VolumeContents → VolumeContents
 volume_flushed v = record { sectors = v.sectors; loose = replicate (length v.loose) false }
 
--- what a write or a zeroing that failed may leave: its range may hold anything and is loose, all else is as before
+-- what a write or a zeroing that failed may leave: its range may hold anything and is loose, all
+-- else is as before
 pub record IsBrokenAt (first count : ℕ) (old new : VolumeContents) : Type 0 where
   pub before : take first new.sectors ≡ take first old.sectors
   pub behind : drop (first + count) new.sectors ≡ drop (first + count) old.sectors

@@ -1,4 +1,5 @@
-//! A disk in sectors of 512 bytes: its contents, the runs of its sectors, and pages of changed areas.
+//! A disk in sectors of 512 bytes: its contents, the runs of its sectors, and pages of changed
+//! areas.
 //!
 //! The tracker looks at a disk in blocks of 128 sectors, block `b` being the sectors `128 * b` to
 //! `128 * b + 127`, clipped at the disk's capacity. All numbers here count sectors.
