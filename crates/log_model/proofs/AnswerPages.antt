@@ -2,9 +2,9 @@
 use Rattle.std.proofs.Common.{◌≡◌, ℕ, ◌<◌, ◌+◌, ◌^◌, ◌≤◌, List, [], ◌∷◌, Bool, true, false, cond, Option, Ok, Err, sym, ap, subst, refl, ◌∙◌, arith}
 use Rattle.std.proofs.lemmas.Bool.{lt-ltb, le-ltb}
 use Rattle.std.proofs.lemmas.List.Elements.{All-from_recursion}
-use Rattle.sector_model.specs.Areas.{end_of, in_blocks, areas_of, AreSpacedFrom}
-use Rattle.sector_model.specs.Pages.{areas_from}
-use Rattle.sector_model.specs.declared.extents.Run.{Run}
+use Rattle.sector_model.specs.Run.{end_of, in_blocks, areas_of, AreSpacedFrom}
+use Rattle.sector_model.specs.Page.{areas_from}
+use Rattle.sector_model.specs.declared.run.Run.{Run}
 use Rattle.sector_model.proofs.Spacing.{Kept, runs_of-kept}
 use Rattle.sector_model.proofs.PageLaws.{pages_joined}
 use Rattle.change_id.specs.declared.ChangeId.{ChangeId}

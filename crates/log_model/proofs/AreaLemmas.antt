@@ -5,9 +5,9 @@ use Rattle.std.specs.Option.{option_map_or}
 use Rattle.std.proofs.lemmas.Bool.{lt-ltb, le-ltb, cases_lt, ltb-true, ltb-false, false≢true}
 use Rattle.std.proofs.lemmas.Option.{none-some, same_Some}
 use Rattle.sector_model.specs.Disk.{Write as Replacement}
-use Rattle.sector_model.specs.Areas.{end_of, from_place, next_run, in_runs, in_blocks, areas_of, touched_blocks, touches, block_count, AreSpacedFrom}
-use Rattle.sector_model.specs.Pages.{areas_from}
-use Rattle.sector_model.specs.declared.extents.Run.{Run}
+use Rattle.sector_model.specs.Run.{end_of, from_sector, next_run, in_runs, in_blocks, areas_of, touched_blocks, touches, block_count, AreSpacedFrom}
+use Rattle.sector_model.specs.Page.{areas_from}
+use Rattle.sector_model.specs.declared.run.Run.{Run}
 use Rattle.sector_model.proofs.Exact.{in_runs_of}
 use Rattle.sector_model.proofs.Spacing.{none_before, none_in_gap, in_first, past_first}
 use Rattle.log_model.specs.declared.entries.Entry.{Entry}
@@ -63,13 +63,13 @@ clipped_at false r at f e is low lower high ends =
     let same : r.first ≡ f = elim high [ inl h ↦ omega arith | inr h ↦ omega arith ] in
     run_is r.first f r.count (e - f) same (omega arith)
 
-next_kept : (r : Run) (rs : List Run) (at : ℕ) → at < end_of r → next_run at (r ∷ rs) ≡ Some (from_place at r)
+next_kept : (r : Run) (rs : List Run) (at : ℕ) → at < end_of r → next_run at (r ∷ rs) ≡ Some (from_sector at r)
 next_kept r rs at past = rw (lt-ltb at (end_of r) past) refl
 
 next_dropped : (r : Run) (rs : List Run) (at : ℕ) → end_of r ≤ at → next_run at (r ∷ rs) ≡ next_run at rs
 next_dropped r rs at over = rw (le-ltb at (end_of r) over) refl
 
-kept : (r : Run) (rs : List Run) (at : ℕ) → at < end_of r → areas_from at (r ∷ rs) ≡ from_place at r ∷ areas_from at rs
+kept : (r : Run) (rs : List Run) (at : ℕ) → at < end_of r → areas_from at (r ∷ rs) ≡ from_sector at r ∷ areas_from at rs
 kept r rs at past = rw (lt-ltb at (end_of r) past) refl
 
 dropped : (r : Run) (rs : List Run) (at : ℕ) → end_of r ≤ at → areas_from at (r ∷ rs) ≡ areas_from at rs
@@ -80,7 +80,7 @@ true_false h k = false≢true (sym k ∙ h)
 
 -- the first run that reaches past a sector is what is found there
 first_found : (m : ℕ) (r : Run) (rs : List Run) (at f e : ℕ) → AreSpacedFrom m (r ∷ rs) → at < end_of r → at ≤ f → f < e → ((s : ℕ) → at ≤ s → s < f → in_runs (r ∷ rs) s ≡ false)
-    → ((s : ℕ) → f ≤ s → s < e → in_runs (r ∷ rs) s ≡ true) → in_runs (r ∷ rs) e ≡ false → from_place at r ≡ record { first = f; count = e - f }
+    → ((s : ℕ) → f ≤ s → s < e → in_runs (r ∷ rs) s ≡ true) → in_runs (r ∷ rs) e ≡ false → from_sector at r ≡ record { first = f; count = e - f }
 first_found m r rs at f e spaced past low some before within behind =
     let lower : r.first ≤ f = elim (cases_lt f r.first) [
       | inl less ↦ absurd (true_false (within f (omega arith) some) (none_in_gap m r rs f spaced less))
@@ -149,22 +149,22 @@ clip_facts : (b : Bool) (r : Run) (at : ℕ) → ltb r.first at ≡ b → at < e
 clip_facts true r at is past some = (omega arith, omega arith, omega arith)
 clip_facts false r at is past some = let from = ltb-false r.first at is in (omega arith, some, refl)
 
-kept_next : (m : ℕ) (r : Run) (rs : List Run) (at c : ℕ) → AreSpacedFrom m (r ∷ rs) → end_of r ≤ c → at < end_of r → Next (r ∷ rs) at c (from_place at r)
+kept_next : (m : ℕ) (r : Run) (rs : List Run) (at c : ℕ) → AreSpacedFrom m (r ∷ rs) → end_of r ≤ c → at < end_of r → Next (r ∷ rs) at c (from_sector at r)
 kept_next m r rs at c spaced ends past =
     let facts = clip_facts (ltb r.first at) r at refl past spaced.1 in
     record {
       from = facts.0;
       some = facts.1;
       ends = omega (arith, facts.2);
-      areas = kept r rs at past ∙ ap (λ (more : List Run). from_place at r ∷ more)
-          (whole_from (end_of r + 1) rs at spaced.2 (omega arith) ∙ sym (dropped r rs (end_of (from_place at r)) (omega (arith, facts.2)) ∙ whole_from (end_of r + 1) rs (end_of (from_place at r)) spaced.2 (omega (arith, facts.2))));
+      areas = kept r rs at past ∙ ap (λ (more : List Run). from_sector at r ∷ more)
+          (whole_from (end_of r + 1) rs at spaced.2 (omega arith) ∙ sym (dropped r rs (end_of (from_sector at r)) (omega (arith, facts.2)) ∙ whole_from (end_of r + 1) rs (end_of (from_sector at r)) spaced.2 (omega (arith, facts.2))));
     }
 
 pub next_is : (m c : ℕ) (rs : List Run) (at : ℕ) (r : Run) → AreSpacedFrom m rs → AllByRecursion (λ x. end_of x ≤ c) rs → next_run at rs ≡ Some r → Next rs at c r
 next_is m c [] at r spaced ends next = absurd (none-some r next)
 next_is m c (x ∷ rs) at r spaced ends next =
     elim (cases_lt at (end_of x)) [
-      | inl past ↦ subst (Next (x ∷ rs) at c) (same_Some (from_place at x) r (sym (next_kept x rs at past) ∙ next)) (kept_next m x rs at c spaced ends.0 past)
+      | inl past ↦ subst (Next (x ∷ rs) at c) (same_Some (from_sector at x) r (sym (next_kept x rs at past) ∙ next)) (kept_next m x rs at c spaced ends.0 past)
       | inr over ↦
           let rest : Next rs at c r = next_is (end_of x + 1) c rs at r spaced.2 ends.1 (sym (next_dropped x rs at over) ∙ next) in
           let later : end_of x ≤ end_of r = omega (arith, rest.from) in
@@ -175,6 +175,6 @@ pub areas_from-none : (rs : List Run) (at : ℕ) → next_run at rs ≡ None →
 areas_from-none [] at none = refl
 areas_from-none (r ∷ rs) at none =
     elim (cases_lt at (end_of r)) [
-      | inl past ↦ absurd (none-some (from_place at r) (sym none ∙ next_kept r rs at past))
+      | inl past ↦ absurd (none-some (from_sector at r) (sym none ∙ next_kept r rs at past))
       | inr over ↦ dropped r rs at over ∙ areas_from-none rs at (sym (next_dropped r rs at over) ∙ none)
     ]

@@ -3,9 +3,9 @@ use Rattle.std.proofs.Common.{◌≡◌, ℕ, ◌-◌, ◌<◌, ◌≤◌, List,
 use Rattle.std.proofs.lemmas.Bool.{lt-ltb, le-ltb}
 use Rattle.std.proofs.lemmas.List.{take_all, take-append-le, append-nil}
 use Rattle.std.proofs.Math.ListN.{get_or-append}
-use Rattle.sector_model.specs.Areas.{end_of}
-use Rattle.sector_model.specs.Pages.{PageContents, areas_from, page_of, page_end}
-use Rattle.sector_model.specs.declared.extents.Run.{Run}
+use Rattle.sector_model.specs.Run.{end_of}
+use Rattle.sector_model.specs.Page.{PageContents, areas_from, page_of, page_end}
+use Rattle.sector_model.specs.declared.run.Run.{Run}
 
 pub get_or-pushed : (xs : List Run) (r d : Run) → get_or (xs ++ r ∷ []) (length xs) d ≡ r
 get_or-pushed [] r d = refl

@@ -3,8 +3,8 @@ use Rattle.std.proofs.Common.{◌≡◌, ℕ, zero, suc, ◌+◌, ◌-◌, ◌*�
 use Rattle.std.specs.List.{fold, slice_get, list_any, AllByRecursion}
 use Rattle.std.proofs.lemmas.Bool.{ltb-false, cases_lt}
 use Rattle.sector_model.specs.Disk.{Write as Replacement, replaced, after_write}
-use Rattle.sector_model.specs.Areas.{touches}
-use Rattle.sector_model.specs.declared.contents.Sector.{Sector}
+use Rattle.sector_model.specs.Run.{touches}
+use Rattle.sector_model.specs.declared.sector.Sector.{Sector}
 use Rattle.log_model.proofs.Last.{slice_get-front, slice_get-take}
 
 pub slice_get-back : {X : Type 0} (xs ys : List X) (k : ℕ) → slice_get (xs ++ ys) (length xs + k) ≡ slice_get ys k

@@ -6,8 +6,8 @@ use Rattle.std.proofs.lemmas.Option.{slice_get_past, get_or_from_slice_get, slic
 use Rattle.std.proofs.lemmas.List.{length-replicate}
 use Rattle.std.proofs.lemmas.List.FromFn.{fill_by_all}
 use Rattle.sector_model.specs.Disk.{Write as Replacement, after_write, fresh_disk}
-use Rattle.sector_model.specs.Sectors.{zero_sector}
-use Rattle.sector_model.specs.declared.contents.Sector.{Sector}
+use Rattle.sector_model.specs.Sector.{zero_sector}
+use Rattle.sector_model.specs.declared.sector.Sector.{Sector}
 use Rattle.log_model.specs.declared.entries.Entry.{Entry}
 use Rattle.log_model.specs.Entries.{writes_of, write_to, contents}
 use Rattle.log_model.specs.Legal.{Legal, capacity_of}

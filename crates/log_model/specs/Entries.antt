@@ -2,7 +2,7 @@
 use Rattle.std.specs.Prelude.{ℕ, ◌==◌, List, length, Bool, true, false, Option, Some, None, if◌then◌else◌}
 use Rattle.std.specs.List.{filter_map}
 use Rattle.sector_model.specs.Disk.{Write as Replacement, fold_writes}
-use Rattle.sector_model.specs.declared.contents.Sector.{Sector}
+use Rattle.sector_model.specs.declared.sector.Sector.{Sector}
 use Rattle.log_model.specs.declared.entries.Act.{Act}
 use Rattle.log_model.specs.declared.entries.Act.TheVariants.{Write, Snap, Reset, Enable, Off, On}
 use Rattle.log_model.specs.declared.entries.Entry.{Entry}

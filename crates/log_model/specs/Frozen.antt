@@ -1,7 +1,7 @@
 -- What a snapshot froze, and where the machine went off before it.
 use Rattle.std.specs.Prelude.{ℕ, List, Option, Some, None, if◌then◌else◌}
 use Rattle.std.specs.List.{fold, enumerate_from}
-use Rattle.sector_model.specs.declared.contents.Sector.{Sector}
+use Rattle.sector_model.specs.declared.sector.Sector.{Sector}
 use Rattle.log_model.specs.declared.entries.Entry.{Entry}
 use Rattle.log_model.specs.Entries.{contents, is_off, is_on}
 use Rattle.log_model.specs.Marks.{before}

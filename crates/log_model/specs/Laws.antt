@@ -1,11 +1,11 @@
 -- What the definitions say together.
 use Rattle.std.specs.Prelude.{◌≡◌, ℕ, ◌+◌, ◌<◌, ◌≤◌, ◌^◌, List, Bool, [], ◌∷◌, ◌++◌, length, take, slice_get, true, false, ◌||◌, Some, None, Ok}
 use Rattle.std.specs.List.{flat_map}
-use Rattle.sector_model.specs.Areas.{in_blocks}
-use Rattle.sector_model.specs.Pages.{PageContents, areas_from, ArePages}
-use Rattle.sector_model.specs.declared.extents.Run.{Run}
+use Rattle.sector_model.specs.Run.{in_blocks}
+use Rattle.sector_model.specs.Page.{PageContents, areas_from, ArePages}
+use Rattle.sector_model.specs.declared.run.Run.{Run}
 use Rattle.change_id.specs.declared.Since.{Since}
-use Rattle.sector_model.specs.declared.contents.Sector.{Sector}
+use Rattle.sector_model.specs.declared.sector.Sector.{Sector}
 use Rattle.log_model.specs.declared.entries.Owner.{Owner}
 use Rattle.log_model.specs.declared.entries.Act.{Act}
 use Rattle.log_model.specs.declared.entries.Act.TheVariants.{Write, Snap, Remove, Reset, Enable, Off, On}

@@ -3,9 +3,9 @@ use Rattle.std.specs.Prelude.{◌≡◌, ℕ, ◌-◌, ◌/◌, List, [], ◌∷
 use Rattle.std.specs.List.{fold, list_any, filter}
 use Rattle.std.specs.Option.{option_map_or}
 use Rattle.sector_model.specs.Disk.{Write as Replacement}
-use Rattle.sector_model.specs.Areas.{touches}
-use Rattle.sector_model.specs.Sectors.{zero_sector}
-use Rattle.sector_model.specs.declared.contents.Sector.{Sector}
+use Rattle.sector_model.specs.Run.{touches}
+use Rattle.sector_model.specs.Sector.{zero_sector}
+use Rattle.sector_model.specs.declared.sector.Sector.{Sector}
 use Rattle.log_model.specs.declared.entries.Entry.{Entry}
 use Rattle.log_model.specs.Entries.{write_to}
 use Rattle.log_model.specs.Link.{LinkState, is_by}

@@ -1,6 +1,6 @@
 -- A log by which the definitions are shown.
 use Rattle.std.specs.Prelude.{List, [], ◌∷◌}
-use Rattle.sector_model.specs.Sectors.{filled}
+use Rattle.sector_model.specs.Sector.{filled}
 use Rattle.log_model.specs.declared.entries.Owner.TheVariants.{Operator, Migration}
 use Rattle.log_model.specs.declared.entries.Act.TheVariants.{Write, Snap, Remove, Reset, Enable, Off}
 use Rattle.log_model.specs.declared.entries.Entry.{Entry}

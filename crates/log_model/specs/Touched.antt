@@ -1,7 +1,7 @@
 -- The blocks that the entries between two places of a log touch.
 use Rattle.std.specs.Prelude.{ℕ, List, take, drop}
-use Rattle.sector_model.specs.Areas.{touched_blocks, areas_of}
-use Rattle.sector_model.specs.declared.extents.Run.{Run}
+use Rattle.sector_model.specs.Run.{touched_blocks, areas_of}
+use Rattle.sector_model.specs.declared.run.Run.{Run}
 use Rattle.log_model.specs.declared.entries.Entry.{Entry}
 use Rattle.log_model.specs.Entries.{writes_of}
 

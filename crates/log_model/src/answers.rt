@@ -1,8 +1,8 @@
 //! What a log answers to a query, and what it leaves of a disk.
 ghost use Rattle.std.specs.Prelude.{◌≡◌, ◌<◌, ◌≤◌, ◌+◌, ◌^◌, ◌&&◌, ℕ, nat_lt, not, length, map, MatchResult, MatchBool, IsTrue};
 ghost use Rattle.std.specs.List.{range_with_len};
-ghost use Rattle.sector_model.specs.Areas.{next_run, areas_of, touched_blocks};
-ghost use Rattle.sector_model.specs.Pages.{page_of};
+ghost use Rattle.sector_model.specs.Run.{next_run, areas_of, touched_blocks};
+ghost use Rattle.sector_model.specs.Page.{page_of};
 ghost use Rattle.log_model.specs.Entries.{writes_of};
 ghost use Rattle.log_model.specs.Legal.{capacity_of};
 ghost use Rattle.log_model.specs.Marks.{mark, before, through, in_force};

@@ -1,6 +1,6 @@
 //! A machine as one caller reaches it.
 ghost use Rattle.std.specs.Prelude.{◌≡◌, ◌+◌, IfOk, OnOk, OnErr, length, slice_range};
-ghost use Rattle.sector_model.specs.Pages.{page_of};
+ghost use Rattle.sector_model.specs.Page.{page_of};
 ghost use Rattle.log_model.specs.Legal.{capacity_of, taken};
 ghost use Rattle.log_model.specs.Marks.{id_at};
 ghost use Rattle.log_model.specs.Frozen.{frozen};

@@ -1,5 +1,5 @@
 ghost use Rattle.std.specs.Prelude.{◌≡◌, ◌∷◌, [], Some, None};
-ghost use Rattle.sector_model.specs.Sectors.{filled, zero_sector};
+ghost use Rattle.sector_model.specs.Sector.{filled, zero_sector};
 ghost use Rattle.log_model.specs.declared.entries.Owner.{Owner};
 ghost use Rattle.log_model.specs.declared.entries.Act.{Act};
 ghost use Rattle.log_model.specs.Entries.{contents};

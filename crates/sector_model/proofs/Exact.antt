@@ -2,8 +2,8 @@
 use Rattle.std.proofs.Common.{◌≡◌, ℕ, zero, suc, ◌+◌, ◌&&◌, ◌||◌, Bool, true, false, cond, inl, inr, eqb, ltb, List, [], ◌∷◌, refl, sym, ap, ◌∙◌, arith}
 use Rattle.std.proofs.lemmas.Bool.{eqb-true, eq-eqb, ne_eqb, lt-ltb, le-ltb, cases_eq, and_right}
 use Rattle.std.proofs.lemmas.Bool.Decides.{nat_tests}
-use Rattle.sector_model.specs.Areas.{end_of, has, in_runs, with_sector, runs_of}
-use Rattle.sector_model.specs.declared.extents.Run.{Run}
+use Rattle.sector_model.specs.Run.{end_of, has, in_runs, with_sector, runs_of}
+use Rattle.sector_model.specs.declared.run.Run.{Run}
 
 or_assoc : (a b c : Bool) → (a || (b || c)) ≡ ((a || b) || c)
 or_assoc true b c = refl

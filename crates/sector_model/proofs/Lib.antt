@@ -1,5 +1,10 @@
 pub mod Stamps
+pub mod ItemAt
+pub mod Replaced
 pub mod Spacing
 pub mod RunsOf
 pub mod Exact
+pub mod NextRun
 pub mod PageLaws
+pub mod PageWithin
+pub mod Volumes

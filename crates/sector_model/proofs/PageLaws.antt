@@ -4,41 +4,41 @@ use Rattle.std.specs.List.{AllByRecursion, All, flat_map}
 use Rattle.std.proofs.lemmas.Bool.{le-ltb, lt-ltb, ltb-true, ltb-false, cases_lt}
 use Rattle.std.proofs.lemmas.List.{take-append-drop, take_all, append-nil}
 use Rattle.std.proofs.lemmas.List.Elements.{recursion_from_All}
-use Rattle.sector_model.specs.Areas.{end_of, from_place, AreSpacedFrom, AreSpaced}
-use Rattle.sector_model.specs.Pages.{PageContents, areas_from, page_of, ArePages}
-use Rattle.sector_model.specs.declared.extents.Run.{Run}
+use Rattle.sector_model.specs.Run.{end_of, from_sector, AreSpacedFrom, AreSpaced}
+use Rattle.sector_model.specs.Page.{PageContents, areas_from, page_of, ArePages}
+use Rattle.sector_model.specs.declared.run.Run.{Run}
 use Rattle.sector_model.proofs.Spacing.{from_earlier, ends_past}
 
 -- ---- one run, from a sector on
 
 pub record Clipped (r : Run) (start m : ℕ) : Type 0 where
-  pub same_end : end_of (from_place start r) ≡ end_of r
-  pub from : m ≤ (from_place start r).first
-  pub some : 0 < (from_place start r).count
+  pub same_end : end_of (from_sector start r) ≡ end_of r
+  pub from : m ≤ (from_sector start r).first
+  pub some : 0 < (from_sector start r).count
 
 clip_at : (b : Bool) (r : Run) (start m : ℕ) → ltb r.first start ≡ b → start < end_of r → m ≤ r.first → 0 < r.count
     → (end_of (cond b (record { first = start; count = end_of r - start }) r) ≡ end_of r) × ((m ≤ (cond b (record { first = start; count = end_of r - start }) r).first) × (0 < (cond b (record { first = start; count = end_of r - start }) r).count))
 clip_at true r start m e past from some = let h = ltb-true r.first start e in (omega arith, (omega arith, omega arith))
 clip_at false r start m e past from some = (refl, (from, some))
 
-clip : (r : Run) (start m : ℕ) → start < end_of r → m ≤ r.first → 0 < r.count → Clipped r start m
+pub clip : (r : Run) (start m : ℕ) → start < end_of r → m ≤ r.first → 0 < r.count → Clipped r start m
 clip r start m past from some = let h = clip_at (ltb r.first start) r start m refl past from some in record { same_end = h.0; from = h.1.0; some = h.1.1 }
 
 -- ---- areas from a sector on
 
-kept : (start : ℕ) (r : Run) (rs : List Run) → start < end_of r → areas_from start (r ∷ rs) ≡ from_place start r ∷ areas_from start rs
+pub kept : (start : ℕ) (r : Run) (rs : List Run) → start < end_of r → areas_from start (r ∷ rs) ≡ from_sector start r ∷ areas_from start rs
 kept start r rs past = rw (lt-ltb start (end_of r) past) refl
 
-dropped : (start : ℕ) (r : Run) (rs : List Run) → end_of r ≤ start → areas_from start (r ∷ rs) ≡ areas_from start rs
+pub dropped : (start : ℕ) (r : Run) (rs : List Run) → end_of r ≤ start → areas_from start (r ∷ rs) ≡ areas_from start rs
 dropped start r rs past = rw (le-ltb start (end_of r) past) refl
 
-areas_from-spaced : (m start : ℕ) (rs : List Run) → AreSpacedFrom m rs → AreSpacedFrom m (areas_from start rs)
+pub areas_from-spaced : (m start : ℕ) (rs : List Run) → AreSpacedFrom m rs → AreSpacedFrom m (areas_from start rs)
 areas_from-spaced m start [] h = h
 areas_from-spaced m start (r ∷ rs) h =
     elim (cases_lt start (end_of r)) [
       | inl past ↦
           let c = clip r start m past h.0 h.1 in
-          let more : AreSpacedFrom (end_of (from_place start r) + 1) (areas_from start rs) = rw c.same_end (areas_from-spaced (end_of r + 1) start rs h.2) in
+          let more : AreSpacedFrom (end_of (from_sector start r) + 1) (areas_from start rs) = rw c.same_end (areas_from-spaced (end_of r + 1) start rs h.2) in
           rw (kept start r rs past) (c.from, c.some, more)
       | inr over ↦ rw (dropped start r rs over) (from_earlier (end_of r + 1) m (areas_from start rs) (areas_from-spaced (end_of r + 1) start rs h.2) (omega (arith, h.0)))
     ]
@@ -54,11 +54,11 @@ clip_end_at : (b : Bool) (r : Run) (start : ℕ) → start < end_of r → end_of
 clip_end_at true r start past = omega arith
 clip_end_at false r start past = refl
 
-clip_end : (r : Run) (start : ℕ) → start < end_of r → end_of (from_place start r) ≡ end_of r
+clip_end : (r : Run) (start : ℕ) → start < end_of r → end_of (from_sector start r) ≡ end_of r
 clip_end r start past = clip_end_at (ltb r.first start) r start past
 
-behind_first : (start : ℕ) (r : Run) (rs : List Run) (k : ℕ) (d : Run) → start < end_of r → k < length (from_place start r ∷ areas_from start rs)
-    → ((j : ℕ) → j < length (areas_from start rs) → start < end_of (get_or (areas_from start rs) j d)) → start < end_of (get_or (from_place start r ∷ areas_from start rs) k d)
+behind_first : (start : ℕ) (r : Run) (rs : List Run) (k : ℕ) (d : Run) → start < end_of r → k < length (from_sector start r ∷ areas_from start rs)
+    → ((j : ℕ) → j < length (areas_from start rs) → start < end_of (get_or (areas_from start rs) j d)) → start < end_of (get_or (from_sector start r ∷ areas_from start rs) k d)
 behind_first start r rs zero d past within later = let e = clip_end r start past in omega (arith, e)
 behind_first start r rs (suc k) d past within later = later k (omega arith)
 
@@ -69,43 +69,43 @@ areas_from-end m (r ∷ rs) zero d h within = dropped (end_of r) r rs (omega ari
 areas_from-end m (r ∷ rs) (suc k) d h within =
     dropped (end_of (get_or rs k d)) r rs (let past = ends_past (end_of r + 1) rs k d h.2 (omega arith) in omega (arith, past)) ∙ areas_from-end (end_of r + 1) rs k d h.2 (omega arith)
 
-from_place-twice : (b : Bool) (start later : ℕ) (r : Run) → ltb r.first start ≡ b → start ≤ later → later < end_of r
-    → from_place later (cond b (record { first = start; count = end_of r - start }) r) ≡ from_place later r
-from_place-twice true start later r e le past =
+from_sector-twice : (b : Bool) (start later : ℕ) (r : Run) → ltb r.first start ≡ b → start ≤ later → later < end_of r
+    → from_sector later (cond b (record { first = start; count = end_of r - start }) r) ≡ from_sector later r
+from_sector-twice true start later r e le past =
     let under = ltb-true r.first start e in
     elim (cases_lt start later) [
       | inl lt ↦ rw (lt-ltb start later lt, lt-ltb r.first later (omega arith)) (ap (λ (n : ℕ). record { first = later; count = n }) (omega arith))
       | inr ge ↦ let same : start ≡ later = omega arith in
           rw (le-ltb start later ge, lt-ltb r.first later (omega arith)) (ap (λ (at : ℕ). record { first = at; count = end_of r - at }) same)
     ]
-from_place-twice false start later r e le past = refl
+from_sector-twice false start later r e le past = refl
 
 areas_from-twice : (start later : ℕ) (rs : List Run) → start ≤ later → areas_from later (areas_from start rs) ≡ areas_from later rs
 areas_from-twice start later [] le = refl
 areas_from-twice start later (r ∷ rs) le =
     elim (cases_lt later (end_of r)) [
       | inl past ↦
-          let e : end_of (from_place start r) ≡ end_of r = (clip_end r start (omega arith)) in
-          ap (areas_from later) (kept start r rs (omega arith)) ∙ kept later (from_place start r) (areas_from start rs) (omega (arith, e))
-          ∙ rw (from_place-twice (ltb r.first start) start later r refl le past, areas_from-twice start later rs le) (sym (kept later r rs past))
+          let e : end_of (from_sector start r) ≡ end_of r = (clip_end r start (omega arith)) in
+          ap (areas_from later) (kept start r rs (omega arith)) ∙ kept later (from_sector start r) (areas_from start rs) (omega (arith, e))
+          ∙ rw (from_sector-twice (ltb r.first start) start later r refl le past, areas_from-twice start later rs le) (sym (kept later r rs past))
       | inr over ↦
           elim (cases_lt start (end_of r)) [
             | inl past ↦
-                let e : end_of (from_place start r) ≡ end_of r = (clip_end r start past) in
-                ap (areas_from later) (kept start r rs past) ∙ dropped later (from_place start r) (areas_from start rs) (omega (arith, e))
+                let e : end_of (from_sector start r) ≡ end_of r = (clip_end r start past) in
+                ap (areas_from later) (kept start r rs past) ∙ dropped later (from_sector start r) (areas_from start rs) (omega (arith, e))
                 ∙ areas_from-twice start later rs le ∙ sym (dropped later r rs over)
             | inr under ↦ ap (areas_from later) (dropped start r rs under) ∙ areas_from-twice start later rs le ∙ sym (dropped later r rs over)
           ]
     ]
 
 -- what is told from a sector on ends behind it
-ends_behind : (start : ℕ) (rs : List Run) (k : ℕ) (d : Run) → k < length (areas_from start rs) → start < end_of (get_or (areas_from start rs) k d)
+pub ends_behind : (start : ℕ) (rs : List Run) (k : ℕ) (d : Run) → k < length (areas_from start rs) → start < end_of (get_or (areas_from start rs) k d)
 ends_behind start [] k d within = absurd (omega arith)
 ends_behind start (r ∷ rs) k d within =
     elim (cases_lt start (end_of r)) [
       | inl past ↦
           let all = kept start r rs past in
-          let w : k < length (from_place start r ∷ areas_from start rs) = subst (λ (xs : List Run). k < length xs) all within in
+          let w : k < length (from_sector start r ∷ areas_from start rs) = subst (λ (xs : List Run). k < length xs) all within in
           subst (λ (xs : List Run). start < end_of (get_or xs k d)) (sym all) (behind_first start r rs k d past w (λ j l. ends_behind start rs j d l))
       | inr over ↦
           let all = dropped start r rs over in

@@ -6,9 +6,9 @@ use Rattle.std.proofs.lemmas.Bool.{eq-eqb, ne_eqb, cases_eq}
 use Rattle.std.proofs.lemmas.List.Folds.{list_any_more}
 use Rattle.std.specs.List.{list_any}
 use Rattle.std.specs.List.Sorted.{IsStrictlyIncreasing}
-use Rattle.sector_model.specs.Areas.{end_of, with_sector, with_run, runs_of, in_blocks, in_runs, areas_of, complement_of, AreSpacedFrom}
+use Rattle.sector_model.specs.Run.{end_of, with_sector, with_run, runs_of, in_blocks, in_runs, areas_of, complement_of, AreSpacedFrom}
 use Rattle.sector_model.proofs.Spacing.{none_in_gap, in_first, past_first, from_earlier}
-use Rattle.sector_model.specs.declared.extents.Run.{Run}
+use Rattle.sector_model.specs.declared.run.Run.{Run}
 
 pub runs_of-same : (test other : ℕ → Bool) (n : ℕ) → ((s : ℕ) → s < n → test s ≡ other s) → runs_of test n ≡ runs_of other n
 unfolding runs_of

@@ -3,8 +3,8 @@ use Rattle.std.proofs.Common.{◌≡◌, ℕ, zero, suc, ◌+◌, ◌^◌, ◌<�
 use Rattle.std.specs.List.{AllByRecursion, sum_by, find, slice_get}
 use Rattle.std.proofs.lemmas.Bool.{eqb-true, eqb-false, le-ltb, lt-ltb, le-leb, lt-leb}
 use Rattle.std.proofs.lemmas.List.Sums.{sum_by-cons}
-use Rattle.sector_model.specs.Areas.{end_of, in_runs, AreSpacedFrom, AreSpaced, with_sector, runs_of}
-use Rattle.sector_model.specs.declared.extents.Run.{Run}
+use Rattle.sector_model.specs.Run.{end_of, in_runs, AreSpacedFrom, AreSpaced, with_sector, runs_of}
+use Rattle.sector_model.specs.declared.run.Run.{Run}
 
 EndBy : ℕ → List Run → Type 0
 EndBy n runs = AllByRecursion (λ r. end_of r ≤ n) runs

@@ -1,11 +1,13 @@
--- A disk's contents are the list of its sectors. A write replaces the sectors of its range.
-use Rattle.std.specs.Prelude.{ℕ, ◌+◌, List, ◌++◌, length, take, drop, replicate}
+-- A disk's contents are the list of its sectors, and nothing else: a write replaces the sectors of
+-- its range. So what writes leave of a disk is a fold, with which layers, snapshots and copies are
+-- compared.
+use Rattle.std.specs.Prelude.{ℕ, ◌+◌, ◌≤◌, List, ◌++◌, length, take, drop, replicate}
 use Rattle.std.specs.List.{fold}
-use Rattle.sector_model.specs.Sectors.{zero_sector}
-use Rattle.sector_model.specs.declared.contents.Sector.{Sector}
+use Rattle.sector_model.specs.Sector.{zero_sector}
+use Rattle.sector_model.specs.declared.sector.Sector.{Sector}
 
 -- xs with ys in place of the items from `first` on
-abbrev pub replaced : {X : Type 0} → List X → ℕ → List X → List X
+abbrev pub replaced : {X : Type 0} → (xs : List X) (first : ℕ) (ys : List X) → List X
 replaced xs first ys = take first xs ++ ys ++ drop (first + length ys) xs
 
 -- the first sector of a write, and what it writes from there on
@@ -13,14 +15,18 @@ pub record Write : Type 0 where
   pub first : ℕ
   pub sectors : List Sector
 
+-- the write lies within a disk of this capacity
+abbrev pub Fits : (capacity : ℕ) → Write → Type 0
+Fits capacity w = w.first + length w.sectors ≤ capacity
+
 -- what a write leaves of a disk
-abbrev pub after_write : List Sector → Write → List Sector
+abbrev pub after_write : (disk : List Sector) → Write → List Sector
 after_write disk w = replaced disk w.first w.sectors
 
--- a disk of c sectors that was never written
-abbrev pub fresh_disk : ℕ → List Sector
-fresh_disk c = replicate c zero_sector
+-- a disk that was never written
+abbrev pub fresh_disk : (capacity : ℕ) → List Sector
+fresh_disk capacity = replicate capacity zero_sector
 
--- what the writes, one after another, leave of a fresh disk of c sectors
-abbrev pub fold_writes : ℕ → List Write → List Sector
-fold_writes c writes = fold after_write (fresh_disk c) writes
+-- what the writes, one after another, leave of a fresh disk
+abbrev pub fold_writes : (capacity : ℕ) (writes : List Write) → List Sector
+fold_writes capacity writes = fold after_write (fresh_disk capacity) writes

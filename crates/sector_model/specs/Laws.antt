@@ -1,23 +1,76 @@
--- What the definitions say together.
-use Rattle.std.specs.Prelude.{◌≡◌, ℕ, ◌<◌, ◌≤◌, ◌^◌, List, ◌++◌, Bool, ◌&&◌, nat_lt}
+-- What the definitions say together. Each is the contract of a public function of laws.rt whose
+-- body does nothing.
+use Rattle.std.specs.Prelude.{◌≡◌, ℕ, ◌+◌, ◌<◌, ◌≤◌, ◌^◌, List, ◌++◌, length, Bool, ◌&&◌, nat_lt}
 use Rattle.std.specs.List.{fold, flat_map, All}
 use Rattle.sector_model.specs.Disk.{Write, after_write, fold_writes}
-use Rattle.sector_model.specs.Areas.{end_of, in_runs, runs_of, AreSpaced}
-use Rattle.sector_model.specs.Pages.{PageContents, areas_from, ArePages}
-use Rattle.sector_model.specs.declared.extents.Run.{Run}
+use Rattle.sector_model.specs.Run.{end_of, in_runs, runs_of, AreSpaced}
+use Rattle.sector_model.specs.Page.{PageContents, areas_from, page_of, ArePages, LiesWithin}
+use Rattle.sector_model.specs.VolumeContents.{VolumeContents, IsSized, IsFlushed, loose_count, volume_written, volume_zeroed, volume_flushed, IsBrokenAt, volume_filled, loose_sectors, DiffersOnlyWhereLoose}
+use Rattle.sector_model.specs.declared.run.Run.{Run}
+use Rattle.sector_model.specs.declared.sector.Sector.{Sector}
 
 -- later writes go on from what the earlier ones leave
 abbrev pub FoldsJoin : Type 0
-FoldsJoin = (c : ℕ) (earlier later : List Write) → fold_writes c (earlier ++ later) ≡ fold after_write (fold_writes c earlier) later
+FoldsJoin = (capacity : ℕ) (earlier later : List Write)
+    → fold_writes capacity (earlier ++ later)
+    ≡ fold after_write (fold_writes capacity earlier) later
 
--- the runs of a test are spaced, and have exactly the sectors below c that pass it
+-- the runs of a test are spaced, and have exactly the sectors below the capacity that pass it
 abbrev pub RunsAreSpaced : Type 0
-RunsAreSpaced = (test : ℕ → Bool) (c : ℕ) → c < 2 ^ 64 → AreSpaced (runs_of test c)
+RunsAreSpaced = (test : ℕ → Bool) (capacity : ℕ)
+    → capacity < 2 ^ 64 → AreSpaced (runs_of test capacity)
 
 abbrev pub RunsAreExact : Type 0
-RunsAreExact = (test : ℕ → Bool) (c s : ℕ) → in_runs (runs_of test c) s ≡ (nat_lt s c && test s)
+RunsAreExact = (test : ℕ → Bool) (capacity s : ℕ)
+    → in_runs (runs_of test capacity) s ≡ (nat_lt s capacity && test s)
 
--- pages taken from each page's end on tell all areas from the start on, each sector once and in order
+-- pages taken from each page's end on tell all areas from the start on, each sector once and in
+-- order
 abbrev pub PagesJoin : Type 0
-PagesJoin = (c : ℕ) (areas : List Run) (start : ℕ) (pages : List PageContents) → AreSpaced areas → All (λ r. end_of r ≤ c) areas
-    → ArePages c areas start pages → flat_map (λ p. p.areas) pages ≡ areas_from start areas
+PagesJoin = (capacity : ℕ) (areas : List Run) (start : ℕ) (pages : List PageContents)
+    → AreSpaced areas → All (λ r. end_of r ≤ capacity) areas
+    → ArePages capacity areas start pages → flat_map (λ p. p.areas) pages ≡ areas_from start areas
+
+-- a page that starts below the capacity ends above its start and within the capacity, and its areas
+-- lie in it
+abbrev pub PagesLieWithin : Type 0
+PagesLieWithin = (capacity : ℕ) (areas : List Run) (start : ℕ)
+    → AreSpaced areas → All (λ r. end_of r ≤ capacity) areas
+    → start < capacity → LiesWithin capacity (page_of capacity areas start)
+
+-- what is done to a volume keeps its size
+pub record VolumesKeepTheirSize (capacity : ℕ) (v : VolumeContents) : Type 0 where
+  pub written : (first : ℕ) (sectors : List Sector) → first + length sectors ≤ capacity
+      → IsSized capacity (volume_written first sectors v)
+  pub zeroed : (first count : ℕ) → first + count ≤ capacity
+      → IsSized capacity (volume_zeroed first count v)
+  pub flushed : IsSized capacity (volume_flushed v)
+  pub filled : (filling : List Sector) → IsSized capacity (volume_filled filling v)
+  pub broken : (first count : ℕ) (new : VolumeContents) → first + count ≤ capacity
+      → IsBrokenAt first count v new → IsSized capacity new
+
+-- a filling of a volume where nothing is loose leaves it, and any filling leaves each sector that
+-- isn't loose
+abbrev pub FillingNothing : Type 0
+FillingNothing = (capacity : ℕ) (v : VolumeContents) (filling : List Sector)
+    → IsSized capacity v → IsFlushed v → volume_filled filling v ≡ v
+
+abbrev pub FillingLeavesOthers : Type 0
+FillingLeavesOthers = (capacity : ℕ) (v : VolumeContents) (filling : List Sector)
+    → IsSized capacity v → DiffersOnlyWhereLoose v (volume_filled filling v)
+
+-- and whatever differs from it only there is one of its fillings, by as many sectors as are loose
+pub record IsFilling (old new : VolumeContents) : Type 0 where
+  pub same : new ≡ volume_filled (loose_sectors new) old
+  pub long : length (loose_sectors new) ≡ loose_count old
+
+abbrev pub EachIsAFilling : Type 0
+EachIsAFilling = (capacity : ℕ) (old new : VolumeContents)
+    → IsSized capacity old → DiffersOnlyWhereLoose old new → IsFilling old new
+
+-- a write that failed leaves what the whole write would, but for loose sectors
+abbrev pub BrokenIsWritten : Type 0
+BrokenIsWritten = (capacity first : ℕ) (sectors : List Sector) (old new : VolumeContents)
+    → IsSized capacity old → first + length sectors ≤ capacity
+    → IsBrokenAt first (length sectors) old new
+    → DiffersOnlyWhereLoose (volume_written first sectors old) new

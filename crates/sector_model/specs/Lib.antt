@@ -1,5 +1,6 @@
-pub mod Sectors
+pub mod Sector
 pub mod Disk
-pub mod Areas
-pub mod Pages
+pub mod Run
+pub mod Page
+pub mod VolumeContents
 pub mod Laws

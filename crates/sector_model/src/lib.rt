@@ -1,20 +1,24 @@
-//! A disk in sectors of 512 bytes: its contents, the runs of its sectors, and pages of changed areas.
+//! A disk in sectors of 512 bytes: its contents, the runs of its sectors, and pages of changed
+//! areas.
 //!
 //! The tracker looks at a disk in blocks of 128 sectors, block `b` being the sectors `128 * b` to
 //! `128 * b + 127`, clipped at the disk's capacity. All numbers here count sectors.
 #![tactic(auto)]
 
-mod contents;
-mod extents;
 mod laws;
-mod paging;
+mod page;
+mod run;
+mod sector;
 #[cfg(test)]
 mod tests;
 
-pub use contents::{SECTOR_BYTES, Sector, SectorList};
-pub use extents::{BLOCK_SECTORS, Run, Runs};
-pub use laws::{folds_join, pages_join, runs_are_exact};
-pub use paging::{PAGE_AREAS, Page};
+pub use laws::{
+    broken_volumes, folds_join, pages_join, pages_lie_within, runs_are_exact, volume_fillings,
+    volumes_keep_their_size,
+};
+pub use page::{PAGE_AREAS, Page};
+pub use run::{BLOCK_SECTORS, Run, Runs};
+pub use sector::{SECTOR_BYTES, Sector, SectorList};
 use std::alloc::{AllocError, AllocFailed};
 
 /// Memory ran out. A call that answers it has changed nothing.

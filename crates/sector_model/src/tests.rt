@@ -1,23 +1,30 @@
-ghost use Rattle.std.specs.Prelude.{◌≡◌, ◌≤◌, ◌*◌, ◌<◌, List, [], ◌∷◌, ℕ, All, Some, None};
+ghost use Rattle.std.specs.Prelude.{◌≡◌, ◌≤◌, ◌*◌, ◌<◌, List, [], ◌∷◌, ℕ, All, Some, None, true, false};
 ghost use Rattle.std.specs.List.Sorted.{IsStrictlyIncreasing};
-ghost use Rattle.sector_model.specs.Sectors.{filled, zero_sector};
+ghost use Rattle.sector_model.specs.Sector.{filled, zero_sector};
 ghost use Rattle.sector_model.specs.Disk.{fold_writes};
-ghost use Rattle.sector_model.specs.Areas.{touched_blocks, areas_of, complement_of, next_run, end_of};
-ghost use Rattle.sector_model.specs.Pages.{page_of};
+ghost use Rattle.sector_model.specs.Run.{touched_blocks, areas_of, complement_of, next_run, end_of};
+ghost use Rattle.sector_model.specs.Page.{page_of};
+ghost use Rattle.sector_model.specs.VolumeContents.{volume_written, volume_zeroed, volume_flushed, volume_filled};
 
-use crate::{Page, Run, Runs, Sector, SectorList, folds_join, pages_join, runs_are_exact};
+use crate::{
+    Page, Run, Runs, SECTOR_BYTES, Sector, SectorList, broken_volumes, folds_join, pages_join,
+    pages_lie_within, runs_are_exact, volume_fillings, volumes_keep_their_size,
+};
 use std::process::Abort;
 use std::test::Fail;
 
 /// The definitions on small disks. The proof computes them.
 fn definitions_on_small_disks()
     // The later of two writes stands, up to the last sector.
-    ensures fold { fold_writes 3 (record { first = 0; sectors = filled 1 ∷ filled 2 ∷ [] } ∷ record { first = 1; sectors = filled 3 ∷ filled 4 ∷ [] } ∷ [])
+    ensures fold { fold_writes 3 (record { first = 0; sectors = filled 1 ∷ filled 2 ∷ [] }
+        ∷ record { first = 1; sectors = filled 3 ∷ filled 4 ∷ [] } ∷ [])
         ≡ filled 1 ∷ filled 3 ∷ filled 4 ∷ [] }
     ensures fold_none { fold_writes 2 [] ≡ zero_sector ∷ zero_sector ∷ [] }
     // A write across two blocks, one up to the last sector, and none.
-    ensures across { touched_blocks 129 (record { first = 127; sectors = filled 1 ∷ filled 1 ∷ [] } ∷ []) ≡ 0 ∷ 1 ∷ [] }
-    ensures last { touched_blocks 129 (record { first = 128; sectors = filled 1 ∷ [] } ∷ []) ≡ 1 ∷ [] }
+    ensures across { touched_blocks 129
+        (record { first = 127; sectors = filled 1 ∷ filled 1 ∷ [] } ∷ []) ≡ 0 ∷ 1 ∷ [] }
+    ensures last { touched_blocks 129
+        (record { first = 128; sectors = filled 1 ∷ [] } ∷ []) ≡ 1 ∷ [] }
     ensures one { touched_blocks 1 (record { first = 0; sectors = filled 1 ∷ [] } ∷ []) ≡ 0 ∷ [] }
     ensures none { touched_blocks 128 [] ≡ [] }
     // Areas at capacities around one block, and their complements.
@@ -25,15 +32,38 @@ fn definitions_on_small_disks()
     ensures short { areas_of 127 (0 ∷ []) ≡ record { first = 0; count = 127 } ∷ [] }
     ensures smallest { areas_of 1 (0 ∷ []) ≡ record { first = 0; count = 1 } ∷ [] }
     ensures joined { areas_of 129 (0 ∷ 1 ∷ []) ≡ record { first = 0; count = 129 } ∷ [] }
-    ensures apart { areas_of 300 (0 ∷ 2 ∷ []) ≡ record { first = 0; count = 128 } ∷ record { first = 256; count = 44 } ∷ [] }
-    ensures rest { complement_of 129 (record { first = 0; count = 128 } ∷ []) ≡ record { first = 128; count = 1 } ∷ [] }
+    ensures apart { areas_of 300 (0 ∷ 2 ∷ [])
+        ≡ record { first = 0; count = 128 } ∷ record { first = 256; count = 44 } ∷ [] }
+    ensures rest { complement_of 129 (record { first = 0; count = 128 } ∷ [])
+        ≡ record { first = 128; count = 1 } ∷ [] }
     ensures all { complement_of 2 [] ≡ record { first = 0; count = 2 } ∷ [] }
     // From inside a run, and behind all.
-    ensures inside { next_run 5 (record { first = 0; count = 8 } ∷ []) ≡ Some (record { first = 5; count = 3 }) }
+    ensures inside { next_run 5 (record { first = 0; count = 8 } ∷ [])
+        ≡ Some (record { first = 5; count = 3 }) }
     ensures behind { next_run 8 (record { first = 0; count = 8 } ∷ []) ≡ None }
     // A page whose start lies within an area.
     ensures page { page_of 256 (record { first = 0; count = 128 } ∷ record { first = 200; count = 8 } ∷ []) 100
-        ≡ record { start = 100; covered = 156; areas = record { first = 100; count = 28 } ∷ record { first = 200; count = 8 } ∷ [] } }
+        ≡ record {
+          start = 100;
+          covered = 156;
+          areas = record { first = 100; count = 28 } ∷ record { first = 200; count = 8 } ∷ [];
+        } }
+{}
+
+/// What a volume of three sectors holds after a write, a flush, a zeroing and a filling.
+fn contents_of_a_small_volume()
+    ensures written { volume_written 1 (filled 2 ∷ [])
+        (record { sectors = filled 1 ∷ filled 1 ∷ filled 1 ∷ []; loose = false ∷ false ∷ true ∷ [] })
+        ≡ record { sectors = filled 1 ∷ filled 2 ∷ filled 1 ∷ []; loose = false ∷ true ∷ true ∷ [] } }
+    ensures zeroed { volume_zeroed 0 2
+        (record { sectors = filled 1 ∷ filled 1 ∷ []; loose = false ∷ false ∷ [] })
+        ≡ record { sectors = filled 0 ∷ filled 0 ∷ []; loose = true ∷ true ∷ [] } }
+    ensures flushed { volume_flushed
+        (record { sectors = filled 1 ∷ filled 2 ∷ []; loose = false ∷ true ∷ [] })
+        ≡ record { sectors = filled 1 ∷ filled 2 ∷ []; loose = false ∷ false ∷ [] } }
+    ensures filled { volume_filled (filled 8 ∷ filled 9 ∷ [])
+        (record { sectors = filled 1 ∷ filled 2 ∷ filled 3 ∷ []; loose = true ∷ false ∷ true ∷ [] })
+        ≡ record { sectors = filled 8 ∷ filled 2 ∷ filled 9 ∷ []; loose = true ∷ false ∷ true ∷ [] } }
 {}
 
 fn run(first: u64, count: u64) -> Run
@@ -48,6 +78,23 @@ fn the_definitions_compute_on_small_disks() {
     folds_join();
     runs_are_exact();
     pages_join();
+    pages_lie_within();
+}
+
+#[test]
+fn the_contents_of_a_volume_compute_on_three_sectors() {
+    contents_of_a_small_volume();
+    volumes_keep_their_size();
+    volume_fillings();
+    broken_volumes();
+}
+
+#[test]
+fn runs_that_are_apart_are_copied(rt: HostRuntime) -> Result<(), Fail> {
+    let runs = Runs::of(rt.alloc(), &[run(0, 128), run(129, 1)])?;
+    assert_eq!(rt; runs.as_slice(), [run(0, 128), run(129, 1)].as_slice());
+    assert_eq!(rt; runs.count(), 129);
+    Ok(())
 }
 
 #[test]
@@ -100,7 +147,7 @@ fn a_page_is_filled_and_emptied(rt: HostRuntime) -> Result<(), Fail> {
 fn a_stamp_repeats_big_endian(rt: HostRuntime) -> Result<(), Fail> {
     let sector = Sector::stamped(1442695040888963407);
     let expected = [0x14, 0x05, 0x7b, 0x7e, 0xf7, 0x67, 0x81, 0x4f];
-    for i in 0..512 {
+    for i in 0..SECTOR_BYTES {
         assert_eq!(rt; sector.0[i], expected[i % 8], "byte {i}");
     }
     let list = SectorList::of(rt.alloc(), &[sector, Sector::filled(7)])?;

@@ -1,7 +1,7 @@
 use Rattle.std.proofs.Common.{◌≡◌, ℕ, ◌-◌, ◌<◌, ◌^◌, List, [], ◌∷◌, ◌++◌, length, get_or, Some, append_assoc, length-append, sym, ap, ◌∙◌, arith}
-use Rattle.sector_model.specs.Areas.{end_of, in_blocks, next_run, touched_blocks}
-use Rattle.sector_model.specs.Pages.{PageContents, areas_from}
-use Rattle.sector_model.specs.declared.extents.Run.{Run}
+use Rattle.sector_model.specs.Run.{end_of, in_blocks, next_run, touched_blocks}
+use Rattle.sector_model.specs.Page.{PageContents, areas_from}
+use Rattle.sector_model.specs.declared.run.Run.{Run}
 use Rattle.sector_model.proofs.Spacing.{Kept, runs_of-kept}
 use Rattle.log_model.specs.declared.entries.Entry.{Entry}
 use Rattle.log_model.specs.Entries.{writes_of}

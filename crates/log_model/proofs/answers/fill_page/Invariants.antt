@@ -1,7 +1,7 @@
 use Rattle.std.proofs.Common.{◌≡◌, ◌-◌, ◌<◌, ◌≤◌, ◌++◌, length, get_or}
-use Rattle.sector_model.specs.Areas.{end_of}
-use Rattle.sector_model.specs.Pages.{areas_from}
-use Rattle.sector_model.specs.declared.extents.Run.{Run}
+use Rattle.sector_model.specs.Run.{end_of}
+use Rattle.sector_model.specs.Page.{areas_from}
+use Rattle.sector_model.specs.declared.run.Run.{Run}
 use Rattle.log_model.proofs.AreaLemmas.{touched_runs}
 use Rattle.log_model.proofs.answers.fill_page.Given as goal
 

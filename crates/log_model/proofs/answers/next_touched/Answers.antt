@@ -1,6 +1,6 @@
 use Rattle.std.proofs.Common.{◌≡◌, ℕ, ◌<◌, ◌^◌, List, sym, ap, ◌∙◌, arith, inl, inr}
 use Rattle.std.proofs.lemmas.Bool.{cases_lt}
-use Rattle.sector_model.specs.Areas.{in_blocks, touched_blocks, AreSpaced}
+use Rattle.sector_model.specs.Run.{in_blocks, touched_blocks, AreSpaced}
 use Rattle.sector_model.proofs.Spacing.{runs_of-kept}
 use Rattle.log_model.specs.declared.entries.Entry.{Entry}
 use Rattle.log_model.specs.Entries.{writes_of}

@@ -1,6 +1,6 @@
 use Rattle.std.proofs.Common.{◌+◌, arith}
 use Rattle.std.proofs.lemmas.List.FromFn.{fill_by_all}
-use Rattle.sector_model.specs.Sectors.{zero_sector}
+use Rattle.sector_model.specs.Sector.{zero_sector}
 use Rattle.log_model.specs.Plain.{sector_at}
 use Rattle.log_model.proofs.answers.read_into.Goals as goal
 

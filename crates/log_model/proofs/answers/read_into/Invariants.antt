@@ -1,5 +1,5 @@
 use Rattle.std.proofs.Common.{◌≡◌, ℕ, ◌+◌, ◌<◌, length, get_or}
-use Rattle.sector_model.specs.Sectors.{zero_sector}
+use Rattle.sector_model.specs.Sector.{zero_sector}
 use Rattle.log_model.specs.Plain.{sector_at}
 use Rattle.log_model.proofs.answers.read_into.Given as goal
 

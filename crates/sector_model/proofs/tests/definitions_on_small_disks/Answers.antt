@@ -1,6 +1,6 @@
 -- Each computes.
 use Rattle.std.proofs.Common.{refl}
-use Rattle.sector_model.specs.Areas.{runs_of}
+use Rattle.sector_model.specs.Run.{runs_of}
 use Rattle.sector_model.proofs.tests.definitions_on_small_disks.Goals as goal
 
 pub returns-clause-whole : goal.returns-clause-whole

@@ -1,8 +1,8 @@
 use Rattle.std.proofs.Common.{◌≡◌, ℕ, List, Bool, true, false, not, ◌&&◌, nat_lt, Option, Some, is_some, cond, refl, Result, Ok, Err, IfOk, MatchBool, subst, sym, ap, ◌∙◌}
 use Rattle.std.proofs.lemmas.Result.{err_from_is_err_and}
-use Rattle.sector_model.specs.Areas.{areas_of, touched_blocks}
-use Rattle.sector_model.specs.Pages.{PageContents, page_of}
-use Rattle.sector_model.specs.declared.extents.Run.{Run}
+use Rattle.sector_model.specs.Run.{areas_of, touched_blocks}
+use Rattle.sector_model.specs.Page.{PageContents, page_of}
+use Rattle.sector_model.specs.declared.run.Run.{Run}
 use Rattle.change_id.specs.declared.ChangeId.{ChangeId}
 use Rattle.change_id.specs.declared.Since.{Since}
 use Rattle.log_model.specs.declared.entries.Owner.{Owner}

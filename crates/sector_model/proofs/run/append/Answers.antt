@@ -1,10 +1,10 @@
 use Rattle.std.proofs.Common.{◌≡◌, sym, ap, ◌∙◌, arith}
 use Rattle.std.proofs.lemmas.Bool.{eqb-true}
 use Rattle.std.proofs.lemmas.List.{get_or_default}
-use Rattle.sector_model.specs.Areas.{end_of}
+use Rattle.sector_model.specs.Run.{end_of}
 use Rattle.sector_model.proofs.RunsOf.{with_run-grown_at, with_run-apart_at, with_run-first}
-use Rattle.sector_model.proofs.extents.append.Goals as goal
-use Rattle.sector_model.proofs.extents.append.Goals.{in_default-via-in-None-1, in_default-via-in-Some+else-ends_at}
+use Rattle.sector_model.proofs.run.append.Goals as goal
+use Rattle.sector_model.proofs.run.append.Goals.{in_default-via-in-None-1, in_default-via-in-Some+else-ends_at}
 
 -- the last run ends where the new one begins
 pub returns : goal.returns

@@ -2,7 +2,7 @@
 ghost use Rattle.std.specs.Prelude.{◌≡◌, ◌<◌, ◌≤◌, ◌^◌, ◌*◌, IfOk, OnOk, OnErr, All, nat_le, ◌==◌};
 ghost use Rattle.std.specs.List.{sum_by};
 ghost use Rattle.std.specs.List.Sorted.{IsStrictlyIncreasing};
-ghost use Rattle.sector_model.specs.Areas.{end_of, with_run};
+ghost use Rattle.sector_model.specs.Run.{end_of, with_run};
 
 use crate::NoMemory;
 use std::alloc::Global;
@@ -19,7 +19,7 @@ pub struct Run {
 }
 
 impl Run {
-    ghost use Rattle.sector_model.specs.Areas.{from_place};
+    ghost use Rattle.sector_model.specs.Run.{from_sector};
 
     /// Whether the run ends at or before a sector.
     fn ends_by(&self, at: u64) -> bool
@@ -38,7 +38,7 @@ impl Run {
     /// The part of the run from a sector on.
     fn from_sector(&self, at: u64) -> Run
         requires { at < end_of self.now }
-        ensures { result ≡ from_place at self.now }
+        ensures { result ≡ from_sector at self.now }
     {
         if self.first < at {
             let passed = at - self.first;
@@ -60,8 +60,8 @@ pub struct Runs {
 
 impl Model for Runs {
     ghost use Rattle.std.specs.Prelude.{List};
-    ghost use Rattle.sector_model.specs.declared.extents.Run.{Run};
-    ghost use Rattle.sector_model.specs.Areas.{AreSpaced};
+    ghost use Rattle.sector_model.specs.declared.run.Run.{Run};
+    ghost use Rattle.sector_model.specs.Run.{AreSpaced};
 
     ghost Value = { List Run };
 
@@ -71,13 +71,22 @@ impl Model for Runs {
 }
 
 impl Runs {
-    ghost use Rattle.sector_model.specs.Areas.{AreSpaced, areas_of, complement_of, next_run};
+    ghost use Rattle.sector_model.specs.Run.{AreSpaced, areas_of, complement_of, next_run};
+
+    /// A copy of these runs. It answers only want of memory.
+    pub fn of(alloc: Global, runs: &[Run]) -> Result<Runs, NoMemory>
+        requires { AreSpaced runs.now }
+        ensures { IfOk result (λ list. list ≡ runs.now) }
+    {
+        let runs = runs.to_vec(alloc)?;
+        Ok(Runs { runs })
+    }
 
     /// The areas of blocks: their sectors, clipped at the capacity, where neighbours join.
     /// It answers only want of memory.
     pub fn from_blocks(alloc: Global, blocks: &[u64], capacity: u64) -> Result<Runs, NoMemory>
         requires ascending { IsStrictlyIncreasing blocks.now }
-        requires begin_below { All (λ block. 128 * block < capacity) blocks.now }
+        requires begin_below { All (λ block. BLOCK_SECTORS * block < capacity) blocks.now }
         ensures { IfOk result (λ runs. runs ≡ areas_of capacity blocks.now) }
     {
         let mut runs = Vec::new(alloc);
@@ -125,7 +134,8 @@ impl Runs {
         sectors_of(self.as_slice())
     }
 
-    /// The run that holds a sector, from there on, or else the first later run. None where there is neither.
+    /// The run that holds a sector, from there on, or else the first later run. None where there
+    /// is neither.
     pub fn next_from(&self, at: u64) -> Option<Run>
         ensures { result ≡ next_run at self.now }
     {
@@ -152,11 +162,12 @@ fn sectors_of(runs: &[Run]) -> u64
     runs.iter().map(|run| run.count).sum()
 }
 
-/// Adds a run behind the others. It lengthens a last one that ends just before it, and a run of no sector adds
-/// nothing.
+/// Adds a run behind the others. It lengthens a last one that ends just before it, and a run of no
+/// sector adds nothing.
 fn append(runs: &mut Vec<Run>, run: Run) -> Result<(), NoMemory>
     requires { end_of run < 2 ^ 64 }
-    ensures ok { OnOk result (runs.new.items ≡ with_run runs.old.items run.first run.count) }
+    ensures ok { OnOk result
+        (runs.new.items ≡ with_run runs.old.items run.first run.count) }
 {
     if run.count == 0 {
         return Ok(());

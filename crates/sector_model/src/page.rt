@@ -10,8 +10,8 @@ pub const PAGE_AREAS: usize = 1024;
 
 /// Where a page of areas starts, how many sectors it speaks of, and the areas among these.
 ///
-/// A tracker answers which areas changed in pages, after VMware's `QueryChangedDiskAreas`: the caller goes on
-/// at the page's start plus its length until that is the capacity.
+/// A tracker answers which areas changed in pages, after VMware's `QueryChangedDiskAreas`: the
+/// caller goes on at the page's start plus its length until that is the capacity.
 #[derive(Debug, Drop)]
 pub struct Page {
     start: u64,
@@ -22,13 +22,14 @@ pub struct Page {
 impl Model for Page {
     ghost use Rattle.std.specs.Prelude.{◌≤◌};
     ghost use Rattle.std.specs.Vec.{vec_capacity};
-    ghost use Rattle.sector_model.specs.Pages.{PageContents};
+    ghost use Rattle.sector_model.specs.Page.{PageContents};
+    ghost use Rattle.sector_model.specs.declared.page.TheConstants.{PAGE_AREAS};
 
     ghost Value = { PageContents };
 
     ghost view = { λ a. record { start = a.start; covered = a.covered; areas = a.runs.items } };
 
-    ghost invariant = { λ a. 1024 ≤ vec_capacity a.runs };
+    ghost invariant = { λ a. PAGE_AREAS ≤ vec_capacity a.runs };
 }
 
 impl Page {
@@ -76,7 +77,7 @@ impl Page {
 
     /// Adds an area behind the others. It takes no memory.
     pub fn push(&mut self, run: Run)
-        requires { length self.old.areas < 1024 }
+        requires { length self.old.areas < PAGE_AREAS }
         ensures { self.new ≡ record self.old { areas = self.old.areas ++ run ∷ [] } }
     {
         self.runs.push(run).unwrap();

@@ -1,11 +1,11 @@
 use Rattle.std.proofs.Common.{◌≡◌, ◌+◌, ◌-◌, ◌≤◌, [], ◌∷◌, List, not, get_or, drop, subst, refl, sym, ap, ◌∙◌, arith}
 use Rattle.std.specs.List.{All}
 use Rattle.std.proofs.lemmas.List.{drop_more, drop_all}
-use Rattle.sector_model.specs.Areas.{with_run, in_runs, complement_of, AreSpaced, end_of}
-use Rattle.sector_model.specs.declared.extents.Run.{Run}
+use Rattle.sector_model.specs.Run.{with_run, in_runs, complement_of, AreSpaced, end_of}
+use Rattle.sector_model.specs.declared.run.Run.{Run}
 use Rattle.sector_model.proofs.RunsOf.{runs_of-none, Left, gap-before, left-after, gap-behind}
 use Rattle.sector_model.proofs.Spacing.{runs_of-kept}
-use Rattle.sector_model.proofs.extents.Runs.complement.Goals as goal
+use Rattle.sector_model.proofs.run.Runs.complement.Goals as goal
 
 pub loop-run-init : goal.loop-run-init
 loop-run-init c = record {

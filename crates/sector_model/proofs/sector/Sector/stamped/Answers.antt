@@ -1,6 +1,6 @@
 use Rattle.std.proofs.Common.{arith}
 use Rattle.sector_model.proofs.Stamps.{stamped_by_bytes}
-use Rattle.sector_model.proofs.contents.Sector.stamped.Goals as goal
+use Rattle.sector_model.proofs.sector.Sector.stamped.Goals as goal
 
 pub returns : goal.returns
 returns c =

@@ -1,7 +1,7 @@
 use Rattle.std.proofs.Common.{◌≡◌, ◌≤◌, not, drop}
-use Rattle.sector_model.specs.Areas.{in_runs, runs_of}
+use Rattle.sector_model.specs.Run.{in_runs, runs_of}
 use Rattle.sector_model.proofs.RunsOf.{Left}
-use Rattle.sector_model.proofs.extents.Runs.complement.Given as goal
+use Rattle.sector_model.proofs.run.Runs.complement.Given as goal
 
 -- the gaps below `at`, from where on the runs that are left decide
 abbrev pub invariant-loop-run : goal.invariant-loop-run

@@ -1,5 +1,5 @@
 use Rattle.std.proofs.Common.{◌≡◌, ℕ, ◌<◌, ◌%◌, length, get_or}
-use Rattle.sector_model.proofs.contents.Sector.stamped.Given as goal
+use Rattle.sector_model.proofs.sector.Sector.stamped.Given as goal
 
 -- the bytes below i are those of the stamp, again and again
 abbrev pub invariant-loop-i : goal.invariant-loop-i

@@ -1,8 +1,8 @@
 use Rattle.std.proofs.Common.{◌*◌, ◌<◌, take, get_or, refl, subst, sym, ap, ◌∙◌, arith}
-use Rattle.sector_model.specs.Areas.{with_run, areas_of, in_blocks, AreSpaced}
+use Rattle.sector_model.specs.Run.{with_run, areas_of, in_blocks, AreSpaced}
 use Rattle.sector_model.proofs.RunsOf.{areas-none, areas-more}
 use Rattle.sector_model.proofs.Spacing.{runs_of-kept}
-use Rattle.sector_model.proofs.extents.Runs.from_blocks.Goals as goal
+use Rattle.sector_model.proofs.run.Runs.from_blocks.Goals as goal
 
 pub loop-block-init : goal.loop-block-init
 loop-block-init c = c.new-runs.ensures.items ∙ areas-none c.args.capacity

@@ -10,27 +10,27 @@ pub const SECTOR_BYTES: usize = 512;
 
 /// The 512 bytes of one sector.
 #[derive(Clone, Copy, Debug, PartialEq, Eq)]
-pub struct Sector(pub [u8; 512]);
+pub struct Sector(pub [u8; SECTOR_BYTES]);
 
 impl Sector {
-    ghost use Rattle.sector_model.specs.Sectors.{filled, stamped};
+    ghost use Rattle.sector_model.specs.Sector.{filled, stamped};
 
     /// A sector whose bytes are all `byte`.
-    #[tactic(auto, unfolding(crate::specs::Sectors::filled))]
+    #[tactic(auto, unfolding(crate::specs::Sector::filled))]
     pub fn filled(byte: u8) -> Sector
         ensures { result ≡ filled byte }
     {
-        Sector([byte; 512])
+        Sector([byte; SECTOR_BYTES])
     }
 
     /// A sector that repeats the stamp 64 times, big-endian.
-    #[tactic(auto, unfolding(crate::specs::Sectors::stamped))]
+    #[tactic(auto, unfolding(crate::specs::Sector::stamped))]
     pub fn stamped(stamp: u64) -> Sector
         ensures { result ≡ stamped stamp }
     {
         let bytes = stamp.to_be_bytes();
-        let mut sector = [0; 512];
-        for i in 0..512 {
+        let mut sector = [0; SECTOR_BYTES];
+        for i in 0..SECTOR_BYTES {
             sector[i] = bytes[i % 8];
         }
         Sector(sector)
@@ -45,7 +45,7 @@ pub struct SectorList {
 
 impl Model for SectorList {
     ghost use Rattle.std.specs.Prelude.{List};
-    ghost use Rattle.sector_model.specs.declared.contents.Sector.{Sector};
+    ghost use Rattle.sector_model.specs.declared.sector.Sector.{Sector};
 
     ghost Value = { List Sector };
 

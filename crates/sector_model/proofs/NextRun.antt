@@ -1,0 +1,1 @@
+-- The next run of a list of runs.

@@ -1,0 +1,159 @@
+-- What a volume holds after a write, a flush, a filling and a failed write.
+use Rattle.std.proofs.Common.{◌≡◌, ℕ, zero, suc, ◌+◌, ◌-◌, ◌<◌, ◌≤◌, List, [], ◌∷◌, ◌++◌, length, take, drop, replicate, Bool, true, false, cond, Some, refl, sym, ap, ◌∙◌, arith, inl, inr, length-take, length-drop, length-append}
+use Rattle.std.specs.List.{slice_get, count_by}
+use Rattle.std.proofs.lemmas.Bool.{cases_lt}
+use Rattle.std.proofs.lemmas.List.{length-replicate}
+use Rattle.std.proofs.lemmas.List.Sums.{sum_by-cons}
+use Rattle.sector_model.specs.Sector.{zero_sector}
+use Rattle.sector_model.specs.Disk.{replaced}
+use Rattle.sector_model.specs.VolumeContents.{VolumeContents, IsSized, IsFlushed, loose_count, volume_written, volume_zeroed, volume_flushed, IsBrokenAt, fill_loose, volume_filled, loose_of, loose_sectors, DiffersOnlyWhereLoose}
+use Rattle.sector_model.specs.Laws.{VolumesKeepTheirSize, IsFilling}
+use Rattle.sector_model.specs.declared.sector.Sector.{Sector}
+use Rattle.sector_model.proofs.ItemAt.{slice_get-front, slice_get-take, slice_get-drop, slice_get-replicate}
+use Rattle.sector_model.proofs.Replaced.{length-replaced, replaced-before, replaced-within, replaced-behind}
+
+-- ---- sizes
+
+pub written-sized : (capacity first : ℕ) (sectors : List Sector) (v : VolumeContents) → IsSized capacity v → first + length sectors ≤ capacity
+    → IsSized capacity (volume_written first sectors v)
+written-sized capacity first sectors v sized fits =
+    let n : length (replicate (length sectors) true) ≡ length sectors = length-replicate (length sectors) true in (
+      length-replaced v.sectors sectors first (omega (arith, sized.0)) ∙ sized.0,
+      length-replaced v.loose (replicate (length sectors) true) first (omega (arith, sized.1, n)) ∙ sized.1,
+    )
+
+pub length-fill_loose : (loose : List Bool) (sectors filling : List Sector) → length (fill_loose loose sectors filling) ≡ length sectors
+length-fill_loose [] sectors filling = refl
+length-fill_loose (b ∷ loose) [] filling = refl
+length-fill_loose (false ∷ loose) (s ∷ sectors) filling = let more = length-fill_loose loose sectors filling in omega arith
+length-fill_loose (true ∷ loose) (s ∷ sectors) [] = refl
+length-fill_loose (true ∷ loose) (s ∷ sectors) (f ∷ filling) = let more = length-fill_loose loose sectors filling in omega arith
+
+broken-sized : (capacity first count : ℕ) (old new : VolumeContents) → IsSized capacity old → first + count ≤ capacity → IsBrokenAt first count old new → IsSized capacity new
+broken-sized capacity first count old new sized fits broken =
+    let n : length (replicate count true) ≡ count = length-replicate count true in
+    (broken.long ∙ sized.0, ap length broken.loose ∙ length-replaced old.loose (replicate count true) first (omega (arith, sized.1, n)) ∙ sized.1)
+
+pub keep_their_size : (capacity : ℕ) (v : VolumeContents) → IsSized capacity v → VolumesKeepTheirSize capacity v
+keep_their_size capacity v sized = record {
+  written = λ first sectors fits. written-sized capacity first sectors v sized fits;
+  zeroed = λ first count fits. written-sized capacity first (replicate count zero_sector) v sized (let n : length (replicate count zero_sector) ≡ count = length-replicate count zero_sector in omega (arith, n, fits));
+  flushed = (sized.0, length-replicate (length v.loose) false ∙ sized.1);
+  filled = λ filling. (length-fill_loose v.loose v.sectors filling ∙ sized.0, sized.1);
+  broken = λ first count new fits broken. broken-sized capacity first count v new sized fits broken;
+}
+
+-- ---- fillings
+
+fill_nothing : (n : ℕ) (sectors filling : List Sector) → fill_loose (replicate n false) sectors filling ≡ sectors
+fill_nothing zero sectors filling = refl
+fill_nothing (suc n) [] filling = refl
+fill_nothing (suc n) (s ∷ sectors) filling = ap (λ (rest : List Sector). s ∷ rest) (fill_nothing n sectors filling)
+
+pub filling_nothing : (capacity : ℕ) (v : VolumeContents) (filling : List Sector) → IsSized capacity v → IsFlushed v → volume_filled filling v ≡ v
+filling_nothing capacity v filling sized flushed =
+    let same : fill_loose v.loose v.sectors filling ≡ v.sectors =
+    ap (λ (loose : List Bool). fill_loose loose v.sectors filling) flushed ∙ fill_nothing (length v.sectors) v.sectors filling in
+    ap (λ (sectors : List Sector). record { sectors = sectors; loose = v.loose }) same
+
+fill_others : (loose : List Bool) (sectors filling : List Sector) (s : ℕ) → slice_get loose s ≡ Some false → slice_get (fill_loose loose sectors filling) s ≡ slice_get sectors s
+fill_others [] sectors filling s tight = refl
+fill_others (b ∷ loose) [] filling s tight = refl
+fill_others (false ∷ loose) (x ∷ sectors) filling zero tight = refl
+fill_others (false ∷ loose) (x ∷ sectors) filling (suc s) tight = fill_others loose sectors filling s tight
+fill_others (true ∷ loose) (x ∷ sectors) [] s tight = refl
+fill_others (true ∷ loose) (x ∷ sectors) (f ∷ filling) zero tight = absurd (cc)
+fill_others (true ∷ loose) (x ∷ sectors) (f ∷ filling) (suc s) tight = fill_others loose sectors filling s tight
+
+pub filling_leaves_others : (capacity : ℕ) (v : VolumeContents) (filling : List Sector) → IsSized capacity v → DiffersOnlyWhereLoose v (volume_filled filling v)
+filling_leaves_others capacity v filling sized = record {
+  same_loose = refl;
+  long = length-fill_loose v.loose v.sectors filling;
+  others = fill_others v.loose v.sectors filling;
+}
+
+abbrev volume : List Sector → List Bool → VolumeContents
+volume sectors loose = record { sectors = sectors; loose = loose }
+
+abbrev Same : List Bool → List Sector → List Sector → Type 0
+Same loose old new = (s : ℕ) → slice_get loose s ≡ Some false → slice_get new s ≡ slice_get old s
+
+some_same : (x y : Sector) → Some x ≡ Some y → x ≡ y
+some_same x y h = cc
+
+refill : (loose : List Bool) (old new : List Sector) → length loose ≡ length old → length new ≡ length old → Same loose old new → new ≡ fill_loose loose old (loose_of loose new)
+refill [] [] [] sized long same = refl
+refill [] [] (y ∷ new) sized long same = absurd (omega arith)
+refill [] (x ∷ old) new sized long same = absurd (omega arith)
+refill (b ∷ loose) [] new sized long same = absurd (omega arith)
+refill (b ∷ loose) (x ∷ old) [] sized long same = absurd (omega arith)
+refill (false ∷ loose) (x ∷ old) (y ∷ new) sized long same =
+    ap (λ (z : Sector). z ∷ new) (some_same y x (same 0 refl))
+    ∙ ap (λ (rest : List Sector). x ∷ rest) (refill loose old new (omega arith) (omega arith) (λ s tight. same (suc s) tight))
+refill (true ∷ loose) (x ∷ old) (y ∷ new) sized long same =
+    ap (λ (rest : List Sector). y ∷ rest) (refill loose old new (omega arith) (omega arith) (λ s tight. same (suc s) tight))
+
+length-loose_of : (loose : List Bool) (sectors : List Sector) → length loose ≡ length sectors → length (loose_of loose sectors) ≡ count_by (λ is_loose. is_loose) loose
+length-loose_of [] sectors sized = refl
+length-loose_of (b ∷ loose) [] sized = absurd (omega arith)
+length-loose_of (false ∷ loose) (x ∷ sectors) sized =
+    let more = length-loose_of loose sectors (omega arith) in
+    let none = sum_by-cons (λ (b : Bool). cond b 1 0) false loose in
+    omega (arith, more, none)
+length-loose_of (true ∷ loose) (x ∷ sectors) sized =
+    let more = length-loose_of loose sectors (omega arith) in
+    let one = sum_by-cons (λ (b : Bool). cond b 1 0) true loose in
+    omega (arith, more, one)
+
+filling_at : (old new : List Sector) (loose now : List Bool) → length loose ≡ length old → length new ≡ length old → now ≡ loose → Same loose old new
+    → (◌≡◌ {A = VolumeContents} (record { sectors = new; loose = now }) (record { sectors = fill_loose loose old (loose_of now new); loose = loose }))
+    × (length (loose_of now new) ≡ count_by (λ is_loose. is_loose) loose)
+filling_at old new loose now sized long is same = (
+  ap (λ (l : List Bool). record { sectors = new; loose = l }) is
+      ∙ ap (λ (xs : List Sector). volume xs loose) (refill loose old new sized long same ∙ ap (λ (l : List Bool). fill_loose loose old (loose_of l new)) (sym is)),
+  ap (λ (l : List Bool). length (loose_of l new)) is ∙ length-loose_of loose new (omega arith),
+)
+
+pub each_is_a_filling : (capacity : ℕ) (old new : VolumeContents) → IsSized capacity old → DiffersOnlyWhereLoose old new → IsFilling old new
+each_is_a_filling capacity old new sized differs =
+    let h = filling_at old.sectors new.sectors old.loose new.loose (sized.1 ∙ sym sized.0) differs.long differs.same_loose differs.others in
+    record { same = h.0; long = h.1 }
+
+-- ---- a write that failed
+
+tight_outside : (capacity first : ℕ) (n : ℕ) (loose : List Bool) (s : ℕ) → length loose ≡ capacity → first + n ≤ capacity → first ≤ s → s < first + n
+    → slice_get (replaced loose first (replicate n true)) s ≡ Some false → ⊥
+tight_outside capacity first n loose s sized fits from before tight =
+    let k : length (replicate n true) ≡ n = length-replicate n true in
+    let here : slice_get (replaced loose first (replicate n true)) s ≡ Some true =
+    replaced-within loose (replicate n true) first (omega (arith, k, sized)) s from (omega (arith, k)) ∙ slice_get-replicate n (s - first) true (omega arith) in
+    let wrong : Some true ≡ Some false = sym here ∙ tight in cc
+
+broken_others : (capacity first : ℕ) (sectors : List Sector) (old new : VolumeContents) → IsSized capacity old → first + length sectors ≤ capacity → IsBrokenAt first (length sectors) old new
+    → (s : ℕ) → slice_get (volume_written first sectors old).loose s ≡ Some false → slice_get new.sectors s ≡ slice_get (volume_written first sectors old).sectors s
+broken_others capacity first sectors old new sized fits broken s tight =
+    let within : first + length sectors ≤ length old.sectors = omega (arith, sized.0) in
+    elim (cases_lt s first) [
+      | inl less ↦
+          sym (slice_get-take new.sectors first s less) ∙ ap (λ (xs : List Sector). slice_get xs s) broken.before ∙ slice_get-take old.sectors first s less
+          ∙ sym (replaced-before old.sectors sectors first within s less)
+      | inr from ↦ elim (cases_lt s (first + length sectors)) [
+        | inl inside ↦ absurd (tight_outside capacity first (length sectors) old.loose s sized.1 fits from inside tight)
+        | inr past ↦
+            let at : first + length sectors + (s - (first + length sectors)) ≡ s = omega arith in
+            sym (slice_get-drop new.sectors (first + length sectors) (s - (first + length sectors)) ∙ ap (slice_get new.sectors) at)
+            ∙ ap (λ (xs : List Sector). slice_get xs (s - (first + length sectors))) broken.behind
+            ∙ slice_get-drop old.sectors (first + length sectors) (s - (first + length sectors)) ∙ ap (slice_get old.sectors) at
+            ∙ sym (replaced-behind old.sectors sectors first within s past)
+      ]
+    ]
+
+pub broken_is_written : (capacity first : ℕ) (sectors : List Sector) (old new : VolumeContents) → IsSized capacity old → first + length sectors ≤ capacity
+    → IsBrokenAt first (length sectors) old new → DiffersOnlyWhereLoose (volume_written first sectors old) new
+broken_is_written capacity first sectors old new sized fits broken =
+    let wide = written-sized capacity first sectors old sized fits in
+    record {
+      same_loose = broken.loose;
+      long = broken.long ∙ sized.0 ∙ sym wide.0;
+      others = broken_others capacity first sectors old new sized fits broken;
+    }

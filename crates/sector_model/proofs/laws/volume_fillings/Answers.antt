@@ -1,0 +1,11 @@
+use Rattle.sector_model.proofs.Volumes.{filling_nothing, filling_leaves_others, each_is_a_filling}
+use Rattle.sector_model.proofs.laws.volume_fillings.Goals as goal
+
+pub returns-clause-nothing : goal.returns-clause-nothing
+returns-clause-nothing c = filling_nothing
+
+pub returns-clause-others : goal.returns-clause-others
+returns-clause-others c = filling_leaves_others
+
+pub returns-clause-each : goal.returns-clause-each
+returns-clause-each c = each_is_a_filling
