@@ -26,12 +26,6 @@ use Rattle.log_model.proofs.Replaced.{Fits, untouched, length-after_writes}
 pub writes-append : (d : ℕ) (xs ys : List Entry) → writes_of d (xs ++ ys) ≡ writes_of d xs ++ writes_of d ys
 writes-append d xs ys = let found : Entry → Option Replacement = λ e. write_to d e.act in filter_map-append found xs ys
 
--- whether sector s is of a touched block: its block is one of the disk's, and a write touches it
-pub in_touched : (c s : ℕ) (ws : List Replacement) → in_blocks (touched_blocks c ws) s ≡ (list_any (touches (s / 128)) ws && list_any (nat_eq (s / 128)) (range_with_len 0 (block_count c)))
-in_touched c s ws =
-    any-filter_same (nat_eq (s / 128)) (λ b. list_any (touches b) ws) (list_any (touches (s / 128)) ws)
-    (λ b same. ap (λ x. list_any (touches x) ws) (sym (eqb-true (s / 128) b same))) (range_with_len 0 (block_count c))
-
 and_or : (a b r : Bool) → ((a || b) && r) ≡ ((a && r) || (b && r))
 and_or true true true = refl
 and_or true true false = refl
@@ -67,14 +61,6 @@ touched_joins c d i j k log sector first second =
 
 -- ---- the writes of a legal log lie within their disks
 
-fits-push : (c : ℕ) (xs ys : List Replacement) → AllByRecursion (Fits c) xs → AllByRecursion (Fits c) ys → AllByRecursion (Fits c) (xs ++ ys)
-fits-push c [] ys h k = k
-fits-push c (x ∷ xs) ys h k = (h.0, fits-push c xs ys h.1 k)
-
-fits-back : (c : ℕ) (xs ys : List Replacement) → AllByRecursion (Fits c) (xs ++ ys) → AllByRecursion (Fits c) ys
-fits-back c [] ys h = h
-fits-back c (x ∷ xs) ys h = fits-back c xs ys h.1
-
 one_fits_at : (c disk d first : ℕ) (sectors : List Sector) (b : Bool) → eqb disk d ≡ b → (disk ≡ d → first + length sectors ≤ c)
     → AllByRecursion (Fits c) (cons_option (cond b (Some (record { first = first; sectors = sectors })) None) [])
 one_fits_at c disk d first sectors true same h = (h (eqb-true disk d same), tt)
@@ -102,27 +88,6 @@ length-contents capacities d log legal =
     length-after_writes (capacity_of capacities d) (fresh_disk (capacity_of capacities d)) (writes_of d log) (length-replicate (capacity_of capacities d) zero_sector) (writes_fit capacities d log legal)
 
 -- ---- a sector of no touched block
-
-or_true : (a : Bool) → (a || true) ≡ true
-or_true true = refl
-or_true false = refl
-
-and_true : (a k : Bool) → k ≡ true → (a && k) ≡ false → a ≡ false
-and_true true k is h = sym is ∙ h
-and_true false k is h = refl
-
-pub any_below : (b a n : ℕ) → a ≤ b → b < a + n → list_any (nat_eq b) (range_with_len a n) ≡ true
-any_below b a zero from less = absurd (omega arith)
-any_below b a (suc n) from less =
-    elim (cases_eq b a) [
-      | inl same ↦ ap (λ x. x || list_any (nat_eq b) (range_with_len (a + 1) n)) (eq-eqb b a same)
-      | inr other ↦ ap (λ x. nat_eq b a || x) (any_below b (a + 1) n (omega arith) (omega arith)) ∙ or_true (nat_eq b a)
-    ]
-
-not_touched : (c s : ℕ) (ws : List Replacement) → s < c → in_blocks (touched_blocks c ws) s ≡ false → list_any (touches (s / 128)) ws ≡ false
-not_touched c s ws less none =
-    let inside : s / 128 < 0 + block_count c = omega arith in
-    and_true (list_any (touches (s / 128)) ws) (list_any (nat_eq (s / 128)) (range_with_len 0 (block_count c))) (any_below (s / 128) 0 (block_count c) (omega arith) inside) (sym (in_touched c s ws) ∙ none)
 
 pub untouched_stays : UntouchedStays
 untouched_stays capacities d i k log sector legal le none =

@@ -7,4 +7,6 @@ pub mod Exact
 pub mod NextRun
 pub mod PageLaws
 pub mod PageWithin
+pub mod PageFilled
+pub mod Touched
 pub mod Volumes

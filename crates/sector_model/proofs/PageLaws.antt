@@ -44,7 +44,7 @@ areas_from-spaced m start (r ∷ rs) h =
     ]
 
 -- nothing is clipped where all begin behind the sector
-areas_from-later : (start m : ℕ) (rs : List Run) → AreSpacedFrom m rs → start ≤ m → areas_from start rs ≡ rs
+pub areas_from-later : (start m : ℕ) (rs : List Run) → AreSpacedFrom m rs → start ≤ m → areas_from start rs ≡ rs
 areas_from-later start m [] h le = refl
 areas_from-later start m (r ∷ rs) h le =
     let past : start < end_of r = omega (arith, h.0, h.1) in

@@ -2,6 +2,7 @@
 use Rattle.std.proofs.Common.{◌≡◌, ℕ, zero, suc, ◌+◌, ◌-◌, ◌*◌, ◌/◌, ◌<◌, ◌≤◌, min, ◌||◌, not, Bool, true, false, eqb, inl, inr, List, [], ◌∷◌, ◌++◌, length, get_or, take, refl, sym, ap, append_assoc, ◌∙◌, arith}
 use Rattle.std.proofs.Math.ListN.{set}
 use Rattle.std.proofs.lemmas.List.{take_all, take_more, set_split, drop_all}
+use Rattle.std.proofs.Math.Bool.{or-true, or-false}
 use Rattle.std.proofs.lemmas.Bool.{eq-eqb, ne_eqb, cases_eq}
 use Rattle.std.proofs.lemmas.List.Folds.{list_any_more}
 use Rattle.std.specs.List.{list_any}
@@ -90,14 +91,6 @@ with_run-first [] n zero none some = absurd (omega arith)
 with_run-first [] n (suc k) none some = sym (with_run-alone n k)
 with_run-first (r ∷ rs) n k none some = absurd (omega arith)
 
-or_false : (b : Bool) → (b || false) ≡ b
-or_false true = refl
-or_false false = refl
-
-or_true : (b : Bool) → (b || true) ≡ true
-or_true true = refl
-or_true false = refl
-
 -- ---- a stretch behind all others
 
 pub runs_of-stretch : (test other : ℕ → Bool) (n k c : ℕ) → n + k ≤ c → ((s : ℕ) → s < n → test s ≡ other s) → ((s : ℕ) → n ≤ s → s < c → test s ≡ false)
@@ -140,9 +133,9 @@ areas-more blocks i b c rising within read below =
     λ s from. none_of_front blocks i (s / 128) (λ k l w. let h = earlier blocks i k rising l within in omega (arith, h, read)) in
     runs_of-stretch (in_blocks (take i blocks)) (in_blocks (take (i + 1) blocks)) (128 * b) (min 128 (c - 128 * b)) c (omega arith)
     (λ s before. let ne : s / 128 ≡ b → ⊥ = λ e. absurd (omega arith) in
-    sym (joined s ∙ ap (λ y. in_blocks (take i blocks) s || y) (ne_eqb (s / 128) b ne) ∙ or_false (in_blocks (take i blocks) s)))
+    sym (joined s ∙ ap (λ y. in_blocks (take i blocks) s || y) (ne_eqb (s / 128) b ne) ∙ or-false (in_blocks (take i blocks) s)))
     (λ s from before. none_earlier s (omega arith))
-    (λ s from before. joined s ∙ ap (λ y. in_blocks (take i blocks) s || y) (eq-eqb (s / 128) b (omega arith)) ∙ or_true (in_blocks (take i blocks) s))
+    (λ s from before. joined s ∙ ap (λ y. in_blocks (take i blocks) s || y) (eq-eqb (s / 128) b (omega arith)) ∙ or-true (in_blocks (take i blocks) s))
     (λ s from before. let ne : s / 128 ≡ b → ⊥ = λ e. absurd (omega arith) in
     joined s ∙ rw (none_earlier s (omega arith), ne_eqb (s / 128) b ne) refl)
 

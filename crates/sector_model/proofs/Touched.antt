@@ -1,0 +1,39 @@
+-- Blocks that a list of writes touches, and writes that lie within a disk.
+use Rattle.std.proofs.Common.{◌≡◌, ℕ, zero, suc, ◌+◌, ◌/◌, ◌<◌, ◌≤◌, List, [], ◌∷◌, ◌++◌, Bool, true, false, ◌||◌, ◌&&◌, nat_eq, sym, ap, refl, ◌∙◌, arith, inl, inr}
+use Rattle.std.specs.List.{list_any, range_with_len, AllByRecursion}
+use Rattle.std.proofs.Math.Bool.{or-true}
+use Rattle.std.proofs.lemmas.Bool.{cases_eq, eqb-true, eq-eqb}
+use Rattle.std.proofs.lemmas.Map.Views.{any-filter_same}
+use Rattle.sector_model.specs.Disk.{Write, Fits}
+use Rattle.sector_model.specs.Run.{touches, touched_blocks, block_count, in_blocks}
+
+-- whether sector s is of a touched block: its block is one of the disk's, and a write touches it
+pub in_touched : (c s : ℕ) (ws : List Write) → in_blocks (touched_blocks c ws) s ≡ (list_any (touches (s / 128)) ws && list_any (nat_eq (s / 128)) (range_with_len 0 (block_count c)))
+in_touched c s ws =
+    any-filter_same (nat_eq (s / 128)) (λ b. list_any (touches b) ws) (list_any (touches (s / 128)) ws)
+    (λ b same. ap (λ x. list_any (touches x) ws) (sym (eqb-true (s / 128) b same))) (range_with_len 0 (block_count c))
+
+pub fits-push : (c : ℕ) (xs ys : List Write) → AllByRecursion (Fits c) xs → AllByRecursion (Fits c) ys → AllByRecursion (Fits c) (xs ++ ys)
+fits-push c [] ys h k = k
+fits-push c (x ∷ xs) ys h k = (h.0, fits-push c xs ys h.1 k)
+
+pub fits-back : (c : ℕ) (xs ys : List Write) → AllByRecursion (Fits c) (xs ++ ys) → AllByRecursion (Fits c) ys
+fits-back c [] ys h = h
+fits-back c (x ∷ xs) ys h = fits-back c xs ys h.1
+
+and_true : (a k : Bool) → k ≡ true → (a && k) ≡ false → a ≡ false
+and_true true k is h = sym is ∙ h
+and_true false k is h = refl
+
+pub any_below : (b a n : ℕ) → a ≤ b → b < a + n → list_any (nat_eq b) (range_with_len a n) ≡ true
+any_below b a zero from less = absurd (omega arith)
+any_below b a (suc n) from less =
+    elim (cases_eq b a) [
+      | inl same ↦ ap (λ x. x || list_any (nat_eq b) (range_with_len (a + 1) n)) (eq-eqb b a same)
+      | inr other ↦ ap (λ x. nat_eq b a || x) (any_below b (a + 1) n (omega arith) (omega arith)) ∙ or-true (nat_eq b a)
+    ]
+
+pub not_touched : (c s : ℕ) (ws : List Write) → s < c → in_blocks (touched_blocks c ws) s ≡ false → list_any (touches (s / 128)) ws ≡ false
+not_touched c s ws less none =
+    let inside : s / 128 < 0 + block_count c = omega arith in
+    and_true (list_any (touches (s / 128)) ws) (list_any (nat_eq (s / 128)) (range_with_len 0 (block_count c))) (any_below (s / 128) 0 (block_count c) (omega arith) inside) (sym (in_touched c s ws) ∙ none)
