@@ -1,5 +1,6 @@
-pub mod Faults
-pub mod Calls
 pub mod Source
+pub mod MemSource
 pub mod Sink
+pub mod MemSink
 pub mod Disk
+pub mod MemDisk

@@ -1,18 +1,8 @@
--- A source in memory.
-use Rattle.std.specs.Prelude.{ℕ, min, List, length}
-use Rattle.edge_traits.specs.Calls.{CallLog, no_calls}
+-- What a source is to whoever reads from it.
+use Rattle.std.specs.Prelude.{ℕ, List, Option}
 
 pub record SourceState : Type 0 where
-  -- the bytes that it has still to give
-  pub left : List ℕ
-  -- the most bytes that it gives in a call
-  pub piece : ℕ
-  pub calls : CallLog
-
--- a source that was not read yet
-abbrev pub unread : List ℕ → ℕ → List ℕ → SourceState
-unread bytes piece failing = record { left = bytes; piece = piece; calls = no_calls failing }
-
--- how many bytes it gives into a buffer of this length
-abbrev pub next_count : SourceState → ℕ → ℕ
-next_count source room = min source.piece (min room (length source.left))
+  -- the bytes that it has still to give; a source outside, as a file, doesn't tell them
+  pub left : Option (List ℕ)
+  -- how often it has failed, a count that ends at 2^64 - 1
+  pub faults : ℕ

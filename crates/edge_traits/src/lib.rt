@@ -1,16 +1,20 @@
-//! The outside as the rest of the repository sees it: where bytes come from, where they go, and a disk.
-//! Beside each trait stands a type in memory that meets it, whose calls can be made to fail.
+//! The outside as the rest of the repository sees it: where bytes come from, where they go, and a
+//! disk. Beside each trait stands a type in memory that meets it, whose calls can be made to fail.
 #![tactic(auto)]
 
-mod calls;
 mod disk;
-mod refusal;
+mod mem_disk;
+mod mem_sink;
+mod mem_source;
 mod sink;
 mod source;
 #[cfg(test)]
 mod tests;
 
-pub use disk::{Disk, MemDisk};
-pub use refusal::{Failed, NoMemory};
-pub use sink::{MemSink, Sink};
-pub use source::{MemSource, Source};
+pub use basics::{Failed, NoMemory};
+pub use disk::Disk;
+pub use mem_disk::MemDisk;
+pub use mem_sink::MemSink;
+pub use mem_source::MemSource;
+pub use sink::Sink;
+pub use source::Source;

@@ -1,26 +1,26 @@
 ghost use Rattle.std.specs.Prelude.{◌≡◌, ◌<◌, length, OnOk};
 ghost use Rattle.std.specs.Io.KnownBytes.{Appends};
-ghost use Rattle.edge_traits.specs.Faults.{HasCause};
+ghost use Rattle.basics.specs.Faults.{HasCause};
 
 use crate::{Disk, Failed, MemDisk, MemSink, MemSource, Sink, Source};
 use std::test::Fail;
 
 fn first<S: Source>(source: &mut S, buf: &mut [u8]) -> Result<usize, Failed>
     requires { 0 < length buf.old }
-    ensures { HasCause (S.faults source.old) (S.faults source.new) result }
+    ensures { HasCause (S.state source.old).faults (S.state source.new).faults result }
 {
     source.read(buf)
 }
 
 fn put_into<S: Sink>(sink: &mut S, bytes: &[u8]) -> Result<(), Failed>
-    ensures whole { OnOk result (Appends (S.held sink.old) (S.held sink.new) bytes.now) }
-    ensures cause { HasCause (S.faults sink.old) (S.faults sink.new) result }
+    ensures whole { OnOk result (Appends (S.state sink.old).held (S.state sink.new).held bytes.now) }
+    ensures cause { HasCause (S.state sink.old).faults (S.state sink.new).faults result }
 {
     sink.put(bytes)
 }
 
 fn faults_of<D: Disk>(disk: &D) -> u64
-    ensures { result ≡ D.faults disk.now }
+    ensures { result ≡ (D.state disk.now).faults }
 {
     disk.faults()
 }
