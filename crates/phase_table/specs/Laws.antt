@@ -1,10 +1,8 @@
 -- What holds of the table of successors and of every path through it.
-use Rattle.std.specs.Prelude.{◌≡◌, ◌↔◌, List, [], ◌∷◌, Contains, map}
-use Rattle.std.specs.List.{filter}
-use Rattle.std.specs.List.Sorted.{IsStrictlyIncreasing}
+use Rattle.std.specs.Prelude.{◌↔◌, List, [], ◌∷◌, Contains}
 use Rattle.phase_table.specs.declared.phases.Phase.{Phase}
 use Rattle.phase_table.specs.declared.phases.Phase.TheVariants.{Started, CreateInitialSnapshot, StoreInitialIds, CreateVolumes, AddFirstCheckpoint, CopyDisks, CopyingPaused, RemovePreviousSnapshot, CreateSnapshot, StoreIds, AddCheckpoint, StorePowerState, PowerOffSource, WaitForPowerOff, RemovePenultimateSnapshot, CreateFinalSnapshot, AddFinalCheckpoint, CopyFinal, RemoveFinalSnapshot, Completed, Cancelled, Failed}
-use Rattle.phase_table.specs.Paths.{Follows, IsPath, EndsIn, HasNoBackEdge, TakesFinalSnapshot, PassesFinalSnapshot, numbers}
+use Rattle.phase_table.specs.Paths.{Follows, IsPath, EndsIn, HasNoBackEdge, TakesFinalSnapshot, PassesFinalSnapshot, HasRisingNumbers}
 
 -- what comes after each phase, whatever was seen
 abbrev pub successors_of : Phase → List Phase
@@ -48,4 +46,4 @@ NoBackEdgeAfter = (path before after : List Phase)
 -- and each phase there has a number above that of the one before it
 abbrev pub PhasesRiseAfter : Type 0
 PhasesRiseAfter = (path before after : List Phase)
-    → IsPath path → TakesFinalSnapshot path before after → IsStrictlyIncreasing (numbers (AddFinalCheckpoint ∷ after))
+    → IsPath path → TakesFinalSnapshot path before after → HasRisingNumbers (AddFinalCheckpoint ∷ after)

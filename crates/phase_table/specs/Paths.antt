@@ -1,6 +1,5 @@
 -- Paths through the table: lists of phases in which each comes after the one before it.
-use Rattle.std.specs.Prelude.{◌≡◌, ℕ, List, [], ◌∷◌, ◌++◌, Option, Some, None, map}
-use Rattle.std.specs.List.Sorted.{IsStrictlyIncreasing}
+use Rattle.std.specs.Prelude.{◌≡◌, ◌<◌, List, [], ◌∷◌, ◌++◌, Some}
 use Rattle.phase_table.specs.declared.phases.Phase.{Phase}
 use Rattle.phase_table.specs.declared.phases.Phase.TheVariants.{CreateFinalSnapshot, AddFinalCheckpoint}
 use Rattle.phase_table.specs.declared.table.Fact.{Fact}
@@ -29,8 +28,12 @@ HasNoBackEdge [] = Unit {0}
 HasNoBackEdge (phase ∷ []) = Unit {0}
 HasNoBackEdge (phase ∷ later ∷ rest) = ¬ (back_edge_of phase ≡ Some later) × HasNoBackEdge (later ∷ rest)
 
-abbrev pub numbers : List Phase → List ℕ
-numbers path = map phase_number path
+-- each phase of the path has a number above that of the one before it
+abbrev pub HasRisingNumbers : List Phase → Type 0
+HasRisingNumbers [] = Unit {0}
+HasRisingNumbers (phase ∷ []) = Unit {0}
+HasRisingNumbers (phase ∷ later ∷ rest) =
+    (phase_number phase < phase_number later) × HasRisingNumbers (later ∷ rest)
 
 -- the path is `before`, then the step that the final snapshot makes, then `after`
 abbrev pub TakesFinalSnapshot : (path before after : List Phase) → Type 0
