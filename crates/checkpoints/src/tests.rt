@@ -1,0 +1,64 @@
+//! The public calls once, and what no clause says.
+ghost use Rattle.std.specs.Prelude.{◌≡◌, [], ◌∷◌, Some, None, true, false};
+ghost use Rattle.checkpoints.specs.Import.{fresh, add_refusal, after_add, after_done, done_refusal, phase_of};
+
+use crate::{CheckRefused, Checkpoint, DataVolume, DvPhase};
+use std::test::Fail;
+
+/// The definitions on small imports. The proof computes them.
+fn definitions_on_small_imports()
+    ensures first { add_refusal fresh 0 1 ≡ None }
+    ensures no_first { add_refusal fresh 1 2 ≡ Some CheckRefused.Order }
+    ensures nothing_done { done_refusal fresh.checkpoints ≡ Some CheckRefused.Order }
+    ensures unfinished { add_refusal (after_add fresh 0 1 false) 1 2 ≡ Some CheckRefused.Order }
+    ensures next { add_refusal (after_done (after_add fresh 0 1 false)) 1 2 ≡ None }
+    ensures same { add_refusal (after_done (after_add fresh 0 1 false)) 1 1 ≡ Some CheckRefused.Order }
+    ensures other { add_refusal (after_done (after_add fresh 0 1 false)) 0 2 ≡ Some CheckRefused.Order }
+    ensures after_final { add_refusal (after_add fresh 0 1 true) 0 1 ≡ Some CheckRefused.Final }
+    ensures twice { done_refusal (after_done (after_add fresh 0 1 false)).checkpoints ≡ Some CheckRefused.Order }
+    ensures pending { phase_of fresh ≡ DvPhase.Pending }
+    ensures running { phase_of (after_add fresh 0 1 true) ≡ DvPhase.InProgress }
+    ensures paused { phase_of (after_done (after_add fresh 0 1 false)) ≡ DvPhase.Paused }
+    ensures succeeded { phase_of (after_done (after_add fresh 0 1 true)) ≡ DvPhase.Succeeded }
+{}
+
+#[test]
+fn an_import_in_two_stages(rt: HostRuntime) -> Result<(), Fail> {
+    definitions_on_small_imports();
+    let mut volume = DataVolume::new(rt.alloc());
+    assert_eq!(rt; volume.phase(), DvPhase::Pending);
+    volume.add(0, 1, false)?;
+    assert_eq!(rt; volume.phase(), DvPhase::InProgress);
+    assert_eq!(rt; volume.add(1, 2, false), Err(CheckRefused::Order));
+    volume.done()?;
+    assert_eq!(rt; volume.done(), Err(CheckRefused::Order));
+    assert_eq!(rt; volume.phase(), DvPhase::Paused);
+    volume.add(1, 4, true)?;
+    assert_eq!(rt; volume.add(4, 5, true), Err(CheckRefused::Final));
+    volume.done()?;
+    assert_eq!(rt; volume.phase(), DvPhase::Succeeded);
+    assert!(rt; volume.final_checkpoint());
+    let checkpoint = |previous, current| Checkpoint {
+        previous,
+        current,
+        done: true,
+    };
+    assert_eq!(rt;
+        volume.checkpoints(),
+        [checkpoint(0, 1), checkpoint(1, 4)].as_slice()
+    );
+    Ok(())
+}
+
+#[test]
+fn refusals_have_numbers_and_texts(rt: HostRuntime) -> Result<(), Fail> {
+    assert_eq!(rt; CheckRefused::Order.number(), Some(1));
+    assert_eq!(rt; CheckRefused::Final.number(), Some(2));
+    assert_eq!(rt; CheckRefused::NoMemory.number(), None);
+    let printed = format!(in rt.alloc(); "{}, {}", CheckRefused::Final, DvPhase::InProgress)?;
+    assert_eq!(rt;
+        printed.as_str(),
+        "the final checkpoint was added before, InProgress"
+    );
+    Ok(())
+}

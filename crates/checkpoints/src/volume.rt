@@ -1,0 +1,121 @@
+//! The checkpoints of one data volume, in the order in which they were added.
+ghost use Rattle.std.specs.Prelude.{◌≡◌, OnOk, OnErr};
+ghost use Rattle.checkpoints.specs.Import.{fresh, goes_on, add_refusal, after_add, with_last_done, done_refusal, after_done, phase_of, IsRefusedBy, IsRefusedByOrNoMemory};
+
+use crate::{CheckRefused, Checkpoint, DvPhase};
+use std::alloc::Global;
+use std::marker::Model;
+
+/// A data volume that is imported in stages. Callers see it as the list of its checkpoints, and
+/// whether the final one is among them.
+#[derive(Debug, Drop)]
+pub struct DataVolume {
+    checkpoints: Vec<Checkpoint>,
+    has_final: bool,
+}
+
+impl Model for DataVolume {
+    ghost use Rattle.checkpoints.specs.Import.{Import};
+
+    ghost Value = { Import };
+
+    ghost view = { λ v. record { checkpoints = v.checkpoints.items; has_final = v.has_final } };
+}
+
+impl DataVolume {
+    /// A data volume without a checkpoint. What is added is kept on `alloc`.
+    pub fn new(alloc: Global) -> DataVolume
+        ensures { result ≡ fresh }
+    {
+        DataVolume {
+            checkpoints: Vec::new(alloc),
+            has_final: false,
+        }
+    }
+
+    /// Adds the checkpoint from snapshot `previous`, or 0 for none, to snapshot `current`, the final
+    /// one where `last`. [`CheckRefused::Final`] where the final one was added before;
+    /// [`CheckRefused::Order`] where the last checkpoint isn't done, `previous` isn't the snapshot
+    /// that it copied (0 where there is none), or `current` isn't above `previous`.
+    pub fn add(&mut self, previous: u32, current: u32, last: bool) -> Result<(), CheckRefused>
+        ensures refused { IsRefusedByOrNoMemory (add_refusal self.old previous current) result }
+        ensures added { OnOk result (self.new ≡ after_add self.old previous current last) }
+        ensures kept { OnErr result (self.new ≡ self.old) }
+    {
+        if self.has_final {
+            return Err(CheckRefused::Final);
+        }
+        if !self.goes_on(previous, current) {
+            return Err(CheckRefused::Order);
+        }
+        self.checkpoints.push(Checkpoint {
+            previous,
+            current,
+            done: false,
+        })?;
+        self.has_final = last;
+        Ok(())
+    }
+
+    /// The last checkpoint is copied. [`CheckRefused::Order`] where there is none, or it was done
+    /// before.
+    pub fn done(&mut self) -> Result<(), CheckRefused>
+        ensures refused { IsRefusedBy (done_refusal self.old.checkpoints) result }
+        ensures finished { OnOk result (self.new ≡ after_done self.old) }
+        ensures kept { OnErr result (self.new ≡ self.old) }
+    {
+        finish_last(&mut self.checkpoints)
+    }
+
+    /// The checkpoints, in the order in which they were added.
+    pub fn checkpoints(&self) -> &[Checkpoint]
+        ensures { result.now ≡ self.now.checkpoints }
+    {
+        self.checkpoints.as_slice()
+    }
+
+    /// Whether the final checkpoint was added.
+    pub fn final_checkpoint(&self) -> bool
+        ensures { result ≡ self.now.has_final }
+    {
+        self.has_final
+    }
+
+    /// How far the import is.
+    pub fn phase(&self) -> DvPhase
+        ensures { result ≡ phase_of self.now }
+    {
+        match self.checkpoints.last() {
+            None => DvPhase::Pending,
+            Some(checkpoint) if !checkpoint.done => DvPhase::InProgress,
+            Some(_) if self.has_final => DvPhase::Succeeded,
+            Some(_) => DvPhase::Paused,
+        }
+    }
+
+    // Whether a checkpoint between these snapshots goes on from the last one.
+    fn goes_on(&self, previous: u32, current: u32) -> bool
+        ensures { result ≡ goes_on self.now.checkpoints previous current }
+    {
+        let (reached, done) = match self.checkpoints.last() {
+            None => (0, true),
+            Some(checkpoint) => (checkpoint.current, checkpoint.done),
+        };
+        done && previous == reached && current > previous
+    }
+}
+
+fn finish_last(checkpoints: &mut Vec<Checkpoint>) -> Result<(), CheckRefused>
+    ensures refused { IsRefusedBy (done_refusal checkpoints.old.items) result }
+    ensures finished { OnOk result (checkpoints.new.items ≡ with_last_done checkpoints.old.items) }
+    ensures kept { OnErr result (checkpoints.new.items ≡ checkpoints.old.items) }
+{
+    let Some(checkpoint) = checkpoints.last_mut() else {
+        return Err(CheckRefused::Order);
+    };
+    if checkpoint.done {
+        return Err(CheckRefused::Order);
+    }
+    checkpoint.done = true;
+    Ok(())
+}

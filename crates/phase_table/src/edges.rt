@@ -1,0 +1,66 @@
+//! What comes after each phase.
+ghost use Rattle.std.specs.Prelude.{◌≡◌};
+ghost use Rattle.phase_table.specs.Successors.{all_rows, back_edge_of};
+ghost use Rattle.phase_table.specs.Rows.{successor_in};
+
+use crate::{Fact, Phase};
+
+/// The phase that a migration in `phase` is in after it has seen `fact`. None where nothing comes
+/// after that.
+pub fn next(phase: Phase, fact: Fact) -> Option<Phase>
+    ensures { result ≡ successor_in all_rows phase fact }
+{
+    macro_rules! successors {
+        ($($phase:ident: $($fact:ident => $successor:ident),+;)*) => {
+            match phase {
+                $(Phase::$phase => match fact {
+                    $(Fact::$fact => Some(Phase::$successor),)+
+                    Fact::Cancelled => Some(Phase::Cancelled),
+                    Fact::Failed => Some(Phase::Failed),
+                    _ => None,
+                },)*
+                Phase::Completed | Phase::Cancelled | Phase::Failed => None,
+            }
+        };
+    }
+    successors! {
+        Started: Done => CreateInitialSnapshot;
+        CreateInitialSnapshot: Done => StoreInitialIds;
+        StoreInitialIds: Done => CreateVolumes;
+        CreateVolumes: Done => AddFirstCheckpoint;
+        AddFirstCheckpoint: Done => CopyDisks;
+        CopyDisks: Done => CopyingPaused;
+        CopyingPaused: Precopy => RemovePreviousSnapshot, Cutover => StorePowerState;
+        RemovePreviousSnapshot: Done => CreateSnapshot;
+        CreateSnapshot: Done => StoreIds;
+        StoreIds: Done => AddCheckpoint;
+        AddCheckpoint: Done => CopyDisks;
+        StorePowerState: Done => PowerOffSource;
+        PowerOffSource: Done => WaitForPowerOff;
+        WaitForPowerOff: Done => RemovePenultimateSnapshot, Running => PowerOffSource;
+        RemovePenultimateSnapshot: Done => CreateFinalSnapshot;
+        CreateFinalSnapshot: Done => AddFinalCheckpoint, Running => PowerOffSource;
+        AddFinalCheckpoint: Done => CopyFinal;
+        CopyFinal: Done => RemoveFinalSnapshot;
+        RemoveFinalSnapshot: Done => Completed;
+    }
+}
+
+/// The phase that a migration goes back to where its machine, which should be off, is on. None
+/// where the phase has no such edge.
+pub fn back_edge(phase: Phase) -> Option<Phase>
+    ensures { result ≡ back_edge_of phase }
+{
+    macro_rules! back_edges {
+        ($($phase:ident => $earlier:ident;)*) => {
+            match phase {
+                $(Phase::$phase => Some(Phase::$earlier),)*
+                _ => None,
+            }
+        };
+    }
+    back_edges! {
+        WaitForPowerOff => PowerOffSource;
+        CreateFinalSnapshot => PowerOffSource;
+    }
+}
