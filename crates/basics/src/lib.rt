@@ -5,9 +5,11 @@
 mod calls;
 mod name;
 mod refusal;
+mod spelled;
 #[cfg(test)]
 mod tests;
 
 pub use calls::Calls;
 pub use name::{MAX_NAME_BYTES, Name};
 pub use refusal::{Failed, NoMemory};
+pub use spelled::is_name;

@@ -1,4 +1,4 @@
-use crate::{Calls, Failed, Name};
+use crate::{Calls, Failed, Name, is_name};
 use std::test::Fail;
 
 #[test]
@@ -24,4 +24,34 @@ fn names_are_in_the_order_of_their_bytes(rt: HostRuntime) -> Result<(), Fail> {
     assert!(rt; short.clone()? == short);
     assert_eq!(rt; long.as_str(), "aa");
     Ok(())
+}
+
+#[test]
+fn names_have_letters_digits_and_hyphens_alone(rt: HostRuntime) {
+    let names = [
+        "a",
+        "z",
+        "0",
+        "9",
+        "-",
+        "vm-1",
+        "abcdefghijklmnopqrstuvwxyz012345",
+    ];
+    for name in names {
+        assert!(rt; is_name(name.as_bytes()), "{name}");
+    }
+    let others = [
+        "",
+        "A",
+        "a b",
+        "m1.d0",
+        "ä",
+        "{",
+        "/",
+        ":",
+        "abcdefghijklmnopqrstuvwxyz0123456",
+    ];
+    for other in others {
+        assert!(rt; !is_name(other.as_bytes()), "{other}");
+    }
 }

@@ -1,19 +1,20 @@
 -- What each step through the table is like, computed for every phase and fact.
 use Rattle.std.proofs.Common.{◌≡◌, ℕ, ◌<◌, ◌≤◌, Bool, true, false, List, [], ◌∷◌, Option, Some, None, refl, sym, ap, ◌∙◌, ◌⊎◌, arith}
-use Rattle.std.specs.Prelude.{◌==◌, ◌&&◌, ◌||◌, nat_lt, nat_le, slice_index_or}
-use Rattle.std.specs.List.{list_any, AllByRecursion}
+use Rattle.std.specs.Prelude.{◌==◌, ◌&&◌, ◌||◌, nat_lt, nat_le, slice_index_or, option_map, cond}
+use Rattle.std.specs.List.{list_any, find, AllByRecursion}
 use Rattle.std.proofs.lemmas.Bool.Decides.{nat_tests}
-use Rattle.std.proofs.lemmas.List.Elements.{All-from_recursion, All-contains}
+use Rattle.std.proofs.lemmas.List.Elements.{All-from_recursion, recursion_from_All, All-contains}
 use Rattle.std.proofs.lemmas.Map.Views.{Contains-from_any}
 use Rattle.phase_table.specs.declared.phases.Phase.{Phase}
-use Rattle.phase_table.specs.declared.phases.Phase.TheVariants.{Started, CreateInitialSnapshot, StoreInitialIds, CreateVolumes, AddFirstCheckpoint, CopyDisks, CopyingPaused, RemovePreviousSnapshot, CreateSnapshot, StoreIds, AddCheckpoint, StorePowerState, PowerOffSource, WaitForPowerOff, RemovePenultimateSnapshot, CreateFinalSnapshot, AddFinalCheckpoint, CopyFinal, RemoveFinalSnapshot, Completed, Cancelled, Failed}
+use Rattle.phase_table.specs.declared.phases.Phase.TheVariants.{Started, CopyingPaused, WaitForPowerOff, CreateFinalSnapshot, Completed, Cancelled, Failed}
 use Rattle.phase_table.specs.declared.table.Fact.{Fact}
 use Rattle.phase_table.specs.declared.table.Fact.TheVariants.{Done, Precopy, Cutover, Running, Cancelled as Cancel, Failed as Fail}
-use Rattle.phase_table.specs.Phases.{phase_number}
-use Rattle.phase_table.specs.Rows.{successor_in}
-use Rattle.phase_table.specs.Successors.{all_rows, back_edge_of}
+use Rattle.phase_table.specs.Phases.{phase_number, all_phases}
+use Rattle.phase_table.specs.declared.table.Row.{Row}
+use Rattle.phase_table.specs.Table.{fact_number, fits, Fits, successor_in}
+use Rattle.phase_table.specs.Edges.{all_rows, back_edge_of}
 use Rattle.phase_table.specs.Paths.{Follows}
-use Rattle.phase_table.specs.Laws.{successors_of, SuccessorsAreThose}
+use Rattle.phase_table.specs.Laws.{successors_of, SuccessorsAreThose, EndsHaveNoSuccessor, FitsMeans, NoneWhereNoRowFits, NumbersDiffer}
 
 abbrev holds_of : (Phase → Bool) → Option Phase → Bool
 holds_of test None = true
@@ -27,8 +28,11 @@ early_step p q = nat_lt 16 (phase_number p) || (nat_le (phase_number q) 16 || (n
 abbrev pub late_step : Phase → Phase → Bool
 late_step p q = nat_lt (phase_number p) 17 || nat_lt (phase_number p) (phase_number q)
 
-abbrev pub listed : Phase → Phase → Bool
-listed p q = list_any (λ x. phase_number q == phase_number x) (successors_of p)
+abbrev pub same_edge : Fact × Phase → Fact × Phase → Bool
+same_edge a b = phase_number a.1 == phase_number b.1 && fact_number a.0 == fact_number b.0
+
+abbrev pub listed : Phase → Fact → Phase → Bool
+listed p f q = list_any (λ edge. same_edge (f, q) edge) (successors_of p)
 
 late_means : (m n : ℕ) → 17 ≤ m → (nat_lt m 17 || nat_lt m n) ≡ true → m < n
 late_means m n h test = grind (arith, nat_tests)
@@ -40,13 +44,10 @@ early_means : (m n : ℕ) → m ≤ 16 → (nat_lt 16 m || (nat_le n 16 || (nat_
     → (n ≤ 16) ⊎ ((21 ≤ n) ⊎ ((m ≡ 16) × (n ≡ 17)))
 early_means m n h test = grind (arith, nat_tests)
 
-abbrev all_phases : List Phase
-all_phases = Started ∷ Started ∷ CreateInitialSnapshot ∷ StoreInitialIds ∷ CreateVolumes ∷ AddFirstCheckpoint ∷ CopyDisks ∷ CopyingPaused ∷ RemovePreviousSnapshot ∷ CreateSnapshot ∷ StoreIds ∷ AddCheckpoint ∷ StorePowerState ∷ PowerOffSource ∷ WaitForPowerOff ∷ RemovePenultimateSnapshot ∷ CreateFinalSnapshot ∷ AddFinalCheckpoint ∷ CopyFinal ∷ RemoveFinalSnapshot ∷ Completed ∷ Cancelled ∷ Failed ∷ []
+abbrev pub step_test : Phase → Fact → Phase → Bool
+step_test p f q = early_step p q && (late_step p q && listed p f q)
 
-abbrev step_test : Phase → Phase → Bool
-step_test p q = early_step p q && (late_step p q && listed p q)
-
-each_step : (f : Fact) (p : Phase) → holds_of (step_test p) (successor_in all_rows p f) ≡ true
+each_step : (f : Fact) (p : Phase) → holds_of (step_test p f) (successor_in all_rows p f) ≡ true
 each_step Done Started = refl
 each_step Done _ = refl
 each_step Precopy Started = refl
@@ -60,25 +61,23 @@ each_step Cancel _ = refl
 each_step Fail Started = refl
 each_step Fail _ = refl
 
-step_holds : (p q : Phase) → Follows p q → step_test p q ≡ true
-step_holds p q (f, e) = ap (holds_of (step_test p)) (sym e) ∙ each_step f p
-
 three_tests : (a b d : Bool) → (a && (b && d)) ≡ true → (a ≡ true) × (b ≡ true) × (d ≡ true)
 three_tests true true true e = (refl, refl, refl)
 three_tests false b d e = cc
 three_tests true false d e = cc
 three_tests true true false e = cc
 
+step_holds : (p q : Phase) (f : Fact) → successor_in all_rows p f ≡ Some q
+    → (early_step p q ≡ true) × (late_step p q ≡ true) × (listed p f q ≡ true)
+step_holds p q f e =
+    three_tests (early_step p q) (late_step p q) (listed p f q) (ap (holds_of (step_test p f)) (sym e) ∙ each_step f p)
+
 pub late_rises : (p q : Phase) → 17 ≤ phase_number p → Follows p q → phase_number p < phase_number q
-late_rises p q h follows =
-    let tests = three_tests (early_step p q) (late_step p q) (listed p q) (step_holds p q follows) in
-    late_means (phase_number p) (phase_number q) h tests.1
+late_rises p q h (f, e) = late_means (phase_number p) (phase_number q) h (step_holds p q f e).1
 
 pub early_goes : (p q : Phase) → phase_number p ≤ 16 → Follows p q
     → (phase_number q ≤ 16) ⊎ ((21 ≤ phase_number q) ⊎ ((phase_number p ≡ 16) × (phase_number q ≡ 17)))
-early_goes p q h follows =
-    let tests = three_tests (early_step p q) (late_step p q) (listed p q) (step_holds p q follows) in
-    early_means (phase_number p) (phase_number q) h tests.0
+early_goes p q h (f, e) = early_means (phase_number p) (phase_number q) h (step_holds p q f e).0
 
 each_back_edge_early : (p : Phase) → holds_of (λ q. nat_lt (phase_number p) 17) (back_edge_of p) ≡ true
 each_back_edge_early Started = refl
@@ -90,46 +89,116 @@ no_late_back_edge p q h e =
     late_means_not (phase_number p) h test
 
 abbrev pub phase_of : ℕ → Phase
-phase_of n = slice_index_or all_phases n Failed
+phase_of n = slice_index_or (Started ∷ all_phases) n Failed
 
 pub phase_of_number : (p : Phase) → phase_of (phase_number p) ≡ p
 phase_of_number Started = refl
 phase_of_number _ = refl
 
-same_number : (m n : ℕ) → (m == n) ≡ true → m ≡ n
-same_number m n e = grind (arith, nat_tests)
+abbrev fact_of : ℕ → Fact
+fact_of n = slice_index_or (Done ∷ Precopy ∷ Cutover ∷ Running ∷ Cancel ∷ Fail ∷ []) n Fail
 
-same_phase : (p q : Phase) → (phase_number p == phase_number q) ≡ true → p ≡ q
-same_phase p q e =
-    let n : phase_number p ≡ phase_number q = same_number (phase_number p) (phase_number q) e in
-    sym (phase_of_number p) ∙ ap phase_of n ∙ phase_of_number q
+fact_of_number : (f : Fact) → fact_of (fact_number f) ≡ f
+fact_of_number Done = refl
+fact_of_number _ = refl
 
-follows_each : (p : Phase) → AllByRecursion (Follows p) (successors_of p)
-follows_each Started = ((Done, refl), ((Cancel, refl), ((Fail, refl), tt)))
-follows_each CreateInitialSnapshot = ((Done, refl), ((Cancel, refl), ((Fail, refl), tt)))
-follows_each StoreInitialIds = ((Done, refl), ((Cancel, refl), ((Fail, refl), tt)))
-follows_each CreateVolumes = ((Done, refl), ((Cancel, refl), ((Fail, refl), tt)))
-follows_each AddFirstCheckpoint = ((Done, refl), ((Cancel, refl), ((Fail, refl), tt)))
-follows_each CopyDisks = ((Done, refl), ((Cancel, refl), ((Fail, refl), tt)))
-follows_each RemovePreviousSnapshot = ((Done, refl), ((Cancel, refl), ((Fail, refl), tt)))
-follows_each CreateSnapshot = ((Done, refl), ((Cancel, refl), ((Fail, refl), tt)))
-follows_each StoreIds = ((Done, refl), ((Cancel, refl), ((Fail, refl), tt)))
-follows_each AddCheckpoint = ((Done, refl), ((Cancel, refl), ((Fail, refl), tt)))
-follows_each StorePowerState = ((Done, refl), ((Cancel, refl), ((Fail, refl), tt)))
-follows_each PowerOffSource = ((Done, refl), ((Cancel, refl), ((Fail, refl), tt)))
-follows_each RemovePenultimateSnapshot = ((Done, refl), ((Cancel, refl), ((Fail, refl), tt)))
-follows_each AddFinalCheckpoint = ((Done, refl), ((Cancel, refl), ((Fail, refl), tt)))
-follows_each CopyFinal = ((Done, refl), ((Cancel, refl), ((Fail, refl), tt)))
-follows_each RemoveFinalSnapshot = ((Done, refl), ((Cancel, refl), ((Fail, refl), tt)))
-follows_each CopyingPaused = ((Precopy, refl), ((Cutover, refl), ((Cancel, refl), ((Fail, refl), tt))))
-follows_each WaitForPowerOff = ((Done, refl), ((Running, refl), ((Cancel, refl), ((Fail, refl), tt))))
-follows_each CreateFinalSnapshot = ((Done, refl), ((Running, refl), ((Cancel, refl), ((Fail, refl), tt))))
-follows_each Completed = tt
-follows_each Cancelled = tt
-follows_each Failed = tt
+pub numbers_differ : NumbersDiffer
+numbers_differ p q e = sym (phase_of_number p) ∙ ap phase_of e ∙ phase_of_number q
+
+facts_differ : (f g : Fact) → fact_number f ≡ fact_number g → f ≡ g
+facts_differ f g e = sym (fact_of_number f) ∙ ap fact_of e ∙ fact_of_number g
+
+two_numbers : (a b m n : ℕ) → (a == b && m == n) ≡ true → (a ≡ b) × (m ≡ n)
+two_numbers a b m n e = grind (arith, nat_tests)
+
+two_same : (a b m n : ℕ) → a ≡ b → m ≡ n → (a == b && m == n) ≡ true
+two_same a b m n e f = grind (arith, nat_tests)
+
+edges_same : (a b : Fact × Phase) → same_edge a b ≡ true → a ≡ b
+edges_same (f, p) (g, q) e =
+    let n = two_numbers (phase_number p) (phase_number q) (fact_number f) (fact_number g) e in
+    let phases : p ≡ q = numbers_differ p q n.0 in
+    let facts : f ≡ g = facts_differ f g n.1 in
+    ap (λ (x : Phase). (f, x)) phases ∙ ap (λ (x : Fact). (x, q)) facts
+
+pub fits_means : FitsMeans
+fits_means p f row = (
+  λ e. let n = two_numbers (phase_number row.phase) (phase_number p) (fact_number row.fact) (fact_number f) e in
+      record { same_phase = numbers_differ row.phase p n.0; same_fact = facts_differ row.fact f n.1 },
+  λ h. two_same (phase_number row.phase) (phase_number p) (fact_number row.fact) (fact_number f)
+      (ap phase_number h.same_phase) (ap fact_number h.same_fact),
+)
+
+not_true : false ≡ true → ⊥
+not_true e = cc
+
+abbrev Misses : Phase → Fact → Row → Type 0
+Misses p f row = ¬ (Fits p f row)
+
+not_some : (q : Phase) → Some q ≡ None → ⊥
+not_some q e = cc
+
+-- by what the test of the first row gives
+none_split : (p : Phase) (f : Fact) (row : Row) (rows : List Row) (b : Bool) → fits p f row ≡ b
+    → option_map (λ r. r.successor) (cond b (Some row) (find (λ r. fits p f r) rows)) ≡ None
+    → (successor_in rows p f ≡ None → AllByRecursion (Misses p f) rows)
+    → AllByRecursion (Misses p f) (row ∷ rows)
+none_split p f row rows true e none rest = absurd (not_some row.successor none)
+none_split p f row rows false e none rest =
+    ((λ h. not_true (sym e ∙ (fits_means p f row).1 h)), rest none)
+
+none_misses : (p : Phase) (f : Fact) (rows : List Row) → successor_in rows p f ≡ None → AllByRecursion (Misses p f) rows
+none_misses p f [] none = tt
+none_misses p f (row ∷ rows) none = none_split p f row rows (fits p f row) refl none (none_misses p f rows)
+
+misses_split : (p : Phase) (f : Fact) (row : Row) (rows : List Row) (b : Bool) → fits p f row ≡ b
+    → Misses p f row → successor_in rows p f ≡ None
+    → option_map (λ r. r.successor) (cond b (Some row) (find (λ r. fits p f r) rows)) ≡ None
+misses_split p f row rows true e miss none = absurd (miss ((fits_means p f row).0 e))
+misses_split p f row rows false e miss none = none
+
+misses_none : (p : Phase) (f : Fact) (rows : List Row) → AllByRecursion (Misses p f) rows → successor_in rows p f ≡ None
+misses_none p f [] h = refl
+misses_none p f (row ∷ rows) h = misses_split p f row rows (fits p f row) refl h.0 (misses_none p f rows h.1)
+
+pub none_where_no_row_fits : NoneWhereNoRowFits
+none_where_no_row_fits rows p f = (
+  λ none. All-from_recursion (Misses p f) rows (none_misses p f rows none),
+  λ all. misses_none p f rows (recursion_from_All (Misses p f) rows all),
+)
+
+abbrev Leads : Phase → Fact × Phase → Type 0
+Leads p edge = successor_in all_rows p edge.0 ≡ Some edge.1
+
+leads_each : (p : Phase) → AllByRecursion (Leads p) (successors_of p)
+leads_each CopyingPaused = (refl, (refl, (refl, (refl, tt))))
+leads_each WaitForPowerOff = (refl, (refl, (refl, (refl, tt))))
+leads_each CreateFinalSnapshot = (refl, (refl, (refl, (refl, tt))))
+leads_each Completed = tt
+leads_each Cancelled = tt
+leads_each Failed = tt
+leads_each _ = (refl, (refl, (refl, tt)))
 
 pub successors_are_those : SuccessorsAreThose
-successors_are_those p q = (
-  λ follows. Contains-from_any same_phase q (successors_of p) (three_tests (early_step p q) (late_step p q) (listed p q) (step_holds p q follows)).2,
-  λ listed. All-contains (Follows p) (successors_of p) q (All-from_recursion (Follows p) (successors_of p) (follows_each p)) listed,
+successors_are_those p f q = (
+  λ e. Contains-from_any edges_same (f, q) (successors_of p) (step_holds p q f e).2,
+  λ inside. All-contains (Leads p) (successors_of p) (f, q) (All-from_recursion (Leads p) (successors_of p) (leads_each p)) inside,
 )
+
+nothing_behind_completed : (f : Fact) → successor_in all_rows Completed f ≡ None
+nothing_behind_completed Done = refl
+nothing_behind_completed _ = refl
+
+nothing_behind_cancelled : (f : Fact) → successor_in all_rows Cancelled f ≡ None
+nothing_behind_cancelled Done = refl
+nothing_behind_cancelled _ = refl
+
+nothing_behind_failed : (f : Fact) → successor_in all_rows Failed f ≡ None
+nothing_behind_failed Done = refl
+nothing_behind_failed _ = refl
+
+pub ends_have_no_successor : EndsHaveNoSuccessor
+ends_have_no_successor Completed = (λ t. nothing_behind_completed, λ h. refl)
+ends_have_no_successor Cancelled = (λ t. nothing_behind_cancelled, λ h. refl)
+ends_have_no_successor Failed = (λ t. nothing_behind_failed, λ h. refl)
+ends_have_no_successor _ = (λ t. absurd (not_true t), λ h. absurd (not_some Cancelled (h Cancel)))

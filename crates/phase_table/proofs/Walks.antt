@@ -1,33 +1,52 @@
 -- Paths through the table, step by step.
-use Rattle.std.proofs.Common.{◌≡◌, ◌≤◌, List, [], ◌∷◌, ◌++◌, sym, ap, ◌∙◌, subst, inl, inr, arith, lit≤}
+use Rattle.std.proofs.Common.{◌≡◌, ◌≤◌, List, [], ◌∷◌, ◌++◌, Some, None, sym, ap, ◌∙◌, subst, inl, inr, arith, lit≤}
+use Rattle.std.specs.List.{last_or}
 use Rattle.phase_table.specs.declared.phases.Phase.{Phase}
 use Rattle.phase_table.specs.declared.phases.Phase.TheVariants.{Started, CreateFinalSnapshot, AddFinalCheckpoint, Completed}
 use Rattle.phase_table.specs.Phases.{phase_number}
-use Rattle.phase_table.specs.Paths.{IsPath, EndsIn, HasNoBackEdge, HasRisingNumbers, TakesFinalSnapshot, PassesFinalSnapshot}
-use Rattle.phase_table.specs.Laws.{FinalSnapshotIsPassed, NoBackEdgeAfter, PhasesRiseAfter}
+use Rattle.phase_table.specs.Paths.{Follows, IsPath, EndsIn, IsNoBackEdge, HasNoBackEdge, Rises, EachStep, TakesFinalSnapshot, PassesFinalSnapshot}
+use Rattle.phase_table.specs.Laws.{FrontsArePaths, PathsGrow, FinalSnapshotIsPassed, NoBackEdgeAfter, PhasesRiseAfter}
 use Rattle.phase_table.proofs.Steps.{late_rises, early_goes, no_late_back_edge, phase_of, phase_of_number}
 
-tail_is_path : (p : Phase) (rest : List Phase) → IsPath (p ∷ rest) → IsPath rest
-tail_is_path p [] h = tt
-tail_is_path p (q ∷ rest) h = h.1
+tail_has : (R : Phase → Phase → Type 0) (p : Phase) (rest : List Phase) → EachStep R (p ∷ rest) → EachStep R rest
+tail_has R p [] h = tt
+tail_has R p (q ∷ rest) h = h.1
 
-suffix_is_path : (before rest : List Phase) → IsPath (before ++ rest) → IsPath rest
+pub suffix_is_path : (before rest : List Phase) → IsPath (before ++ rest) → IsPath rest
 suffix_is_path [] rest h = h
-suffix_is_path (p ∷ before) rest h = suffix_is_path before rest (tail_is_path p (before ++ rest) h)
+suffix_is_path (p ∷ before) rest h = suffix_is_path before rest (tail_has Follows p (before ++ rest) h)
+
+pub fronts_are_paths : FrontsArePaths
+fronts_are_paths [] rest h = tt
+fronts_are_paths (p ∷ []) rest h = tt
+fronts_are_paths (p ∷ q ∷ front) rest h = (h.0, fronts_are_paths (q ∷ front) rest h.1)
+
+pub paths_grow : PathsGrow
+paths_grow [] p q h follows = (follows, tt)
+paths_grow (x ∷ []) p q h follows = (h.0, (follows, tt))
+paths_grow (x ∷ y ∷ path) p q h follows = (h.0, paths_grow (y ∷ path) p q h.1 follows)
+
+-- what every step from the final checkpoint on has, every path from there on has
+late_steps_have : (R : Phase → Phase → Type 0)
+    → ((p q : Phase) → 17 ≤ phase_number p → Follows p q → R p q)
+    → (p : Phase) (rest : List Phase) → 17 ≤ phase_number p → IsPath (p ∷ rest) → EachStep R (p ∷ rest)
+late_steps_have R each p [] h path = tt
+late_steps_have R each p (q ∷ rest) h path =
+    (each p q h path.0, late_steps_have R each q rest (let r = late_rises p q h path.0 in omega arith) path.1)
 
 late_has_no_back_edge : (p : Phase) (rest : List Phase) → 17 ≤ phase_number p → IsPath (p ∷ rest) → HasNoBackEdge (p ∷ rest)
-late_has_no_back_edge p [] h path = tt
-late_has_no_back_edge p (q ∷ rest) h path =
-    (no_late_back_edge p q h, late_has_no_back_edge q rest (let r = late_rises p q h path.0 in omega arith) path.1)
+late_has_no_back_edge p rest h path =
+    late_steps_have IsNoBackEdge (λ p q h follows. no_late_back_edge p q h) p rest h path
 
-late_has_rising : (p : Phase) (rest : List Phase) → 17 ≤ phase_number p → IsPath (p ∷ rest) → HasRisingNumbers (p ∷ rest)
-late_has_rising p [] h path = tt
-late_has_rising p (q ∷ rest) h path =
-    (late_rises p q h path.0, late_has_rising q rest (let r = late_rises p q h path.0 in omega arith) path.1)
+late_has_rising : (p : Phase) (rest : List Phase) → 17 ≤ phase_number p → IsPath (p ∷ rest) → EachStep Rises (p ∷ rest)
+late_has_rising p rest h path = late_steps_have Rises late_rises p rest h path
+
+last_is : (p q : Phase) → last_or None (p ∷ []) ≡ Some q → p ≡ q
+last_is p q e = cc
 
 -- a migration that was ended otherwise isn't completed
 ended_stays : (p : Phase) (rest : List Phase) → 21 ≤ phase_number p → IsPath (p ∷ rest) → EndsIn Completed (p ∷ rest) → ⊥
-ended_stays p [] h path ends = let e : phase_number p ≡ 20 = ap phase_number ends in omega arith
+ended_stays p [] h path ends = let e : phase_number p ≡ 20 = ap phase_number (last_is p Completed ends) in omega arith
 ended_stays p (q ∷ rest) h path ends =
     ended_stays q rest (let r = late_rises p q (omega arith) path.0 in omega arith) path.1 ends
 
@@ -48,7 +67,7 @@ here_passes p q rest ep eq path = record {
 }
 
 early_passes : (p : Phase) (rest : List Phase) → phase_number p ≤ 16 → IsPath (p ∷ rest) → EndsIn Completed (p ∷ rest) → PassesFinalSnapshot (p ∷ rest)
-early_passes p [] h path ends = let e : phase_number p ≡ 20 = ap phase_number ends in absurd (omega arith)
+early_passes p [] h path ends = let e : phase_number p ≡ 20 = ap phase_number (last_is p Completed ends) in absurd (omega arith)
 early_passes p (q ∷ rest) h path ends =
     elim (early_goes p q h path.0) [
       | inl stays ↦ with_first p (q ∷ rest) (early_passes q rest stays path.1 ends)

@@ -1,49 +1,94 @@
--- What holds of the table of successors and of every path through it.
-use Rattle.std.specs.Prelude.{◌↔◌, List, [], ◌∷◌, Contains}
+-- What holds of the table of successors and of every path through it. The successors stand here once
+-- more, phase by phase, so that a row in the wrong place of the table breaks a law.
+use Rattle.std.specs.Prelude.{◌≡◌, ◌↔◌, List, [], ◌∷◌, ◌++◌, Some, None, IsTrue, Contains}
 use Rattle.phase_table.specs.declared.phases.Phase.{Phase}
 use Rattle.phase_table.specs.declared.phases.Phase.TheVariants.{Started, CreateInitialSnapshot, StoreInitialIds, CreateVolumes, AddFirstCheckpoint, CopyDisks, CopyingPaused, RemovePreviousSnapshot, CreateSnapshot, StoreIds, AddCheckpoint, StorePowerState, PowerOffSource, WaitForPowerOff, RemovePenultimateSnapshot, CreateFinalSnapshot, AddFinalCheckpoint, CopyFinal, RemoveFinalSnapshot, Completed, Cancelled, Failed}
-use Rattle.phase_table.specs.Paths.{Follows, IsPath, EndsIn, HasNoBackEdge, TakesFinalSnapshot, PassesFinalSnapshot, HasRisingNumbers}
+use Rattle.phase_table.specs.declared.table.Fact.{Fact}
+use Rattle.phase_table.specs.declared.table.Fact.TheVariants.{Done, Precopy, Cutover, Running, Cancelled as Cancel, Failed as Fail}
+use Rattle.phase_table.specs.declared.table.Row.{Row}
+use Rattle.phase_table.specs.Phases.{phase_number, is_end}
+use Rattle.phase_table.specs.Table.{Fits, fits, NoRowFits, successor_in}
+use Rattle.phase_table.specs.Edges.{all_rows}
+use Rattle.phase_table.specs.Paths.{Follows, IsPath, EndsIn, HasNoBackEdge, TakesFinalSnapshot, PassesFinalSnapshot, Rises, EachStep}
 
--- what comes after each phase, whatever was seen
-abbrev pub successors_of : Phase → List Phase
-successors_of Started = CreateInitialSnapshot ∷ Cancelled ∷ Failed ∷ []
-successors_of CreateInitialSnapshot = StoreInitialIds ∷ Cancelled ∷ Failed ∷ []
-successors_of StoreInitialIds = CreateVolumes ∷ Cancelled ∷ Failed ∷ []
-successors_of CreateVolumes = AddFirstCheckpoint ∷ Cancelled ∷ Failed ∷ []
-successors_of AddFirstCheckpoint = CopyDisks ∷ Cancelled ∷ Failed ∷ []
-successors_of CopyDisks = CopyingPaused ∷ Cancelled ∷ Failed ∷ []
-successors_of CopyingPaused = RemovePreviousSnapshot ∷ StorePowerState ∷ Cancelled ∷ Failed ∷ []
-successors_of RemovePreviousSnapshot = CreateSnapshot ∷ Cancelled ∷ Failed ∷ []
-successors_of CreateSnapshot = StoreIds ∷ Cancelled ∷ Failed ∷ []
-successors_of StoreIds = AddCheckpoint ∷ Cancelled ∷ Failed ∷ []
-successors_of AddCheckpoint = CopyDisks ∷ Cancelled ∷ Failed ∷ []
-successors_of StorePowerState = PowerOffSource ∷ Cancelled ∷ Failed ∷ []
-successors_of PowerOffSource = WaitForPowerOff ∷ Cancelled ∷ Failed ∷ []
-successors_of WaitForPowerOff = RemovePenultimateSnapshot ∷ PowerOffSource ∷ Cancelled ∷ Failed ∷ []
-successors_of RemovePenultimateSnapshot = CreateFinalSnapshot ∷ Cancelled ∷ Failed ∷ []
-successors_of CreateFinalSnapshot = AddFinalCheckpoint ∷ PowerOffSource ∷ Cancelled ∷ Failed ∷ []
-successors_of AddFinalCheckpoint = CopyFinal ∷ Cancelled ∷ Failed ∷ []
-successors_of CopyFinal = RemoveFinalSnapshot ∷ Cancelled ∷ Failed ∷ []
-successors_of RemoveFinalSnapshot = Completed ∷ Cancelled ∷ Failed ∷ []
+-- what comes after each phase, and by which fact
+abbrev pub successors_of : Phase → List (Fact × Phase)
+successors_of Started = (Done, CreateInitialSnapshot) ∷ (Cancel, Cancelled) ∷ (Fail, Failed) ∷ []
+successors_of CreateInitialSnapshot =
+    (Done, StoreInitialIds) ∷ (Cancel, Cancelled) ∷ (Fail, Failed) ∷ []
+successors_of StoreInitialIds = (Done, CreateVolumes) ∷ (Cancel, Cancelled) ∷ (Fail, Failed) ∷ []
+successors_of CreateVolumes = (Done, AddFirstCheckpoint) ∷ (Cancel, Cancelled) ∷ (Fail, Failed) ∷ []
+successors_of AddFirstCheckpoint = (Done, CopyDisks) ∷ (Cancel, Cancelled) ∷ (Fail, Failed) ∷ []
+successors_of CopyDisks = (Done, CopyingPaused) ∷ (Cancel, Cancelled) ∷ (Fail, Failed) ∷ []
+successors_of CopyingPaused =
+    (Precopy, RemovePreviousSnapshot) ∷ (Cutover, StorePowerState)
+    ∷ (Cancel, Cancelled) ∷ (Fail, Failed) ∷ []
+successors_of RemovePreviousSnapshot =
+    (Done, CreateSnapshot) ∷ (Cancel, Cancelled) ∷ (Fail, Failed) ∷ []
+successors_of CreateSnapshot = (Done, StoreIds) ∷ (Cancel, Cancelled) ∷ (Fail, Failed) ∷ []
+successors_of StoreIds = (Done, AddCheckpoint) ∷ (Cancel, Cancelled) ∷ (Fail, Failed) ∷ []
+successors_of AddCheckpoint = (Done, CopyDisks) ∷ (Cancel, Cancelled) ∷ (Fail, Failed) ∷ []
+successors_of StorePowerState = (Done, PowerOffSource) ∷ (Cancel, Cancelled) ∷ (Fail, Failed) ∷ []
+successors_of PowerOffSource = (Done, WaitForPowerOff) ∷ (Cancel, Cancelled) ∷ (Fail, Failed) ∷ []
+successors_of WaitForPowerOff =
+    (Done, RemovePenultimateSnapshot) ∷ (Running, PowerOffSource)
+    ∷ (Cancel, Cancelled) ∷ (Fail, Failed) ∷ []
+successors_of RemovePenultimateSnapshot =
+    (Done, CreateFinalSnapshot) ∷ (Cancel, Cancelled) ∷ (Fail, Failed) ∷ []
+successors_of CreateFinalSnapshot =
+    (Done, AddFinalCheckpoint) ∷ (Running, PowerOffSource)
+    ∷ (Cancel, Cancelled) ∷ (Fail, Failed) ∷ []
+successors_of AddFinalCheckpoint = (Done, CopyFinal) ∷ (Cancel, Cancelled) ∷ (Fail, Failed) ∷ []
+successors_of CopyFinal = (Done, RemoveFinalSnapshot) ∷ (Cancel, Cancelled) ∷ (Fail, Failed) ∷ []
+successors_of RemoveFinalSnapshot = (Done, Completed) ∷ (Cancel, Cancelled) ∷ (Fail, Failed) ∷ []
 successors_of Completed = []
 successors_of Cancelled = []
 successors_of Failed = []
 
 abbrev pub SuccessorsAreThose : Type 0
-SuccessorsAreThose = (phase later : Phase)
-    → Follows phase later ↔ Contains (successors_of phase) later
+SuccessorsAreThose = (phase : Phase) (fact : Fact) (later : Phase)
+    → (successor_in all_rows phase fact ≡ Some later) ↔ Contains (successors_of phase) (fact, later)
+
+-- the ends are the phases behind which nothing comes
+abbrev pub EndsHaveNoSuccessor : Type 0
+EndsHaveNoSuccessor = (phase : Phase)
+    → IsTrue (is_end phase) ↔ ((fact : Fact) → successor_in all_rows phase fact ≡ None)
+
+-- the test of rows tells what it should
+abbrev pub FitsMeans : Type 0
+FitsMeans = (phase : Phase) (fact : Fact) (row : Row)
+    → IsTrue (fits phase fact row) ↔ Fits phase fact row
+
+-- a table of whatever rows gives nothing exactly where none of them fits
+abbrev pub NoneWhereNoRowFits : Type 0
+NoneWhereNoRowFits = (rows : List Row) (phase : Phase) (fact : Fact)
+    → (successor_in rows phase fact ≡ None) ↔ NoRowFits phase fact rows
+
+abbrev pub NumbersDiffer : Type 0
+NumbersDiffer = (a b : Phase) → phase_number a ≡ phase_number b → a ≡ b
+
+-- every front of a path is a path, and a path goes on with what follows its last phase
+abbrev pub FrontsArePaths : Type 0
+FrontsArePaths = (front rest : List Phase) → IsPath (front ++ rest) → IsPath front
+
+abbrev pub PathsGrow : Type 0
+PathsGrow = (path : List Phase) (phase later : Phase)
+    → IsPath (path ++ phase ∷ []) → Follows phase later → IsPath (path ++ phase ∷ later ∷ [])
 
 -- every path from the start to completion takes the final snapshot, and has no back edge after it
 abbrev pub FinalSnapshotIsPassed : Type 0
 FinalSnapshotIsPassed = (rest : List Phase)
-    → IsPath (Started ∷ rest) → EndsIn Completed (Started ∷ rest) → PassesFinalSnapshot (Started ∷ rest)
+    → IsPath (Started ∷ rest) → EndsIn Completed (Started ∷ rest)
+    → PassesFinalSnapshot (Started ∷ rest)
 
 -- behind each taking of the final snapshot no step is a back edge
 abbrev pub NoBackEdgeAfter : Type 0
 NoBackEdgeAfter = (path before after : List Phase)
-    → IsPath path → TakesFinalSnapshot path before after → HasNoBackEdge (AddFinalCheckpoint ∷ after)
+    → IsPath path → TakesFinalSnapshot path before after
+    → HasNoBackEdge (AddFinalCheckpoint ∷ after)
 
 -- and each phase there has a number above that of the one before it
 abbrev pub PhasesRiseAfter : Type 0
 PhasesRiseAfter = (path before after : List Phase)
-    → IsPath path → TakesFinalSnapshot path before after → HasRisingNumbers (AddFinalCheckpoint ∷ after)
+    → IsPath path → TakesFinalSnapshot path before after
+    → EachStep Rises (AddFinalCheckpoint ∷ after)

@@ -1,5 +1,5 @@
 pub mod Phases
-pub mod Rows
-pub mod Successors
+pub mod Table
+pub mod Edges
 pub mod Paths
 pub mod Laws

@@ -1,39 +1,39 @@
--- Paths through the table: lists of phases in which each comes after the one before it.
-use Rattle.std.specs.Prelude.{◌≡◌, ◌<◌, List, [], ◌∷◌, ◌++◌, Some}
+-- Paths through the table: lists of phases in which each comes after the one before it. A path goes by
+-- phases and not by facts, so that what holds of all paths holds whatever a migration sees.
+use Rattle.std.specs.Prelude.{◌≡◌, ◌<◌, List, [], ◌∷◌, ◌++◌, Some, None}
+use Rattle.std.specs.List.{last_or}
 use Rattle.phase_table.specs.declared.phases.Phase.{Phase}
 use Rattle.phase_table.specs.declared.phases.Phase.TheVariants.{CreateFinalSnapshot, AddFinalCheckpoint}
 use Rattle.phase_table.specs.declared.table.Fact.{Fact}
 use Rattle.phase_table.specs.Phases.{phase_number}
-use Rattle.phase_table.specs.Rows.{successor_in}
-use Rattle.phase_table.specs.Successors.{all_rows, back_edge_of}
+use Rattle.phase_table.specs.Table.{successor_in}
+use Rattle.phase_table.specs.Edges.{all_rows, back_edge_of}
 
 -- a phase comes after another by some fact
 abbrev pub Follows : (earlier later : Phase) → Type 0
 Follows earlier later = (fact : Fact) × (successor_in all_rows earlier fact ≡ Some later)
 
--- each phase comes after the one before it
+-- a relation holds between each phase of a list and the one behind it
+abbrev pub EachStep : (Phase → Phase → Type 0) → List Phase → Type 0
+EachStep R [] = Unit {0}
+EachStep R (phase ∷ []) = Unit {0}
+EachStep R (phase ∷ later ∷ rest) = R phase later × EachStep R (later ∷ rest)
+
 abbrev pub IsPath : List Phase → Type 0
-IsPath [] = Unit {0}
-IsPath (phase ∷ []) = Unit {0}
-IsPath (phase ∷ later ∷ rest) = Follows phase later × IsPath (later ∷ rest)
+IsPath path = EachStep Follows path
 
 abbrev pub EndsIn : Phase → List Phase → Type 0
-EndsIn end [] = ⊥
-EndsIn end (phase ∷ []) = phase ≡ end
-EndsIn end (phase ∷ later ∷ rest) = EndsIn end (later ∷ rest)
+EndsIn end path = last_or None path ≡ Some end
 
--- no step of the path is a back edge
+abbrev pub IsNoBackEdge : (earlier later : Phase) → Type 0
+IsNoBackEdge earlier later = ¬ (back_edge_of earlier ≡ Some later)
+
 abbrev pub HasNoBackEdge : List Phase → Type 0
-HasNoBackEdge [] = Unit {0}
-HasNoBackEdge (phase ∷ []) = Unit {0}
-HasNoBackEdge (phase ∷ later ∷ rest) = ¬ (back_edge_of phase ≡ Some later) × HasNoBackEdge (later ∷ rest)
+HasNoBackEdge path = EachStep IsNoBackEdge path
 
--- each phase of the path has a number above that of the one before it
-abbrev pub HasRisingNumbers : List Phase → Type 0
-HasRisingNumbers [] = Unit {0}
-HasRisingNumbers (phase ∷ []) = Unit {0}
-HasRisingNumbers (phase ∷ later ∷ rest) =
-    (phase_number phase < phase_number later) × HasRisingNumbers (later ∷ rest)
+-- the later phase has the greater number
+abbrev pub Rises : (earlier later : Phase) → Type 0
+Rises earlier later = phase_number earlier < phase_number later
 
 -- the path is `before`, then the step that the final snapshot makes, then `after`
 abbrev pub TakesFinalSnapshot : (path before after : List Phase) → Type 0

@@ -1,5 +1,6 @@
--- The phases one by one: their numbers, and their names as replies show them.
-use Rattle.std.specs.Prelude.{ℕ, List, codes}
+-- The phases one by one: their numbers, which tell them apart, their names as replies show them, and
+-- which of them are ends, in which a migration is no longer live.
+use Rattle.std.specs.Prelude.{ℕ, Bool, true, false, List, [], ◌∷◌, codes}
 use Rattle.phase_table.specs.declared.phases.Phase.{Phase}
 use Rattle.phase_table.specs.declared.phases.Phase.TheVariants.{Started, CreateInitialSnapshot, StoreInitialIds, CreateVolumes, AddFirstCheckpoint, CopyDisks, CopyingPaused, RemovePreviousSnapshot, CreateSnapshot, StoreIds, AddCheckpoint, StorePowerState, PowerOffSource, WaitForPowerOff, RemovePenultimateSnapshot, CreateFinalSnapshot, AddFinalCheckpoint, CopyFinal, RemoveFinalSnapshot, Completed, Cancelled, Failed}
 
@@ -26,6 +27,21 @@ phase_number RemoveFinalSnapshot = 19
 phase_number Completed = 20
 phase_number Cancelled = 21
 phase_number Failed = 22
+
+abbrev pub is_end : Phase → Bool
+is_end Completed = true
+is_end Cancelled = true
+is_end Failed = true
+is_end _ = false
+
+abbrev pub all_phases : List Phase
+all_phases =
+    Started ∷ CreateInitialSnapshot ∷ StoreInitialIds ∷ CreateVolumes ∷ AddFirstCheckpoint
+    ∷ CopyDisks ∷ CopyingPaused
+    ∷ RemovePreviousSnapshot ∷ CreateSnapshot ∷ StoreIds ∷ AddCheckpoint
+    ∷ StorePowerState ∷ PowerOffSource ∷ WaitForPowerOff ∷ RemovePenultimateSnapshot
+    ∷ CreateFinalSnapshot ∷ AddFinalCheckpoint ∷ CopyFinal ∷ RemoveFinalSnapshot
+    ∷ Completed ∷ Cancelled ∷ Failed ∷ []
 
 abbrev pub phase_name : Phase → List ℕ
 phase_name Started = codes "Started"

@@ -1,12 +1,13 @@
-//! What comes after each phase.
+//! What comes after each phase of a migration: the table of edges as two functions, made from one
+//! line a phase.
 ghost use Rattle.std.specs.Prelude.{◌≡◌};
-ghost use Rattle.phase_table.specs.Successors.{all_rows, back_edge_of};
-ghost use Rattle.phase_table.specs.Rows.{successor_in};
+ghost use Rattle.phase_table.specs.Edges.{all_rows, back_edge_of};
+ghost use Rattle.phase_table.specs.Table.{successor_in};
 
 use crate::{Fact, Phase};
 
-/// The phase that a migration in `phase` is in after it has seen `fact`. None where nothing comes
-/// after that.
+/// The phase that a migration in `phase` is in after it has seen `fact`. None where `phase` is an end,
+/// and where `fact` isn't one that leads out of it.
 pub fn next(phase: Phase, fact: Fact) -> Option<Phase>
     ensures { result ≡ successor_in all_rows phase fact }
 {

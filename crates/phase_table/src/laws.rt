@@ -1,10 +1,25 @@
 //! Laws of the table of successors. Each function's contract is the law, and its body does nothing.
-ghost use Rattle.phase_table.specs.Laws.{SuccessorsAreThose, FinalSnapshotIsPassed, NoBackEdgeAfter, PhasesRiseAfter};
+ghost use Rattle.phase_table.specs.Laws.{SuccessorsAreThose, EndsHaveNoSuccessor, FitsMeans, NoneWhereNoRowFits, NumbersDiffer, FrontsArePaths, PathsGrow, FinalSnapshotIsPassed, NoBackEdgeAfter, PhasesRiseAfter};
 
-/// A phase comes after another by some fact exactly where it is listed as one of that phase's
-/// successors, and the ends of a migration have none.
+/// A phase comes after another by a fact exactly where it is listed, with that fact, among that
+/// phase's successors. The ends of a migration are the phases that have none.
 pub fn successors_are_those()
-    ensures { SuccessorsAreThose }
+    ensures each { SuccessorsAreThose }
+    ensures ends { EndsHaveNoSuccessor }
+{}
+
+/// A row counts where it is of the phase and the fact that were asked for, a table gives none exactly
+/// where no row counts, and the numbers of phases tell them apart.
+pub fn rows_are_told_apart()
+    ensures fits { FitsMeans }
+    ensures none { NoneWhereNoRowFits }
+    ensures numbers { NumbersDiffer }
+{}
+
+/// A front of a path is a path, and a path goes on with whatever follows its last phase.
+pub fn paths_grow()
+    ensures fronts { FrontsArePaths }
+    ensures grow { PathsGrow }
 {}
 
 /// Every path from the start to completion goes from taking the final snapshot to adding its

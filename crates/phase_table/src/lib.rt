@@ -1,5 +1,6 @@
-//! The phases of a migration and the table of their successors: what a migration does after what it
-//! has seen, as the operators of a warm migration know it.
+//! The 22 phases of a migration and the finite table of their successors, by what was seen in a phase.
+//! The controller goes through the table one record a step. From every phase but the three ends a
+//! migration can also be cancelled or fail.
 #![tactic(auto)]
 
 mod edges;
@@ -10,6 +11,8 @@ mod table;
 mod tests;
 
 pub use edges::{back_edge, next};
-pub use laws::{final_snapshot_is_passed, no_way_back, successors_are_those};
+pub use laws::{
+    final_snapshot_is_passed, no_way_back, paths_grow, rows_are_told_apart, successors_are_those,
+};
 pub use phases::Phase;
 pub use table::{Fact, Row, Table};

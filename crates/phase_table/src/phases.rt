@@ -1,6 +1,7 @@
-//! The phases that a migration goes through.
-ghost use Rattle.std.specs.Prelude.{◌≡◌, ◌≤◌, Some};
-ghost use Rattle.phase_table.specs.Phases.{phase_number, phase_name};
+//! The phases that a migration goes through, one by one. What comes after each stands in the table of
+//! edges; here is what they are called and which of them end a migration.
+ghost use Rattle.std.specs.Prelude.{◌≡◌};
+ghost use Rattle.phase_table.specs.Phases.{phase_number, phase_name, is_end};
 
 use std::fmt;
 
@@ -56,11 +57,16 @@ pub enum Phase {
 impl Phase {
     /// The number of the phase, 1 to 22.
     pub fn number(self) -> u8
-        ensures value { result ≡ phase_number self }
-        ensures above { 1 ≤ result }
-        ensures below { result ≤ 22 }
+        ensures { result ≡ phase_number self }
     {
         1 + self as u8
+    }
+
+    /// Whether a migration in this phase has ended: completed, cancelled or failed.
+    pub fn is_end(self) -> bool
+        ensures { result ≡ is_end self }
+    {
+        matches!(self, Phase::Completed | Phase::Cancelled | Phase::Failed)
     }
 
     /// The name of the phase, as replies show it.

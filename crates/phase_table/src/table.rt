@@ -1,6 +1,7 @@
-//! A table of successors: rows of a phase, a fact and the phase that comes then.
-ghost use Rattle.std.specs.Prelude.{◌≡◌, ◌↔◌, IsTrue, IsNone, All};
-ghost use Rattle.phase_table.specs.Rows.{Fits, fits, successor_in};
+//! A table of successors: rows of a phase, a fact and the phase that comes then. A table may have any
+//! number of rows in any order; where two rows are of one phase and one fact, the first counts.
+ghost use Rattle.std.specs.Prelude.{◌≡◌, ◌↔◌, IsTrue, IsNone};
+ghost use Rattle.phase_table.specs.Table.{Fits, fits, NoRowFits, successor_in};
 
 use crate::Phase;
 
@@ -53,7 +54,7 @@ impl<const N: usize> Table<N> {
     /// The successor of the first row that is of this phase and this fact. None where no row is.
     pub fn first(&self, phase: Phase, fact: Fact) -> Option<Phase>
         ensures first { result ≡ successor_in self.now.rows phase fact }
-        ensures none { IsNone result ↔ All (λ row. ¬ (Fits phase fact row)) self.now.rows }
+        ensures none { IsNone result ↔ NoRowFits phase fact self.now.rows }
     {
         let row = self.rows.iter().find(|row| row.fits(phase, fact))?;
         Some(row.successor)

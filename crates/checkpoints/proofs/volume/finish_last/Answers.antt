@@ -1,4 +1,4 @@
-use Rattle.std.proofs.Common.{◌≡◌, ℕ, ◌+◌, ◌-◌, refl, arith}
+use Rattle.std.proofs.Common.{◌-◌, refl, arith}
 use Rattle.std.specs.Vec.{vec_len}
 use Rattle.checkpoints.proofs.LastDone.{set_last}
 use Rattle.checkpoints.proofs.volume.finish_last.Goals as goal

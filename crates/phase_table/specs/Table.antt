@@ -1,5 +1,6 @@
--- What a table of successors gives: the successor of the first row that fits.
-use Rattle.std.specs.Prelude.{◌≡◌, ℕ, ◌==◌, ◌&&◌, Bool, List, Option, option_map}
+-- What a table of successors gives. Of rows that fit the one that stands first counts, so a table is a
+-- function of phase and fact, whatever rows it has.
+use Rattle.std.specs.Prelude.{◌≡◌, ℕ, ◌==◌, ◌&&◌, Bool, List, Option, option_map, All}
 use Rattle.std.specs.List.{find}
 use Rattle.phase_table.specs.declared.phases.Phase.{Phase}
 use Rattle.phase_table.specs.declared.table.Fact.{Fact}
@@ -7,7 +8,7 @@ use Rattle.phase_table.specs.declared.table.Fact.TheVariants.{Done, Precopy, Cut
 use Rattle.phase_table.specs.declared.table.Row.{Row}
 use Rattle.phase_table.specs.Phases.{phase_number}
 
--- facts have numbers only here, to tell them apart
+-- facts have numbers only to tell them apart
 abbrev pub fact_number : Fact → ℕ
 fact_number Done = 0
 fact_number Precopy = 1
@@ -23,7 +24,13 @@ pub record Fits (phase : Phase) (fact : Fact) (row : Row) : Type 0 where
 
 -- the same as a test
 abbrev pub fits : Phase → Fact → Row → Bool
-fits phase fact row = phase_number row.phase == phase_number phase && fact_number row.fact == fact_number fact
+fits phase fact row =
+    phase_number row.phase == phase_number phase && fact_number row.fact == fact_number fact
 
 abbrev pub successor_in : List Row → Phase → Fact → Option Phase
-successor_in rows phase fact = option_map (λ row. row.successor) (find (λ row. fits phase fact row) rows)
+successor_in rows phase fact =
+    option_map (λ row. row.successor) (find (λ row. fits phase fact row) rows)
+
+-- no row is of that phase and that fact
+abbrev pub NoRowFits : Phase → Fact → List Row → Type 0
+NoRowFits phase fact rows = All (λ row. ¬ (Fits phase fact row)) rows
