@@ -1,7 +1,6 @@
 -- Rises of counts, one after another and of one count through another.
-use Rattle.std.proofs.Common.{◌≡◌, ℕ, ◌+◌, ◌<◌, ◌≤◌, arith}
-use Rattle.std.proofs.lemmas.Bool.Decides.{nat_tests}
-use Rattle.basics.specs.Faults.{last_count, counted_by, RoseBy, rise}
+use Rattle.std.proofs.Common.{◌≡◌, ℕ, ◌+◌, ◌-◌, ◌≤◌, arith}
+use Rattle.basics.specs.Faults.{counted_by, RoseBy}
 
 -- a rise stays one, however long before or after it the count is read
 pub rose_on : (n before from to now : ℕ) → before ≤ from → RoseBy n from to → to ≤ now
@@ -13,12 +12,16 @@ pub rose_again : (m n before mid now : ℕ) → RoseBy m before mid → RoseBy n
     → RoseBy (m + n) before now
 rose_again m n before mid now first next = omega arith
 
--- where one count goes up by the rise of another, it goes up by as much as that one did
-pub rose_with : (n from to before : ℕ) → RoseBy n from to
-    → RoseBy n before (counted_by (rise from to) before)
-rose_with n from to before rose = grind (arith, nat_tests)
+-- where one count, which has another in it, goes up by the rise of that, it goes up by as much
+pub rose_with : (n from to before : ℕ) → from ≤ before → RoseBy n from to
+    → RoseBy n before (counted_by (to - from) before)
+rose_with n from to before inside rose = omega arith
 
--- a count that stayed has no rise, unless it ended
-pub no_rise : (from before : ℕ) → from < last_count → before ≤ last_count
-    → counted_by (rise from from) before ≡ before
-no_rise from before short small = grind (arith, nat_tests)
+-- a count that may not fall and goes up by nothing stays
+pub counted_by_none : (before : ℕ) → before ≤ counted_by 0 before → counted_by 0 before ≡ before
+counted_by_none before later = omega arith
+
+-- one step after another is their sum
+pub counted_by_again : (m n before : ℕ)
+    → counted_by n (counted_by m before) ≡ counted_by (m + n) before
+counted_by_again m n before = omega arith

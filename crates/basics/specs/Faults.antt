@@ -1,6 +1,6 @@
 -- What a count of faults tells of a call. Such a count never falls and ends at 2^64 - 1. One that
 -- stands there says no more of how often its object failed, so any rise is granted to it.
-use Rattle.std.specs.Prelude.{◌≡◌, ℕ, ◌+◌, ◌-◌, ◌^◌, ◌≤◌, nat_le, min, if◌then◌else◌, Result, OnOk, OnErr}
+use Rattle.std.specs.Prelude.{◌≡◌, ℕ, ◌+◌, ◌-◌, ◌^◌, ◌≤◌, min, Result, OnOk, OnErr}
 
 -- where a count ends
 abbrev pub last_count : ℕ
@@ -17,10 +17,6 @@ RoseBy n before now = counted_by n before ≤ now
 -- the object failed
 abbrev pub Rose : (before now : ℕ) → Type 0
 Rose before now = RoseBy 1 before now
-
--- by how much a count went up; as much as there is where it ended
-abbrev pub rise : (before now : ℕ) → ℕ
-rise before now = if nat_le last_count now then last_count else now - before
 
 -- the count stays where the call did what it was asked, and rose where it failed
 pub record HasCause {T E : Type 0} (before now : ℕ) (result : Result T E) : Type 0 where

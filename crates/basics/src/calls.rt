@@ -1,7 +1,7 @@
 //! The calls of an object in memory: how many there were, how many of them failed, and which are to
 //! fail. A test makes such an object fail where it likes, and nowhere else.
 ghost use Rattle.std.specs.Prelude.{◌≡◌, ◌≤◌, ◌↔◌, IsErr, is_ok, false};
-ghost use Rattle.basics.specs.Calls.{no_calls, FailsNext, after_call};
+ghost use Rattle.basics.specs.Calls.{no_calls, never_fails, FailsNext, after_call};
 ghost use Rattle.basics.specs.Faults.{HasCause, counted_by, Rose};
 
 use crate::Failed;
@@ -40,6 +40,13 @@ impl Calls {
         ensures { result ≡ self.now.faults }
     {
         self.faults
+    }
+
+    /// Whether it was told of no failing call.
+    pub fn never_fail(&self) -> bool
+        ensures { result ≡ never_fails self.now }
+    {
+        self.failing.is_empty()
     }
 
     /// Counts a call. [`Failed`] exactly where its number is among those that are to fail, and then

@@ -1,7 +1,7 @@
 //! The refusals that have no number: that an object outside failed, and that memory ran out.
 use std::alloc::{AllocError, AllocFailed};
 
-/// Memory ran out. A call that answers it has changed nothing.
+/// Memory ran out.
 #[derive(Clone, Copy, Debug, PartialEq, Eq)]
 pub struct NoMemory;
 
@@ -17,6 +17,6 @@ impl<T: Drop> From<AllocFailed<T>> for NoMemory {
     }
 }
 
-/// An object outside failed in this call. Its count of faults rose.
+/// An object failed in this call.
 #[derive(Clone, Copy, Debug, PartialEq, Eq)]
 pub struct Failed;

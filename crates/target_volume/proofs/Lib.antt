@@ -1,2 +1,3 @@
-pub mod Ranges
-pub mod NameOrder
+pub mod NameLemmas
+pub mod FilledRanges
+pub mod SlotLemmas

@@ -1,8 +1,6 @@
-pub mod Faults
-pub mod Calls
-pub mod Images
-pub mod NameOrder
-pub mod Stores
-pub mod Memory
-pub mod Places
-pub mod NewStore
+pub mod VolumeName
+pub mod Volume
+pub mod StoreRefused
+pub mod VolumeStore
+pub mod MemVolume
+pub mod MemVolumes
