@@ -7,21 +7,21 @@ use Rattle.std.proofs.lemmas.List.{append-nil, take_all, drop_all}
 use Rattle.std.proofs.lemmas.List.Elements.{filter-append}
 use Rattle.std.proofs.Math.Seq.{take-append_seam}
 use Rattle.sector_model.specs.declared.sector.Sector.{Sector}
-use Rattle.log_model.specs.declared.entries.Owner.{Owner}
-use Rattle.log_model.specs.declared.entries.Owner.TheVariants.{Operator, Migration}
-use Rattle.log_model.specs.declared.entries.Act.{Act}
-use Rattle.log_model.specs.declared.entries.Act.TheVariants.{Write, Snap, Remove, Reset, Enable, Off, On}
-use Rattle.log_model.specs.declared.entries.Entry.{Entry}
-use Rattle.log_model.specs.declared.link.LinkRefused.{LinkRefused}
-use Rattle.log_model.specs.declared.link.LinkRefused.TheVariants.{Running, Range, AlreadyOff, AlreadyOn, Spent, Owned, AlreadyEnabled}
-use Rattle.log_model.specs.declared.link.WriteRefused.{WriteRefused}
-use Rattle.log_model.specs.declared.link.WriteRefused.TheVariants.{Off as Off_refused, Range as OutOfRange, LogFull}
-use Rattle.log_model.specs.Entries.{sectors_of}
-use Rattle.log_model.specs.Legal.{Legal, ActMayStand, OwnerLets, machine_on, owner_of, is_enabled, taken, written, capacity_of, most_entries, most_written}
+use Rattle.log_model.specs.declared.entry.Owner.{Owner}
+use Rattle.log_model.specs.declared.entry.Owner.TheVariants.{Operator, Migration}
+use Rattle.log_model.specs.declared.entry.Act.{Act}
+use Rattle.log_model.specs.declared.entry.Act.TheVariants.{Write, Snap, Remove, Reset, Enable, Off, On}
+use Rattle.log_model.specs.declared.entry.Entry.{Entry}
+use Rattle.log_model.specs.declared.refusals.LinkRefused.{LinkRefused}
+use Rattle.log_model.specs.declared.refusals.LinkRefused.TheVariants.{Running, Range, AlreadyOff, AlreadyOn, Spent, Owned, AlreadyEnabled}
+use Rattle.log_model.specs.declared.refusals.WriteRefused.{WriteRefused}
+use Rattle.log_model.specs.declared.refusals.WriteRefused.TheVariants.{Off as Off_refused, Range as OutOfRange, LogFull}
+use Rattle.log_model.specs.Entry.{sectors_of}
+use Rattle.log_model.specs.Legal.{Legal, ActMayStand, OwnerLets, machine_on, owner_of, is_enabled, taken, written, capacity_of, MAX_LOG_ENTRIES, MAX_LOGGED_SECTORS}
 use Rattle.log_model.specs.Laws.{Stands, AcceptedMayStand}
 use Rattle.log_model.specs.Refusals.{spent_refusal, snap_refusal, remove_refusal, owner_refusal, may_remove, power_off_refusal, power_on_refusal, reset_refusal, enable_refusal, write_refusal, is_spent, is_known, is_within}
-use Rattle.log_model.specs.Link.{LinkState, Leaves, Looks, Adds, log_at, IsRefusedOr, IsRefusedByOrNoMemory, is_by}
-use Rattle.log_model.specs.Plain.{Appends, plain_state}
+use Rattle.log_model.specs.Link.{LinkState, IsCall, OnlyReads, Adds, log_met, IsRefusedOr, IsRefusedByOrNoMemory, is_by}
+use Rattle.log_model.specs.PlainMachine.{Appends, plain_state}
 use Rattle.log_model.proofs.Last.{by_last}
 use Rattle.log_model.proofs.LegalLogs.{legal_grows, legal_last, legal_front}
 
@@ -39,8 +39,8 @@ not_false : (b : Bool) → not b ≡ false → b ≡ true
 not_false true h = refl
 not_false false h = absurd (cc)
 
-room : (log : List Entry) → spent_refusal log ≡ None → length log < most_entries
-room log h = leb-false most_entries (length log) (chosen_none (is_spent log) Spent None h).0
+room : (log : List Entry) → spent_refusal log ≡ None → length log < MAX_LOG_ENTRIES
+room log h = leb-false MAX_LOG_ENTRIES (length log) (chosen_none (is_spent log) Spent None h).0
 
 pub snap_stands : (capacities : List ℕ) (log : List Entry) (who : ℕ) (must_be_off : Bool) (owner : Owner) → snap_refusal must_be_off log ≡ None
     → Stands capacities log who (Snap (taken log + 1) owner)
@@ -56,7 +56,7 @@ lets who (Migration m) Operator h = tt
 lets who Operator (Migration n) h = absurd (false≢true h)
 lets who (Migration m) (Migration n) h = eqb-true who 1 (and_second (eqb m n) (eqb who 1) h)
 
-owner_stands : (who : ℕ) (owner : Owner) (o : Option Owner) (log : List Entry) → owner_refusal who owner o log ≡ None → OwnerLets who o × (length log < most_entries)
+owner_stands : (who : ℕ) (owner : Owner) (o : Option Owner) (log : List Entry) → owner_refusal who owner o log ≡ None → OwnerLets who o × (length log < MAX_LOG_ENTRIES)
 owner_stands who owner None log h = absurd (cc)
 owner_stands who owner (Some has) log h =
     let both = other_none (may_remove who owner has) Owned (spent_refusal log) h in
@@ -90,10 +90,10 @@ and_true false b h = absurd (cc)
 pub write_stands : (capacities : List ℕ) (log : List Entry) (who disk first : ℕ) (sectors : List Sector) → write_refusal capacities disk first (length sectors) log ≡ None → Stands capacities log who (Write disk first sectors)
 write_stands capacities log who disk first sectors h =
     let count : ℕ = length sectors in
-    let last : Option WriteRefused = cond (ltb most_written (written log + count) || is_spent log) (Some LogFull) None in
+    let last : Option WriteRefused = cond (ltb MAX_LOGGED_SECTORS (written log + count) || is_spent log) (Some LogFull) None in
     let running = chosen_none (not (machine_on log)) Off_refused (cond (not (is_within capacities disk first count && leb count 128)) (Some OutOfRange) last) h in
     let ranged = chosen_none (not (is_within capacities disk first count && leb count 128)) OutOfRange last running.1 in
-    let full = or_false (ltb most_written (written log + count)) (is_spent log) (chosen_none (ltb most_written (written log + count) || is_spent log) LogFull None ranged.1).0 in
+    let full = or_false (ltb MAX_LOGGED_SECTORS (written log + count)) (is_spent log) (chosen_none (ltb MAX_LOGGED_SECTORS (written log + count) || is_spent log) LogFull None ranged.1).0 in
     let range = and_true (is_within capacities disk first count) (leb count 128) (not_false (is_within capacities disk first count && leb count 128) ranged.0) in
     let within = and_true (is_known capacities disk && leb 1 count) (leb (first + count) (capacity_of capacities disk)) range.0 in
     let known = and_true (is_known capacities disk) (leb 1 count) within.0 in (
@@ -103,9 +103,9 @@ write_stands capacities log who disk first sectors h =
         some_sectors = leb-true 1 count known.1;
         few_sectors = leb-true count 128 range.1;
         within = leb-true (first + count) (capacity_of capacities disk) within.1;
-        room = ltb-false most_written (written log + count) full.0;
+        room = ltb-false MAX_LOGGED_SECTORS (written log + count) full.0;
       },
-      leb-false most_entries (length log) full.1,
+      leb-false MAX_LOG_ENTRIES (length log) full.1,
     )
 
 pub accepted_may_stand : (capacities : List ℕ) (log : List Entry) (who : ℕ) → AcceptedMayStand capacities log who
@@ -120,7 +120,7 @@ accepted_may_stand capacities log who = record {
 }
 
 -- the sectors of all writes stay within their limit
-written_step : (capacities : List ℕ) (log : List Entry) (who : ℕ) (act : Act) → ActMayStand capacities log who act → written log ≤ most_written → written log + written (record { who = who; act = act } ∷ []) ≤ most_written
+written_step : (capacities : List ℕ) (log : List Entry) (who : ℕ) (act : Act) → ActMayStand capacities log who act → written log ≤ MAX_LOGGED_SECTORS → written log + written (record { who = who; act = act } ∷ []) ≤ MAX_LOGGED_SECTORS
 written_step capacities log who (Write disk first sectors) stands old = omega (arith, stands.room)
 written_step capacities log who (Snap id by) stands old = omega arith
 written_step capacities log who (Remove id) stands old = omega arith
@@ -129,9 +129,9 @@ written_step capacities log who Enable stands old = omega arith
 written_step capacities log who Off stands old = omega arith
 written_step capacities log who On stands old = omega arith
 
-pub written_bounded : (capacities : List ℕ) (log : List Entry) → Legal capacities log → written log ≤ most_written
+pub written_bounded : (capacities : List ℕ) (log : List Entry) → Legal capacities log → written log ≤ MAX_LOGGED_SECTORS
 written_bounded capacities =
-    by_last (λ log. Legal capacities log → written log ≤ most_written) (λ _. omega arith)
+    by_last (λ log. Legal capacities log → written log ≤ MAX_LOGGED_SECTORS) (λ _. omega arith)
     (λ log e rest legal. omega (
       arith,
       sum_by-append (λ x. sectors_of x.act) log (e ∷ []),
@@ -141,7 +141,7 @@ written_bounded capacities =
 -- ---- what a plain machine's call leaves
 
 leaves_same : (machine : ℕ) (capacities : List ℕ) (caller : ℕ) (log : List Entry) → Legal capacities log
-    → Leaves log [] (plain_state machine capacities caller log) (plain_state machine capacities caller log)
+    → IsCall log [] (plain_state machine capacities caller log) (plain_state machine capacities caller log)
 leaves_same machine capacities caller log legal =
     let own : List Entry = filter (is_by caller) log in
     let made : List Entry → List Entry → LinkState = λ seen kept. record { machine = machine; capacities = capacities; caller = caller; turn = None; seen = seen; own = kept } in
@@ -153,7 +153,7 @@ leaves_same machine capacities caller log legal =
     }
 
 leaves_more : (machine : ℕ) (capacities : List ℕ) (caller : ℕ) (log : List Entry) (act : Act) → Legal capacities log → Stands capacities log caller act
-    → Leaves log (record { who = caller; act = act } ∷ []) (plain_state machine capacities caller log) (plain_state machine capacities caller (log ++ record { who = caller; act = act } ∷ []))
+    → IsCall log (record { who = caller; act = act } ∷ []) (plain_state machine capacities caller log) (plain_state machine capacities caller (log ++ record { who = caller; act = act } ∷ []))
 leaves_more machine capacities caller log act legal stands =
     let e : Entry = record { who = caller; act = act } in
     let mine : filter (is_by caller) (e ∷ []) ≡ e ∷ [] = ap (λ b. cond b (e ∷ []) []) (eq-eqb caller caller refl) in
@@ -170,12 +170,12 @@ without_last log e =
     let front : length (log ++ e ∷ []) - 1 ≡ length log = omega (arith, length-append log (e ∷ [])) in
     ap (λ n. take n (log ++ e ∷ [])) front ∙ take-append_seam log (e ∷ [])
 
-pub plain_looks : (machine : ℕ) (capacities : List ℕ) (caller : ℕ) (log : List Entry) → Legal capacities log → Looks (plain_state machine capacities caller log) (plain_state machine capacities caller log)
+pub plain_looks : (machine : ℕ) (capacities : List ℕ) (caller : ℕ) (log : List Entry) → Legal capacities log → OnlyReads (plain_state machine capacities caller log) (plain_state machine capacities caller log)
 plain_looks machine capacities caller log legal = leaves_same machine capacities caller log legal
 
 -- the log at a call's moment is the one before it
 pub log_before : {T : Type 0} (machine : ℕ) (capacities : List ℕ) (caller : ℕ) (result : Result T LinkRefused) (e : Entry) (old new : List Entry) → Appends result e old new
-    → log_at result (plain_state machine capacities caller new) ≡ old
+    → log_met result (plain_state machine capacities caller new) ≡ old
 log_before machine capacities caller (Ok x) e old new h = ap (λ (xs : List Entry). take (length xs - 1) xs) h ∙ without_last old e
 log_before machine capacities caller (Err r) e old new h = h
 
@@ -192,8 +192,8 @@ pub plain_adds : {T : Type 0} (machine : ℕ) (capacities : List ℕ) (caller : 
 plain_adds machine capacities caller (Ok x) (Some r) act old new legal added refused stands = absurd (cc)
 plain_adds machine capacities caller (Ok x) None act old new legal added refused stands =
     let e : Entry = record { who = caller; act = act } in
-    subst (λ (xs : List Entry). Leaves (take (length xs - 1) xs) (e ∷ []) (plain_state machine capacities caller old) (plain_state machine capacities caller xs)) (sym added)
-    (subst (λ (front : List Entry). Leaves front (e ∷ []) (plain_state machine capacities caller old) (plain_state machine capacities caller (old ++ e ∷ []))) (sym (without_last old e))
+    subst (λ (xs : List Entry). IsCall (take (length xs - 1) xs) (e ∷ []) (plain_state machine capacities caller old) (plain_state machine capacities caller xs)) (sym added)
+    (subst (λ (front : List Entry). IsCall front (e ∷ []) (plain_state machine capacities caller old) (plain_state machine capacities caller (old ++ e ∷ []))) (sym (without_last old e))
     (leaves_more machine capacities caller old act legal (stands refl)))
 plain_adds machine capacities caller (Err r) refusal act old new legal added refused stands =
-    subst (λ (xs : List Entry). Leaves xs [] (plain_state machine capacities caller old) (plain_state machine capacities caller xs)) (sym added) (leaves_same machine capacities caller old legal)
+    subst (λ (xs : List Entry). IsCall xs [] (plain_state machine capacities caller old) (plain_state machine capacities caller xs)) (sym added) (leaves_same machine capacities caller old legal)

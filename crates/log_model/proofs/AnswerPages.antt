@@ -10,8 +10,8 @@ use Rattle.sector_model.proofs.PageLaws.{pages_joined}
 use Rattle.change_id.specs.declared.ChangeId.{ChangeId}
 use Rattle.change_id.specs.declared.Since.{Since}
 use Rattle.change_id.specs.declared.Since.TheVariants.{All as Everything, From}
-use Rattle.log_model.specs.declared.entries.Entry.{Entry}
-use Rattle.log_model.specs.Answers.{answer, accepts, numbered_place}
+use Rattle.log_model.specs.declared.entry.Entry.{Entry}
+use Rattle.log_model.specs.Query.{changed_areas, accepts, numbered_place}
 use Rattle.log_model.specs.Marks.{mark, in_force}
 use Rattle.log_model.specs.Touched.{touched, touched_areas}
 use Rattle.log_model.specs.Laws.{AnswerPagesJoin, AllPagesAreTheAnswer}
@@ -28,12 +28,12 @@ areas_from-start m (r ∷ rs) h =
     rw (lt-ltb 0 (end_of r) past, le-ltb r.first 0 (omega arith)) (ap (λ (more : List Run). r ∷ more) (areas_from-start (end_of r + 1) rs h.2))
 
 -- an answer is the areas of some blocks
-answered : (machine c d s : ℕ) (since : Since) (log : List Entry) (areas : List Run) → answer machine c d s since log ≡ Ok areas → (blocks : List ℕ) × (areas ≡ areas_of c blocks)
+answered : (machine c d s : ℕ) (since : Since) (log : List Entry) (areas : List Run) → changed_areas machine c d s since log ≡ Ok areas → (blocks : List ℕ) × (areas ≡ areas_of c blocks)
 answered machine c d s Everything log areas found = (touched c d 0 (mark s log) log, cc)
 answered machine c d s (From id) log areas found =
     (touched c d (numbered_place d id.seq log) (mark s log) log, sym (ok_part (accepts machine d s id log) (touched_areas c d (numbered_place d id.seq log) (mark s log) log) areas (in_force machine d log) found))
 
-kept : (machine c d s : ℕ) (since : Since) (log : List Entry) (areas : List Run) → c < 2 ^ 64 → answer machine c d s since log ≡ Ok areas → Kept 0 c areas
+kept : (machine c d s : ℕ) (since : Since) (log : List Entry) (areas : List Run) → c < 2 ^ 64 → changed_areas machine c d s since log ≡ Ok areas → Kept 0 c areas
 kept machine c d s since log areas fits found =
     let blocks = answered machine c d s since log areas found in
     subst (Kept 0 c) (sym blocks.1) (runs_of-kept (in_blocks blocks.0) c fits)

@@ -5,7 +5,7 @@ use Rattle.std.proofs.lemmas.Bool.{cases_eq}
 use Rattle.std.proofs.lemmas.List.{take-take, take-append-le}
 use Rattle.std.proofs.lemmas.Option.{slice_get_within, same_Some}
 use Rattle.std.proofs.Math.Seq.{take-append_seam}
-use Rattle.log_model.specs.declared.entries.Entry.{Entry}
+use Rattle.log_model.specs.declared.entry.Entry.{Entry}
 use Rattle.log_model.specs.Legal.{Legal, MayStand}
 use Rattle.log_model.specs.Laws.{PrefixesAreLegal, LegalGrows}
 use Rattle.log_model.proofs.Last.{slice_get-last, slice_get-front, slice_get-take}

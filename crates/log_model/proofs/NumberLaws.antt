@@ -5,8 +5,8 @@ use Rattle.std.proofs.lemmas.Bool.{cases_eq, cases_lt}
 use Rattle.std.proofs.lemmas.List.{take-append-le, take-append-drop, take-take, take_all}
 use Rattle.std.proofs.lemmas.List.Sums.{fold-append, sum_by-append, sum_by-cons, sum_by-take-le}
 use Rattle.std.proofs.lemmas.Option.{same_Some}
-use Rattle.log_model.specs.declared.entries.Entry.{Entry}
-use Rattle.log_model.specs.Entries.{is_snap, is_enable, resets}
+use Rattle.log_model.specs.declared.entry.Entry.{Entry}
+use Rattle.log_model.specs.Entry.{is_snap, is_enable, resets}
 use Rattle.log_model.specs.Marks.{epoch, counted, counted_after, number}
 use Rattle.log_model.specs.Laws.{GivesNumber, NumbersHaveNoGap, NumbersDiffer}
 use Rattle.log_model.proofs.Last.{by_last, slice_get-last, slice_get-front, at_place}

@@ -3,11 +3,11 @@ use Rattle.std.proofs.Common.{◌≡◌, ℕ, ◌+◌, ◌≤◌, List, [], ◌�
 use Rattle.std.proofs.lemmas.Bool.{eqb-true}
 use Rattle.std.proofs.lemmas.Option.{none-some}
 use Rattle.std.proofs.lemmas.List.Sums.{fold-append, sum_by-append}
-use Rattle.log_model.specs.declared.entries.Owner.{Owner}
-use Rattle.log_model.specs.declared.entries.Act.{Act}
-use Rattle.log_model.specs.declared.entries.Act.TheVariants.{Write, Snap, Remove, Reset, Enable, Off, On}
-use Rattle.log_model.specs.declared.entries.Entry.{Entry}
-use Rattle.log_model.specs.Entries.{is_snap}
+use Rattle.log_model.specs.declared.entry.Owner.{Owner}
+use Rattle.log_model.specs.declared.entry.Act.{Act}
+use Rattle.log_model.specs.declared.entry.Act.TheVariants.{Write, Snap, Remove, Reset, Enable, Off, On}
+use Rattle.log_model.specs.declared.entry.Entry.{Entry}
+use Rattle.log_model.specs.Entry.{is_snap}
 use Rattle.log_model.specs.Legal.{Legal, ActMayStand, taken, owner_of, owner_after}
 use Rattle.log_model.specs.Link.{IsLeastOwned}
 use Rattle.log_model.proofs.Last.{by_last}

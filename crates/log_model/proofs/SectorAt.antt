@@ -8,13 +8,13 @@ use Rattle.std.proofs.lemmas.List.FromFn.{fill_by_all}
 use Rattle.sector_model.specs.Disk.{Write as Replacement, after_write, fresh_disk}
 use Rattle.sector_model.specs.Sector.{zero_sector}
 use Rattle.sector_model.specs.declared.sector.Sector.{Sector}
-use Rattle.log_model.specs.declared.entries.Entry.{Entry}
-use Rattle.log_model.specs.Entries.{writes_of, write_to, contents}
+use Rattle.log_model.specs.declared.entry.Entry.{Entry}
+use Rattle.log_model.specs.Entry.{writes_of, write_to, contents}
 use Rattle.log_model.specs.Legal.{Legal, capacity_of}
 use Rattle.log_model.specs.Refusals.{is_within, is_known}
-use Rattle.log_model.specs.Plain.{sector_at, sector_after, sector_of_write}
+use Rattle.log_model.specs.PlainMachine.{sector_at, sector_after, sector_of_write}
 use Rattle.log_model.proofs.Last.{slice_get-take}
-use Rattle.log_model.proofs.Replaced.{Fits, length-replaced, replaced-before, replaced-within, replaced-behind, slice_get-drop}
+use Rattle.sector_model.proofs.Replaced.{Fits, length-replaced, replaced-before, replaced-within, replaced-behind, slice_get-drop}
 use Rattle.log_model.proofs.TouchedLaws.{writes_fit, length-contents}
 
 lt-leb_false : (m n : ℕ) → m < n → leb n m ≡ false

@@ -12,16 +12,16 @@ use Rattle.sector_model.specs.Disk.{Write as Replacement, after_write, fold_writ
 use Rattle.sector_model.specs.Sector.{zero_sector}
 use Rattle.sector_model.specs.Run.{touches, touched_blocks, block_count, in_blocks}
 use Rattle.sector_model.specs.declared.sector.Sector.{Sector}
-use Rattle.log_model.specs.declared.entries.Act.{Act}
-use Rattle.log_model.specs.declared.entries.Act.TheVariants.{Write, Snap, Remove, Reset, Enable, Off, On}
-use Rattle.log_model.specs.declared.entries.Entry.{Entry}
-use Rattle.log_model.specs.Entries.{writes_of, write_to, contents}
+use Rattle.log_model.specs.declared.entry.Act.{Act}
+use Rattle.log_model.specs.declared.entry.Act.TheVariants.{Write, Snap, Remove, Reset, Enable, Off, On}
+use Rattle.log_model.specs.declared.entry.Entry.{Entry}
+use Rattle.log_model.specs.Entry.{writes_of, write_to, contents}
 use Rattle.log_model.specs.Legal.{Legal, ActMayStand, capacity_of}
 use Rattle.log_model.specs.Touched.{between}
 use Rattle.log_model.specs.Laws.{TouchedJoins, UntouchedStays}
 use Rattle.log_model.proofs.Last.{by_last}
 use Rattle.log_model.proofs.LegalLogs.{legal_last, legal_front, prefixes_are_legal}
-use Rattle.log_model.proofs.Replaced.{Fits, untouched, length-after_writes}
+use Rattle.sector_model.proofs.Replaced.{Fits, untouched, length-after_writes}
 
 pub writes-append : (d : ℕ) (xs ys : List Entry) → writes_of d (xs ++ ys) ≡ writes_of d xs ++ writes_of d ys
 writes-append d xs ys = let found : Entry → Option Replacement = λ e. write_to d e.act in filter_map-append found xs ys
