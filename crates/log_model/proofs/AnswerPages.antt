@@ -16,7 +16,7 @@ use Rattle.log_model.specs.Marks.{mark, in_force}
 use Rattle.log_model.specs.Touched.{touched, touched_areas}
 use Rattle.log_model.specs.Laws.{AnswerPagesJoin, AllPagesAreTheAnswer}
 
-ok_part : (b : Bool) (x y : List Run) (e : Option ChangeId) → cond b (Ok x) (Err e) ≡ Ok y → x ≡ y
+pub ok_part : (b : Bool) (x y : List Run) (e : Option ChangeId) → cond b (Ok x) (Err e) ≡ Ok y → x ≡ y
 ok_part true x y e h = cc
 ok_part false x y e h = absurd (cc)
 

@@ -2,7 +2,7 @@
 -- other callers too: each call sees the log at one moment, which begins with what this caller had
 -- seen, and what is new in it is of others. All that a caller knows of a machine is plain data, so
 -- that a history which several callers share can carry it.
-use Rattle.std.specs.Prelude.{◌≡◌, ℕ, ◌+◌, ◌-◌, ◌<◌, ◌≤◌, ◌==◌, List, [], ◌∷◌, ◌++◌, length, take, drop, Bool, true, false, Option, Some, None, Result, Ok, Err, IsOk, IfErr}
+use Rattle.std.specs.Prelude.{◌≡◌, ℕ, ◌+◌, ◌-◌, ◌<◌, ◌≤◌, ◌==◌, List, [], ◌∷◌, ◌++◌, length, take, drop, Bool, true, false, Option, Some, None, Result, Ok, Err}
 use Rattle.std.specs.List.{filter}
 use Rattle.log_model.specs.declared.entry.Owner.{Owner}
 use Rattle.log_model.specs.declared.entry.Act.{Act}
@@ -10,7 +10,6 @@ use Rattle.log_model.specs.declared.entry.Entry.{Entry}
 use Rattle.log_model.specs.declared.folds.Tracking.{Tracking}
 use Rattle.log_model.specs.declared.folds.Tracking.TheVariants.{Never, Enabled, Active}
 use Rattle.log_model.specs.declared.refusals.LinkRefused.{LinkRefused}
-use Rattle.log_model.specs.declared.refusals.LinkRefused.TheVariants.{NoMemory}
 use Rattle.log_model.specs.declared.link.Snapped.{Snapped}
 use Rattle.log_model.specs.declared.link.Facts.{Facts}
 use Rattle.log_model.specs.Legal.{Legal, all_of, machine_on, taken, owner_of, is_enabled}
@@ -83,20 +82,6 @@ pub record GoesOn (before after : LinkState) : Type 0 where
   pub alone : before.unshared ≡ true
       → filter (is_by before.caller) (drop (length before.seen) after.seen)
       ≡ drop (length before.seen) after.seen
-
--- the call answers the refusal that stands, and is accepted where none does
-abbrev pub IsRefusedBy : {T : Type 0} → Option LinkRefused → Result T LinkRefused → Type 0
-IsRefusedBy None result = IsOk result
-IsRefusedBy (Some refusal) result = result ≡ Err refusal
-
--- the same, but that want of memory, which `free` tells, may come where no refusal stands
-abbrev pub IsRefusedOr : {T E : Type 0} → Option E → (free : E) → Result T E → Type 0
-IsRefusedOr None free result = IfErr result (λ refusal. refusal ≡ free)
-IsRefusedOr (Some refusal) free result = result ≡ Err refusal
-
-abbrev pub IsRefusedByOrNoMemory : {T : Type 0} → Option LinkRefused → Result T LinkRefused
-    → Type 0
-IsRefusedByOrNoMemory refusal result = IsRefusedOr refusal NoMemory result
 
 -- what taking a snapshot after the log tells: its id, its mark, and the place where the machine
 -- went off, if it is off

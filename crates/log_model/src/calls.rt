@@ -1,7 +1,8 @@
 //! What each call adds to a log, and why it is refused.
 ghost use Rattle.std.specs.Prelude.{◌≡◌, ◌+◌, ◌≤◌, IfOk, length};
 ghost use Rattle.log_model.specs.Legal.{taken, written};
-ghost use Rattle.log_model.specs.Link.{IsRefusedByOrNoMemory, IsRefusedOr, snapped_after};
+ghost use Rattle.basics.specs.Refusal.{IsRefusedOr};
+ghost use Rattle.log_model.specs.Link.{snapped_after};
 ghost use Rattle.log_model.specs.Refusals.{spent_refusal, snap_refusal, may_remove, remove_refusal, power_off_refusal, power_on_refusal, reset_refusal, enable_refusal, write_refusal};
 ghost use Rattle.log_model.specs.PlainMachine.{Appends};
 
@@ -19,7 +20,7 @@ fn append(log: &mut Vec<Entry>, who: u32, act: Act) -> Result<(), LinkRefused>
     ensures entries { Appends result
         (record { who = who; act = act })
         log.old.items log.new.items }
-    ensures refused { IsRefusedByOrNoMemory (spent_refusal log.old.items) result }
+    ensures refused { IsRefusedOr (spent_refusal log.old.items) LinkRefused.NoMemory result }
 {
     if log.len() >= MAX_LOG_ENTRIES {
         return Err(LinkRefused::Spent);
@@ -41,7 +42,7 @@ pub fn snap(
     ensures entries { Appends result
         (record { who = who; act = Act.Snap (taken log.old.items + 1) owner })
         log.old.items log.new.items }
-    ensures refused { IsRefusedByOrNoMemory (snap_refusal must_be_off log.old.items) result }
+    ensures refused { IsRefusedOr (snap_refusal must_be_off log.old.items) LinkRefused.NoMemory result }
     ensures snapped { IfOk result (λ snapped. snapped ≡ snapped_after log.old.items) }
 {
     if must_be_off && machine_on(log) {
@@ -73,7 +74,7 @@ pub fn remove(log: &mut Vec<Entry>, who: u32, owner: Owner, id: u32) -> Result<(
     ensures entries { Appends result
         (record { who = who; act = Act.Remove id })
         log.old.items log.new.items }
-    ensures refused { IsRefusedByOrNoMemory (remove_refusal who owner id log.old.items) result }
+    ensures refused { IsRefusedOr (remove_refusal who owner id log.old.items) LinkRefused.NoMemory result }
 {
     match owner_of(log, id) {
         None => Err(LinkRefused::UnknownSnap),
@@ -87,7 +88,7 @@ pub fn power_off(log: &mut Vec<Entry>, who: u32) -> Result<u64, LinkRefused>
     ensures entries { Appends result
         (record { who = who; act = Act.Off })
         log.old.items log.new.items }
-    ensures refused { IsRefusedByOrNoMemory (power_off_refusal log.old.items) result }
+    ensures refused { IsRefusedOr (power_off_refusal log.old.items) LinkRefused.NoMemory result }
     ensures place { IfOk result (λ place. place ≡ length log.old.items) }
 {
     if !machine_on(log) {
@@ -103,7 +104,7 @@ pub fn power_on(log: &mut Vec<Entry>, who: u32) -> Result<u64, LinkRefused>
     ensures entries { Appends result
         (record { who = who; act = Act.On })
         log.old.items log.new.items }
-    ensures refused { IsRefusedByOrNoMemory (power_on_refusal log.old.items) result }
+    ensures refused { IsRefusedOr (power_on_refusal log.old.items) LinkRefused.NoMemory result }
     ensures place { IfOk result (λ place. place ≡ length log.old.items) }
 {
     if machine_on(log) {
@@ -124,8 +125,8 @@ pub fn reset(
     ensures entries { Appends result
         (record { who = who; act = Act.Reset disk })
         log.old.items log.new.items }
-    ensures refused { IsRefusedByOrNoMemory
-        (reset_refusal capacities.now disk log.old.items) result }
+    ensures refused { IsRefusedOr
+        (reset_refusal capacities.now disk log.old.items) LinkRefused.NoMemory result }
 {
     if disk as usize >= capacities.len() {
         return Err(LinkRefused::Range);
@@ -138,7 +139,7 @@ pub fn enable(log: &mut Vec<Entry>, who: u32) -> Result<(), LinkRefused>
     ensures entries { Appends result
         (record { who = who; act = Act.Enable })
         log.old.items log.new.items }
-    ensures refused { IsRefusedByOrNoMemory (enable_refusal log.old.items) result }
+    ensures refused { IsRefusedOr (enable_refusal log.old.items) LinkRefused.NoMemory result }
 {
     if is_enabled(log) {
         return Err(LinkRefused::AlreadyEnabled);

@@ -134,7 +134,7 @@ pub struct EntryList {
 
 impl Model for EntryList {
     ghost use Rattle.std.specs.Prelude.{List};
-    ghost use Rattle.log_model.specs.declared.entries.Entry.{Entry};
+    ghost use Rattle.log_model.specs.declared.entry.Entry.{Entry};
 
     ghost Value = { List Entry };
 

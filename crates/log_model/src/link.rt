@@ -6,9 +6,10 @@ ghost use Rattle.log_model.specs.Marks.{id_at};
 ghost use Rattle.log_model.specs.Frozen.{frozen};
 ghost use Rattle.log_model.specs.Query.{changed_areas};
 ghost use Rattle.log_model.specs.Refusals.{snap_refusal, remove_refusal, change_id_refusal, query_refusal, read_refusal, power_off_refusal, power_on_refusal, reset_refusal, enable_refusal};
-ghost use Rattle.log_model.specs.Link.{LinkState, OnlyReads, Adds, log_met, IsRefusedBy, IsRefusedByOrNoMemory, snapped_after, facts_of, IsLeastOwned};
+ghost use Rattle.basics.specs.Refusal.{IsRefusedBy, IsRefusedOr};
+ghost use Rattle.log_model.specs.Link.{LinkState, OnlyReads, Adds, log_met, snapped_after, facts_of, IsLeastOwned};
 
-use crate::{LinkRefused, Owner};
+use crate::{Act, LinkRefused, Owner};
 use change_id::{ChangeId, Since};
 use sector_model::{Page, Sector};
 
@@ -53,8 +54,8 @@ pub trait Link {
         requires { ActsFor (state self.old).caller owner }
         ensures adds { Adds result (Act.Snap (taken (log_met result (state self.new)) + 1) owner)
             (state self.old) (state self.new) }
-        ensures refused { IsRefusedByOrNoMemory
-            (snap_refusal must_be_off (log_met result (state self.new))) result }
+        ensures refused { IsRefusedOr
+            (snap_refusal must_be_off (log_met result (state self.new))) LinkRefused.NoMemory result }
         ensures snapped { IfOk result
             (λ snapped. snapped ≡ snapped_after (log_met result (state self.new))) };
 
@@ -63,8 +64,8 @@ pub trait Link {
     /// number isn't 1, [`LinkRefused::Spent`] where the log is full, [`LinkRefused::NoMemory`].
     fn remove(&mut self, owner: Owner, id: u32) -> Result<(), LinkRefused>
         ensures adds { Adds result (Act.Remove id) (state self.old) (state self.new) }
-        ensures refused { IsRefusedByOrNoMemory
-            (remove_refusal (state self.old).caller owner id (log_met result (state self.new)))
+        ensures refused { IsRefusedOr
+            (remove_refusal (state self.old).caller owner id (log_met result (state self.new))) LinkRefused.NoMemory
             result };
 
     /// The identifier of a disk at a live snapshot, if tracking was enabled before it. A later
@@ -124,16 +125,16 @@ pub trait Link {
     /// it is off, [`LinkRefused::Spent`] where the log is full, [`LinkRefused::NoMemory`].
     fn power_off(&mut self) -> Result<u64, LinkRefused>
         ensures adds { Adds result Act.Off (state self.old) (state self.new) }
-        ensures refused { IsRefusedByOrNoMemory
-            (power_off_refusal (log_met result (state self.new))) result }
+        ensures refused { IsRefusedOr
+            (power_off_refusal (log_met result (state self.new))) LinkRefused.NoMemory result }
         ensures place { IfOk result (λ place. place ≡ length (log_met result (state self.new))) };
 
     /// Powers the machine on, and tells the place of the entry. [`LinkRefused::AlreadyOn`] where it
     /// is on, [`LinkRefused::Spent`] where the log is full, [`LinkRefused::NoMemory`].
     fn power_on(&mut self) -> Result<u64, LinkRefused>
         ensures adds { Adds result Act.On (state self.old) (state self.new) }
-        ensures refused { IsRefusedByOrNoMemory
-            (power_on_refusal (log_met result (state self.new))) result }
+        ensures refused { IsRefusedOr
+            (power_on_refusal (log_met result (state self.new))) LinkRefused.NoMemory result }
         ensures place { IfOk result (λ place. place ≡ length (log_met result (state self.new))) };
 
     /// Resets the tracking of a disk: identifiers given before are strange from then on.
@@ -141,16 +142,16 @@ pub trait Link {
     /// full, [`LinkRefused::NoMemory`].
     fn reset(&mut self, disk: u32) -> Result<(), LinkRefused>
         ensures adds { Adds result (Act.Reset disk) (state self.old) (state self.new) }
-        ensures refused { IsRefusedByOrNoMemory
-            (reset_refusal (state self.old).capacities disk (log_met result (state self.new)))
+        ensures refused { IsRefusedOr
+            (reset_refusal (state self.old).capacities disk (log_met result (state self.new))) LinkRefused.NoMemory
             result };
 
     /// Enables change tracking. [`LinkRefused::AlreadyEnabled`] where it was enabled before,
     /// [`LinkRefused::Spent`] where the log is full, [`LinkRefused::NoMemory`].
     fn enable(&mut self) -> Result<(), LinkRefused>
         ensures adds { Adds result Act.Enable (state self.old) (state self.new) }
-        ensures refused { IsRefusedByOrNoMemory
-            (enable_refusal (log_met result (state self.new))) result };
+        ensures refused { IsRefusedOr
+            (enable_refusal (log_met result (state self.new))) LinkRefused.NoMemory result };
 
     /// What the machine is like.
     fn facts(&mut self) -> Facts

@@ -3,9 +3,9 @@
 //! definitions on small inputs, and is what faster machines are compared with. It stays plain: a
 //! query looks at every sector of its disk.
 ghost use Rattle.std.specs.Prelude.{◌≡◌, [], length, IfOk, OnOk, OnErr};
-ghost use Rattle.log_model.specs.declared.entries.Act.{Act};
+ghost use Rattle.log_model.specs.declared.entry.Act.{Act};
 ghost use Rattle.log_model.specs.Refusals.{write_refusal};
-ghost use Rattle.log_model.specs.Link.{IsRefusedOr};
+ghost use Rattle.basics.specs.Refusal.{IsRefusedOr};
 ghost use Rattle.log_model.specs.PlainMachine.{plain_state, with_entry};
 
 use crate::folds::{facts_of, least_owned, mark, owner_of};

@@ -5,7 +5,8 @@ use Rattle.sector_model.specs.declared.run.Run.{Run}
 use Rattle.sector_model.proofs.Spacing.{Kept, runs_of-kept}
 use Rattle.log_model.specs.declared.entry.Entry.{Entry}
 use Rattle.log_model.specs.Entry.{writes_of}
-use Rattle.log_model.proofs.AreaLemmas.{touched_runs, Next, next_is, areas_from-none}
+use Rattle.sector_model.proofs.NextRun.{Next, next_is, areas_from-none}
+use Rattle.log_model.proofs.AreaLemmas.{touched_runs}
 use Rattle.sector_model.proofs.PageFilled.{last_pushed, full_page, last_page}
 use Rattle.log_model.proofs.query.fill_page.Goals as goal
 

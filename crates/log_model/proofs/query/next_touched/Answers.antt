@@ -5,7 +5,8 @@ use Rattle.sector_model.proofs.Spacing.{runs_of-kept}
 use Rattle.log_model.specs.declared.entry.Entry.{Entry}
 use Rattle.log_model.specs.Entry.{writes_of}
 use Rattle.log_model.specs.PlainMachine.{is_touched}
-use Rattle.log_model.proofs.AreaLemmas.{next_some, next_none, in_touched_runs, past_touched_runs, touched_runs, true_false}
+use Rattle.sector_model.proofs.NextRun.{next_some, next_none, true_false}
+use Rattle.log_model.proofs.AreaLemmas.{in_touched_runs, past_touched_runs, touched_runs}
 use Rattle.log_model.proofs.query.next_touched.Goals as goal
 
 spaced : (c d : ℕ) (log : List Entry) → c < 2 ^ 64 → AreSpaced (touched_runs c d log)

@@ -1,13 +1,14 @@
 use Rattle.std.proofs.Common.{ℕ, List, length, subst}
 use Rattle.log_model.specs.declared.entry.Act.TheVariants.{Write}
 use Rattle.log_model.specs.declared.refusals.WriteRefused.TheVariants.{NoMemory}
+use Rattle.log_model.specs.Legal.{all_of}
 use Rattle.log_model.specs.Refusals.{write_refusal}
-use Rattle.log_model.specs.Link.{IsRefusedOr}
+use Rattle.basics.specs.Refusal.{IsRefusedOr}
 use Rattle.log_model.proofs.Accepted.{write_stands, written_bounded, plain_legal}
 use Rattle.log_model.proofs.plain_machine.PlainMachine.write.Goals as goal
 
 pub write-requires : goal.write-requires
-write-requires c = written_bounded c.self.inside.capacities.items c.self.inside.entries.items c.self.invariant
+write-requires c = written_bounded (all_of c.self.inside.capacities.items) c.self.inside.entries.items c.self.invariant
 
 pub invariant_of-self : goal.invariant_of-self
 invariant_of-self c =

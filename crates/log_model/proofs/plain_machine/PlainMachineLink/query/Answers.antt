@@ -15,7 +15,8 @@ use Rattle.log_model.specs.Marks.{mark, in_force}
 use Rattle.log_model.specs.Touched.{between, touched_areas}
 use Rattle.log_model.specs.Query.{changed_areas}
 use Rattle.log_model.specs.Refusals.{is_known, is_live, strange_refusal, query_refusal}
-use Rattle.log_model.specs.Link.{LinkState, OnlyReads, IsRefusedBy}
+use Rattle.basics.specs.Refusal.{IsRefusedBy}
+use Rattle.log_model.specs.Link.{LinkState, OnlyReads}
 use Rattle.log_model.proofs.Accepted.{plain_looks}
 use Rattle.log_model.proofs.plain_machine.PlainMachineLink.query.Goals as goal
 
@@ -58,8 +59,8 @@ capacity_is : (b : Bool) (x y : ℕ) → MatchBool b (◌≡◌ {A = Result ℕ 
 capacity_is true x y h = cc
 capacity_is false x y h = absurd (cc)
 
-pub returns-clause-answer : goal.returns-clause-answer
-returns-clause-answer c =
+pub returns-clause-areas : goal.returns-clause-areas
+returns-clause-areas c =
     let log : List Entry = c.as_slice-log.result.now in
     let sizes : List ℕ = c.as_slice.result.now in
     let d : ℕ = c.args.disk in
