@@ -19,10 +19,10 @@ use Rattle.log_model.specs.declared.refusals.WriteRefused.{WriteRefused}
 use Rattle.log_model.specs.declared.refusals.WriteRefused.TheVariants.{Off as Off_refused, Range as OutOfRange, LogFull}
 use Rattle.log_model.specs.Entry.{sectors_of}
 use Rattle.log_model.specs.Legal.{Disks, all_of, ActsFor, Legal, ActMayStand, OwnerLets, machine_on, owner_of, is_enabled, taken, written, capacity_of}
-use Rattle.log_model.specs.Laws.{Stands, AcceptedMayStand}
+use Rattle.log_model.specs.Laws.{FitsBehind, AcceptedMayStand}
 use Rattle.log_model.specs.Refusals.{spent_refusal, snap_refusal, remove_refusal, owner_refusal, may_remove, power_off_refusal, power_on_refusal, reset_refusal, enable_refusal, write_refusal, is_spent, is_known, is_within}
 use Rattle.basics.specs.Refusal.{IsRefusedOr}
-use Rattle.log_model.specs.Link.{LinkState, IsCall, OnlyReads, Adds, log_met, is_by}
+use Rattle.log_model.specs.Link.{LinkState, IsCall, OnlyReads, AddsAct, log_met, is_by}
 use Rattle.log_model.specs.PlainMachine.{Appends, plain_state}
 use Rattle.log_model.proofs.Last.{by_last}
 use Rattle.log_model.proofs.LegalLogs.{legal_grows, legal_last, legal_front}
@@ -45,7 +45,7 @@ room : (log : List Entry) → spent_refusal log ≡ None → length log < MAX_LO
 room log h = leb-false MAX_LOG_ENTRIES (length log) (chosen_none (is_spent log) Spent None h).0
 
 pub snap_stands : (capacities : List ℕ) (log : List Entry) (who : ℕ) (must_be_off : Bool) (owner : Owner) → ActsFor who owner → snap_refusal must_be_off log ≡ None
-    → Stands (all_of capacities) log who (Snap (taken log + 1) owner)
+    → FitsBehind (all_of capacities) log who (Snap (taken log + 1) owner)
 snap_stands capacities log who must_be_off owner lets h = ((refl, lets), room log (chosen_none (must_be_off && machine_on log) Running (spent_refusal log) h).1)
 
 and_second : (a b : Bool) → (a && b) ≡ true → b ≡ true
@@ -64,21 +64,21 @@ owner_stands who owner (Some has) log h =
     let both = other_none (may_remove who owner has) Owned (spent_refusal log) h in
     (lets who owner has both.0, room log both.1)
 
-pub remove_stands : (capacities : List ℕ) (log : List Entry) (who : ℕ) (owner : Owner) (id : ℕ) → remove_refusal who owner id log ≡ None → Stands (all_of capacities) log who (Remove id)
+pub remove_stands : (capacities : List ℕ) (log : List Entry) (who : ℕ) (owner : Owner) (id : ℕ) → remove_refusal who owner id log ≡ None → FitsBehind (all_of capacities) log who (Remove id)
 remove_stands capacities log who owner id h = owner_stands who owner (owner_of id log) log h
 
-pub off_stands : (capacities : List ℕ) (log : List Entry) (who : ℕ) → power_off_refusal log ≡ None → Stands (all_of capacities) log who Off
+pub off_stands : (capacities : List ℕ) (log : List Entry) (who : ℕ) → power_off_refusal log ≡ None → FitsBehind (all_of capacities) log who Off
 off_stands capacities log who h = let both = other_none (machine_on log) AlreadyOff (spent_refusal log) h in (both.0, room log both.1)
 
-pub on_stands : (capacities : List ℕ) (log : List Entry) (who : ℕ) → power_on_refusal log ≡ None → Stands (all_of capacities) log who On
+pub on_stands : (capacities : List ℕ) (log : List Entry) (who : ℕ) → power_on_refusal log ≡ None → FitsBehind (all_of capacities) log who On
 on_stands capacities log who h = let both = chosen_none (machine_on log) AlreadyOn (spent_refusal log) h in (both.0, room log both.1)
 
-pub reset_stands : (capacities : List ℕ) (log : List Entry) (who disk : ℕ) → reset_refusal capacities disk log ≡ None → Stands (all_of capacities) log who (Reset disk)
+pub reset_stands : (capacities : List ℕ) (log : List Entry) (who disk : ℕ) → reset_refusal capacities disk log ≡ None → FitsBehind (all_of capacities) log who (Reset disk)
 reset_stands capacities log who disk h =
     let both = chosen_none (not (is_known capacities disk)) Range (spent_refusal log) h in
     (ltb-true disk (length capacities) (not_false (is_known capacities disk) both.0), room log both.1)
 
-pub enable_stands : (capacities : List ℕ) (log : List Entry) (who : ℕ) → enable_refusal log ≡ None → Stands (all_of capacities) log who Enable
+pub enable_stands : (capacities : List ℕ) (log : List Entry) (who : ℕ) → enable_refusal log ≡ None → FitsBehind (all_of capacities) log who Enable
 enable_stands capacities log who h = let both = chosen_none (is_enabled log) AlreadyEnabled (spent_refusal log) h in (both.0, room log both.1)
 
 or_false : (a b : Bool) → (a || b) ≡ false → (a ≡ false) × (b ≡ false)
@@ -89,7 +89,7 @@ and_true : (a b : Bool) → (a && b) ≡ true → (a ≡ true) × (b ≡ true)
 and_true true b h = (refl, h)
 and_true false b h = absurd (cc)
 
-pub write_stands : (capacities : List ℕ) (log : List Entry) (who disk first : ℕ) (sectors : List Sector) → write_refusal capacities disk first (length sectors) log ≡ None → Stands (all_of capacities) log who (Write disk first sectors)
+pub write_stands : (capacities : List ℕ) (log : List Entry) (who disk first : ℕ) (sectors : List Sector) → write_refusal capacities disk first (length sectors) log ≡ None → FitsBehind (all_of capacities) log who (Write disk first sectors)
 write_stands capacities log who disk first sectors h =
     let count : ℕ = length sectors in
     let last : Option WriteRefused = cond (ltb MAX_LOGGED_SECTORS (written log + count) || is_spent log) (Some LogFull) None in
@@ -147,20 +147,20 @@ leaves_same machine capacities caller log legal =
     let own : List Entry = filter (is_by caller) log in
     let made : List Entry → List Entry → LinkState = λ seen kept. record { machine = machine; capacities = capacities; caller = caller; turn = None; unshared = true; seen = seen; own = kept } in
     record {
-      after_is = ap (λ (xs : List Entry). made xs own) (sym (append-nil log)) ∙ ap (λ (xs : List Entry). made (log ++ []) xs) (sym (append-nil own));
+      new_is = ap (λ (xs : List Entry). made xs own) (sym (append-nil log)) ∙ ap (λ (xs : List Entry). made (log ++ []) xs) (sym (append-nil own));
       goes_on = take_all (length log) log (omega arith);
       others = ap (filter (is_by caller)) (drop_all (length log) log (omega arith));
       alone = λ _. refl;
       legal = subst (Legal (all_of capacities)) (sym (append-nil log)) legal;
     }
 
-leaves_more : (machine : ℕ) (capacities : List ℕ) (caller : ℕ) (log : List Entry) (act : Act) → Legal (all_of capacities) log → Stands (all_of capacities) log caller act
+leaves_more : (machine : ℕ) (capacities : List ℕ) (caller : ℕ) (log : List Entry) (act : Act) → Legal (all_of capacities) log → FitsBehind (all_of capacities) log caller act
     → IsCall log (record { who = caller; act = act } ∷ []) (plain_state machine capacities caller log) (plain_state machine capacities caller (log ++ record { who = caller; act = act } ∷ []))
 leaves_more machine capacities caller log act legal stands =
     let e : Entry = record { who = caller; act = act } in
     let mine : filter (is_by caller) (e ∷ []) ≡ e ∷ [] = ap (λ b. cond b (e ∷ []) []) (eq-eqb caller caller refl) in
     record {
-      after_is = ap (λ (xs : List Entry). record { machine = machine; capacities = capacities; caller = caller; turn = None; unshared = true; seen = log ++ e ∷ []; own = xs })
+      new_is = ap (λ (xs : List Entry). record { machine = machine; capacities = capacities; caller = caller; turn = None; unshared = true; seen = log ++ e ∷ []; own = xs })
           (filter-append (is_by caller) log (e ∷ []) ∙ ap (λ (xs : List Entry). filter (is_by caller) log ++ xs) mine);
       goes_on = take_all (length log) log (omega arith);
       others = ap (filter (is_by caller)) (drop_all (length log) log (omega arith));
@@ -183,15 +183,15 @@ log_before machine capacities caller (Ok x) e old new h = ap (λ (xs : List Entr
 log_before machine capacities caller (Err r) e old new h = h
 
 pub plain_legal : {T E : Type 0} (capacities : List ℕ) (caller : ℕ) (result : Result T E) (refusal : Option E) (free : E) (act : Act) (old new : List Entry) → Legal (all_of capacities) old
-    → Appends result (record { who = caller; act = act }) old new → IsRefusedOr refusal free result → (refusal ≡ None → Stands (all_of capacities) old caller act) → Legal (all_of capacities) new
+    → Appends result (record { who = caller; act = act }) old new → IsRefusedOr refusal free result → (refusal ≡ None → FitsBehind (all_of capacities) old caller act) → Legal (all_of capacities) new
 plain_legal capacities caller (Ok x) (Some r) free act old new legal added refused stands = absurd (cc)
 plain_legal capacities caller (Ok x) None free act old new legal added refused stands =
     let s = stands refl in subst (Legal (all_of capacities)) (sym added) (legal_grows (all_of capacities) old (record { who = caller; act = act }) legal s.1 s.0)
 plain_legal capacities caller (Err r) refusal free act old new legal added refused stands = subst (Legal (all_of capacities)) (sym added) legal
 
 pub plain_adds : {T : Type 0} (machine : ℕ) (capacities : List ℕ) (caller : ℕ) (result : Result T LinkRefused) (refusal : Option LinkRefused) (act : Act) (old new : List Entry) → Legal (all_of capacities) old
-    → Appends result (record { who = caller; act = act }) old new → IsRefusedOr refusal NoMemory result → (refusal ≡ None → Stands (all_of capacities) old caller act)
-    → Adds result act (plain_state machine capacities caller old) (plain_state machine capacities caller new)
+    → Appends result (record { who = caller; act = act }) old new → IsRefusedOr refusal NoMemory result → (refusal ≡ None → FitsBehind (all_of capacities) old caller act)
+    → AddsAct result act (plain_state machine capacities caller old) (plain_state machine capacities caller new)
 plain_adds machine capacities caller (Ok x) (Some r) act old new legal added refused stands = absurd (cc)
 plain_adds machine capacities caller (Ok x) None act old new legal added refused stands =
     let e : Entry = record { who = caller; act = act } in

@@ -12,15 +12,16 @@ use Rattle.change_id.specs.declared.Since.{Since}
 use Rattle.change_id.specs.declared.Since.TheVariants.{All as Everything, From}
 use Rattle.log_model.specs.declared.entry.Entry.{Entry}
 use Rattle.log_model.specs.Entry.{is_snap, writes_of}
-use Rattle.log_model.specs.Marks.{mark, before, through, epoch, number, in_force, id_at, is_reset_from}
+use Rattle.log_model.specs.Marks.{mark, before, through, epoch, number, in_force, HasId}
 use Rattle.log_model.specs.Touched.{touched_areas}
 use Rattle.log_model.specs.Query.{changed_areas, accepts, numbered_place}
-use Rattle.log_model.specs.Laws.{GivesNumber, AnswersStay, AnswersBetween, IdsAnswerBetween}
+use Rattle.log_model.specs.Laws.{AnswersStay, IdsAnswerBetween, NumberedPlaceIsMark}
 use Rattle.log_model.proofs.Last.{at_place}
 use Rattle.log_model.proofs.NumberLaws.{epoch-append, epoch-last, numbers_differ}
 use Rattle.log_model.proofs.Later.{later_entries_keep, numbered_place_gives}
 use Rattle.log_model.proofs.AnswerPages.{ok_part}
-use Rattle.log_model.proofs.Epochs.{no_resets, some_reset, epoch-parts, epoch-le, epoch-between, number-grows, number-take-le, number-le, still-given, takes-at_mark, snap-takes, snap-resets_none, InForce, in_force-parts, same-epochs}
+use Rattle.log_model.proofs.Epochs.{epoch-between, number-grows, number-take-le, number-le, still-given, snap-resets_none, in_force-parts, in_force-made, same-epochs}
+use Rattle.log_model.proofs.IdMarks.{found-has}
 
 -- ---- a test of four parts
 
@@ -113,34 +114,24 @@ answers_stay machine c d s (From id) log more areas less found =
     let told : List Run = touched_areas c d (numbered_place d id.seq log) (mark s log) log in
     from-stays machine c d s id log more areas less (ok_only (accepts machine d s id log) told areas (in_force machine d log) found) (ok_part (accepts machine d s id log) told areas (in_force machine d log) found)
 
--- ---- the identifier of a snapshot
+-- ---- the identifier of the snapshot at a place
 
--- the entry of the mark of a snapshot gives the number that its identifier has
-gives-at_mark : (d b n : ℕ) (log : List Entry) → mark b log < length log → epoch d (through b log) ≡ epoch d log → number d (through b log) ≡ n → GivesNumber d n log (mark b log)
-gives-at_mark d b n log within same numbered = record {
-  within = within;
-  by_snap = λ e read. snap-takes b e.act (takes-at_mark b log e read);
-  same_epoch = same;
-  numbered = numbered;
-}
-
--- the entry at the mark resets nothing
-pub epoch-at_mark : (d b : ℕ) (log : List Entry) → mark b log < length log → epoch d (through b log) ≡ epoch d (before b log)
-epoch-at_mark d b log within =
-    let here = at_place log (mark b log) within in
+-- the entry there resets nothing
+pub epoch-there : (machine d : ℕ) (id : ChangeId) (log : List Entry) (place : ℕ) → HasId machine d id log place → epoch d (take (place + 1) log) ≡ epoch d (take place log)
+epoch-there machine d id log place has =
+    let here = at_place log place has.within in
     let e : Entry = here.0 in
-    let upto : through b log ≡ before b log ++ e ∷ [] = ap (λ m. take m log) (add-one (mark b log)) ∙ here.2 in
-    ap (epoch d) upto ∙ epoch-last d (before b log) e (snap-resets_none d e.act (snap-takes b e.act (takes-at_mark b log e here.1)))
+    let upto : take (place + 1) log ≡ take place log ++ e ∷ [] = ap (λ m. take m log) (add-one place) ∙ here.2 in
+    ap (epoch d) upto ∙ epoch-last d (take place log) e (snap-resets_none d e.act (has.by_snap e here.1))
 
-accepted-between : (machine c d b s : ℕ) (id : ChangeId) (log : List Entry) → InForce machine d id (through b log) → mark b log ≤ mark s log → mark s log < length log
-    → epoch d (drop (mark b log) log) ≡ 0 → changed_areas machine c d s (From id) log ≡ Ok (touched_areas c d (mark b log) (mark s log) log)
-accepted-between machine c d b s id log own le within none =
-    let parts = epoch-parts d (mark b log) log in
-    let front : epoch d (before b log) ≡ epoch d log = omega (arith, parts, none) in
-    let upto : epoch d (through b log) ≡ epoch d log = epoch-between d (mark b log) (mark b log + 1) log (omega arith) front in
-    let here : epoch d (before s log) ≡ epoch d log = epoch-between d (mark b log) (mark s log) log le front in
-    let grown = number-take-le d (mark b log + 1) (mark s log + 1) log (omega arith) upto in
-    let whole = number-le d (mark b log + 1) log upto in
+accepted-between : (machine c d place s : ℕ) (id : ChangeId) (log : List Entry) → HasId machine d id log place → place ≤ mark s log → mark s log < length log
+    → epoch d (take place log) ≡ epoch d log → changed_areas machine c d s (From id) log ≡ Ok (touched_areas c d place (mark s log) log)
+accepted-between machine c d place s id log has le within front =
+    let own = in_force-parts machine d id (take (place + 1) log) has.identified in
+    let upto : epoch d (take (place + 1) log) ≡ epoch d log = epoch-between d place (place + 1) log (omega arith) front in
+    let here : epoch d (before s log) ≡ epoch d log = epoch-between d place (mark s log) log le front in
+    let grown = number-take-le d (place + 1) (mark s log + 1) log (omega arith) upto in
+    let whole = number-le d (place + 1) log upto in
     let low : 1 ≤ id.seq = let l = own.counted in let q = own.seq in omega (arith, l, q) in
     let all : accepts machine d s id log ≡ true = four-made (id.uuid == packed machine d (epoch d log)) (epoch d (before s log) == epoch d log) (nat_le 1 id.seq) (nat_le id.seq (number d (through s log)))
     (record {
@@ -149,29 +140,44 @@ accepted-between machine c d b s id log own le within none =
       three = le-leb 1 id.seq low;
       four = le-leb id.seq (number d (through s log)) (let q = own.seq in omega (arith, grown, q));
     }) in
-    let place : numbered_place d id.seq log ≡ mark b log =
-    numbers_differ d id.seq (numbered_place d id.seq log) (mark b log) log low
+    let same_place : numbered_place d id.seq log ≡ place =
+    numbers_differ d id.seq (numbered_place d id.seq log) place log low
     (numbered_place_gives d id.seq log low (let q = own.seq in omega (arith, whole, q)))
-    (gives-at_mark d b id.seq log (omega arith) upto (sym own.seq)) in
+    (record { within = has.within; by_snap = has.by_snap; same_epoch = upto; numbered = sym own.seq }) in
     ap (λ x. cond x (Ok (touched_areas c d (numbered_place d id.seq log) (mark s log) log)) (Err (in_force machine d log))) all
-    ∙ ap Ok (ap (λ k. touched_areas c d k (mark s log) log) place)
+    ∙ ap Ok (ap (λ k. touched_areas c d k (mark s log) log) same_place)
 
-strange-between : (machine c d b s : ℕ) (id : ChangeId) (log : List Entry) → InForce machine d id (through b log) → mark b log < length log
-    → 0 < epoch d (drop (mark b log) log) → changed_areas machine c d s (From id) log ≡ Err (in_force machine d log)
-strange-between machine c d b s id log own within some =
-    let parts = epoch-parts d (mark b log) log in
-    let upto = epoch-at_mark d b log within in
+strange-between : (machine c d place s : ℕ) (id : ChangeId) (log : List Entry) → HasId machine d id log place → (epoch d (take place log) ≡ epoch d log → ⊥)
+    → changed_areas machine c d s (From id) log ≡ Err (in_force machine d log)
+strange-between machine c d place s id log has reset =
+    let own = in_force-parts machine d id (take (place + 1) log) has.identified in
     let apart : id.uuid ≡ packed machine d (epoch d log) → ⊥ = λ same.
-    let epochs : epoch d (through b log) ≡ epoch d log = same-epochs machine d (epoch d (through b log)) (epoch d log) (sym own.uuid ∙ same) in
-    absurd (omega (arith, parts, upto, epochs, some)) in
+    reset (sym (epoch-there machine d id log place has) ∙ same-epochs machine d (epoch d (take (place + 1) log)) (epoch d log) (sym own.uuid ∙ same)) in
     ap (λ x. cond x (Ok (touched_areas c d (numbered_place d id.seq log) (mark s log) log)) (Err (in_force machine d log)))
     (first-fails (id.uuid == packed machine d (epoch d log)) (epoch d (before s log) == epoch d log) (nat_le 1 id.seq) (nat_le id.seq (number d (through s log)))
     (ne_eqb id.uuid (packed machine d (epoch d log)) apart))
 
 pub ids_answer_between : IdsAnswerBetween
-ids_answer_between machine c d b s id log own le within =
-    let parts = in_force-parts machine d id (through b log) own in
-    record {
-      accepted = λ none. accepted-between machine c d b s id log parts le within (no_resets d (drop (mark b log) log) none);
-      strange = λ some. strange-between machine c d b s id log parts (omega arith) (some_reset d (drop (mark b log) log) some);
-    }
+ids_answer_between machine c d place s id log has le within = record {
+  accepted = accepted-between machine c d place s id log has le within;
+  strange = strange-between machine c d place s id log has;
+}
+
+-- an accepted identifier is had by the snapshot whose number it has
+pub numbered_place_is_mark : NumberedPlaceIsMark
+numbered_place_is_mark machine d s id log accepted =
+    let parts = four-parts (id.uuid == packed machine d (epoch d log)) (epoch d (before s log) == epoch d log) (nat_le 1 id.seq) (nat_le id.seq (number d (through s log))) accepted in
+    let low : 1 ≤ id.seq = leb-true 1 id.seq parts.three in
+    let high : id.seq ≤ number d log = number-within d s id.seq log (eqb-true (epoch d (before s log)) (epoch d log) parts.two) (leb-true id.seq (number d (through s log)) parts.four) in
+    let place : ℕ = numbered_place d id.seq log in
+    let given = numbered_place_gives d id.seq log low high in
+    let numbered = given.numbered in
+    found-has machine d id log place (record {
+      within = given.within;
+      by_snap = given.by_snap;
+      identified = in_force-made machine d id (take (place + 1) log) (record {
+        counted = omega (arith, low, numbered);
+        uuid = eqb-true id.uuid (packed machine d (epoch d log)) parts.one ∙ ap (packed machine d) (sym given.same_epoch);
+        seq = sym numbered;
+      });
+    })

@@ -7,6 +7,7 @@ use Rattle.sector_model.specs.Page.{areas_from}
 use Rattle.sector_model.specs.declared.run.Run.{Run}
 use Rattle.sector_model.proofs.Spacing.{Kept, runs_of-kept}
 use Rattle.sector_model.proofs.PageLaws.{pages_joined}
+use Rattle.sector_model.proofs.PageWithin.{page_lies_within}
 use Rattle.change_id.specs.declared.ChangeId.{ChangeId}
 use Rattle.change_id.specs.declared.Since.{Since}
 use Rattle.change_id.specs.declared.Since.TheVariants.{All as Everything, From}
@@ -14,7 +15,7 @@ use Rattle.log_model.specs.declared.entry.Entry.{Entry}
 use Rattle.log_model.specs.Query.{changed_areas, accepts, numbered_place}
 use Rattle.log_model.specs.Marks.{mark, in_force}
 use Rattle.log_model.specs.Touched.{touched, touched_areas}
-use Rattle.log_model.specs.Laws.{AnswerPagesJoin, AllPagesAreTheAnswer}
+use Rattle.log_model.specs.Laws.{AnswersAreAreas, AnswerPagesJoin, AllPagesAreTheAnswer}
 
 pub ok_part : (b : Bool) (x y : List Run) (e : Option ChangeId) → cond b (Ok x) (Err e) ≡ Ok y → x ≡ y
 ok_part true x y e h = cc
@@ -47,3 +48,9 @@ pub all_pages_are_the_answer : AllPagesAreTheAnswer
 all_pages_are_the_answer machine c d s since log areas pages fits found are =
     let k = kept machine c d s since log areas fits found in
     answer_pages_join machine c d s since log areas 0 pages fits found are ∙ areas_from-start 0 areas k.spaced
+
+pub answers_are_areas : AnswersAreAreas
+answers_are_areas machine c d s since log areas fits found =
+    let k = kept machine c d s since log areas fits found in
+    let within = All-from_recursion (λ (r : Run). end_of r ≤ c) areas k.ends in
+    record { spaced = k.spaced; within = within; pages = λ start before. page_lies_within c areas start k.spaced within before }

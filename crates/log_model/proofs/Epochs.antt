@@ -1,6 +1,6 @@
 -- Epochs and numbers over a part of a log in which a disk is reset or isn't, and the entry at a mark.
 use Rattle.std.proofs.Common.{◌≡◌, ℕ, zero, suc, ◌+◌, ◌*◌, ◌^◌, ◌<◌, ◌≤◌, List, [], ◌∷◌, ◌++◌, length, take, drop, Bool, true, false, cond, not, ◌&&◌, ◌||◌, ◌==◌, eqb, Option, Some, None, unwrap_or, subst, sym, ap, refl, ◌∙◌, arith, inl, inr, length-append}
-use Rattle.std.specs.List.{fold, list_any, slice_get}
+use Rattle.std.specs.List.{fold, slice_get}
 use Rattle.std.proofs.lemmas.Bool.{eqb-true, eqb-false, eq-eqb, ne_eqb, le-leb, false≢true}
 use Rattle.std.proofs.lemmas.Option.{same_Some, none-some, slice_get_within, get_or_from_slice_get}
 use Rattle.std.proofs.lemmas.List.{take-append-le, take-append-drop, take-take}
@@ -16,27 +16,7 @@ use Rattle.log_model.specs.Marks.{mark, through, epoch, counted, counted_after, 
 use Rattle.log_model.specs.Laws.{GivesNumber}
 use Rattle.log_model.proofs.NumberLaws.{epoch-append, number-rises}
 
--- ---- a part of a log with no reset, and with one
-
-no_resets_at : (b rest : Bool) (n : ℕ) → (b || rest) ≡ false → (rest ≡ false → n ≡ 0) → ◌≡◌ {A = ℕ} (cond b 1 0 + n) 0
-no_resets_at true rest n none more = absurd (cc)
-no_resets_at false rest n none more = omega (arith, more none)
-
-pub no_resets : (d : ℕ) (xs : List Entry) → list_any (λ e. resets d e.act) xs ≡ false → epoch d xs ≡ 0
-no_resets d [] none = refl
-no_resets d (e ∷ xs) none =
-    sum_by-cons (λ x. cond (resets d x.act) 1 0) e xs ∙ no_resets_at (resets d e.act) (list_any (λ x. resets d x.act) xs) (epoch d xs) none (no_resets d xs)
-
-some_reset_at : (b rest : Bool) (n : ℕ) → (b || rest) ≡ true → (rest ≡ true → 0 < n) → 0 < cond b 1 0 + n
-some_reset_at true rest n some more = omega arith
-some_reset_at false rest n some more = omega (arith, more some)
-
-pub some_reset : (d : ℕ) (xs : List Entry) → list_any (λ e. resets d e.act) xs ≡ true → 0 < epoch d xs
-some_reset d [] some = absurd (false≢true some)
-some_reset d (e ∷ xs) some =
-    let step = sum_by-cons (λ x. cond (resets d x.act) 1 0) e xs in
-    let more = some_reset_at (resets d e.act) (list_any (λ x. resets d x.act) xs) (epoch d xs) some (some_reset d xs) in
-    omega (arith, step, more)
+-- ---- prefixes
 
 pub epoch-parts : (d k : ℕ) (log : List Entry) → epoch d (take k log) + epoch d (drop k log) ≡ epoch d log
 epoch-parts d k log = sum_by-take-drop (λ e. cond (resets d e.act) 1 0) log k

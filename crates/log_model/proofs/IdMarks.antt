@@ -1,7 +1,7 @@
 -- From an identifier to the mark of the snapshot that has it.
-use Rattle.std.proofs.Common.{◌≡◌, ℕ, zero, suc, ◌+◌, ◌<◌, ◌≤◌, List, [], ◌∷◌, ◌++◌, length, take, Bool, true, false, cond, ◌&&◌, ◌==◌, nat_le, Option, Some, None, subst, sym, ap, refl, ◌∙◌, arith, inl, inr, add-one, length-append, length-take}
+use Rattle.std.proofs.Common.{◌≡◌, ℕ, zero, suc, ◌+◌, ◌<◌, ◌≤◌, List, [], ◌∷◌, ◌++◌, length, take, Bool, true, false, cond, ◌&&◌, ◌==◌, eqb, Option, Some, None, subst, sym, ap, refl, ◌∙◌, arith, inl, inr, add-one, length-append, length-take}
 use Rattle.std.specs.List.{find, range_with_len, slice_get}
-use Rattle.std.proofs.lemmas.Bool.{cases_eq, eqb-true, eq-eqb, le-leb, leb-true, false≢true}
+use Rattle.std.proofs.lemmas.Bool.{cases_eq, eqb-true, eqb-false, eq-eqb, false≢true}
 use Rattle.std.proofs.lemmas.Option.{same_Some, none-some}
 use Rattle.std.proofs.lemmas.List.{take-append-le, take-take, take_all}
 use Rattle.change_id.specs.ChangeId.{packed}
@@ -9,7 +9,7 @@ use Rattle.change_id.specs.declared.ChangeId.{ChangeId}
 use Rattle.sector_model.proofs.ItemAt.{slice_get-front, slice_get-take}
 use Rattle.log_model.specs.declared.entry.Entry.{Entry}
 use Rattle.log_model.specs.Entry.{is_snap, is_enable, resets}
-use Rattle.log_model.specs.Marks.{mark, through, epoch, counted, number, in_force, id_at, is_in_force, mark_of_id, HasId}
+use Rattle.log_model.specs.Marks.{mark, through, epoch, counted, number, in_force, id_at, is_id, mark_of_id, HasId}
 use Rattle.log_model.specs.Laws.{GivesNumber, MarksOfIds}
 use Rattle.log_model.proofs.Last.{at_place}
 use Rattle.log_model.proofs.FoldLemmas.{find-range_at}
@@ -19,26 +19,25 @@ use Rattle.log_model.proofs.Epochs.{takes-at_mark, snap-takes, InForce, in_force
 
 -- ---- the test
 
-test-parts : (a b c : Bool) → (a && b && c) ≡ true → (a ≡ true) × (b ≡ true) × (c ≡ true)
-test-parts true true c h = (refl, refl, h)
-test-parts true false c h = absurd (false≢true h)
-test-parts false b c h = absurd (false≢true h)
+two-parts : (a b : Bool) → (a && b) ≡ true → (a ≡ true) × (b ≡ true)
+two-parts true b h = (refl, h)
+two-parts false b h = absurd (false≢true h)
 
-test-made : (a b c : Bool) → a ≡ true → b ≡ true → c ≡ true → (a && b && c) ≡ true
-test-made a b c x y z = ap (λ v. v && b && c) x ∙ ap (λ v. v && c) y ∙ z
+passed-at : (b : Bool) (u n : ℕ) (id : ChangeId) → eqb n 0 ≡ b → is_id id (cond b None (Some (record { uuid = u; seq = n }))) ≡ true → (1 ≤ n) × (id.uuid ≡ u) × (id.seq ≡ n)
+passed-at true u n id zero_number h = absurd (false≢true h)
+passed-at false u n id some_number h =
+    let parts = two-parts (u == id.uuid) (n == id.seq) h in
+    let not_zero = eqb-false n 0 some_number in
+    (omega (arith, not_zero), sym (eqb-true u id.uuid parts.0), sym (eqb-true n id.seq parts.1))
 
-passed : (machine d : ℕ) (id : ChangeId) (log : List Entry) → is_in_force machine d id log ≡ true → InForce machine d id log
+passed : (machine d : ℕ) (id : ChangeId) (log : List Entry) → is_id id (in_force machine d log) ≡ true → InForce machine d id log
 passed machine d id log h =
-    let parts = test-parts (id.uuid == packed machine d (epoch d log)) (id.seq == number d log) (nat_le 1 id.seq) h in
-    let seq : id.seq ≡ number d log = eqb-true id.seq (number d log) parts.1 in
-    let low : 1 ≤ id.seq = leb-true 1 id.seq parts.2 in
-    record { counted = omega (arith, seq, low); uuid = eqb-true id.uuid (packed machine d (epoch d log)) parts.0; seq = seq }
+    let parts = passed-at (eqb (number d log) 0) (packed machine d (epoch d log)) (number d log) id refl h in
+    record { counted = parts.0; uuid = parts.1; seq = parts.2 }
 
-passes : (machine d : ℕ) (id : ChangeId) (log : List Entry) → InForce machine d id log → is_in_force machine d id log ≡ true
+passes : (machine d : ℕ) (id : ChangeId) (log : List Entry) → InForce machine d id log → is_id id (in_force machine d log) ≡ true
 passes machine d id log h =
-    let low : 1 ≤ id.seq = let l = h.counted in let q = h.seq in omega (arith, l, q) in
-    test-made (id.uuid == packed machine d (epoch d log)) (id.seq == number d log) (nat_le 1 id.seq)
-    (eq-eqb id.uuid (packed machine d (epoch d log)) h.uuid) (eq-eqb id.seq (number d log) h.seq) (le-leb 1 id.seq low)
+    ap (is_id id) (in_force-made machine d id log h) ∙ ap (λ x. x && id.seq == id.seq) (eq-eqb id.uuid id.uuid refl) ∙ eq-eqb id.seq id.seq refl
 
 -- ---- what a search of a range has found
 
@@ -83,7 +82,7 @@ found-in test a (suc n) k h = found-step test a n k (test a) refl h (found-in te
 -- ---- the place with an identifier is one, and that of a Snap entry
 
 -- before the place whose entry takes the snapshot, the identifier isn't in force
-not-before : (machine d : ℕ) (id : ChangeId) (log : List Entry) (place k : ℕ) → HasId machine d id log place → k < place → is_in_force machine d id (take (k + 1) log) ≡ true → ⊥
+not-before : (machine d : ℕ) (id : ChangeId) (log : List Entry) (place k : ℕ) → HasId machine d id log place → k < place → is_id id (in_force machine d (take (k + 1) log)) ≡ true → ⊥
 not-before machine d id log place k has less here =
     let within = has.within in
     let whole : List Entry = take (place + 1) log in
@@ -101,13 +100,13 @@ not-before machine d id log place k has less here =
       numbered = ap (number d) all ∙ sym there.seq;
     })
 
-fails-before : (machine d : ℕ) (id : ChangeId) (log : List Entry) (place k : ℕ) (b : Bool) → HasId machine d id log place → k < place → is_in_force machine d id (take (k + 1) log) ≡ b → b ≡ false
+fails-before : (machine d : ℕ) (id : ChangeId) (log : List Entry) (place k : ℕ) (b : Bool) → HasId machine d id log place → k < place → is_id id (in_force machine d (take (k + 1) log)) ≡ b → b ≡ false
 fails-before machine d id log place k true has less is = absurd (not-before machine d id log place k has less is)
 fails-before machine d id log place k false has less is = refl
 
 pub found-has : (machine d : ℕ) (id : ChangeId) (log : List Entry) (place : ℕ) → HasId machine d id log place → mark_of_id machine d id log ≡ Some place
 found-has machine d id log place has =
-    let test : ℕ → Bool = λ k. is_in_force machine d id (take (k + 1) log) in
+    let test : ℕ → Bool = λ k. is_id id (in_force machine d (take (k + 1) log)) in
     let at : 0 + place ≡ place = omega arith in
     let within = has.within in
     find-range_at test 0 (length log) place within
@@ -117,7 +116,7 @@ found-has machine d id log place has =
 
 -- where an entry takes no snapshot, the place before it had the identifier too
 no-snap : (machine d k : ℕ) (id : ChangeId) (log : List Entry) (e : Entry) → take (suc k) log ≡ take k log ++ e ∷ [] → is_snap e.act ≡ false → InForce machine d id (take (suc k) log)
-    → ((j : ℕ) → 0 ≤ j → j < k → is_in_force machine d id (take (j + 1) log) ≡ false) → ⊥
+    → ((j : ℕ) → 0 ≤ j → j < k → is_id id (in_force machine d (take (j + 1) log)) ≡ false) → ⊥
 no-snap machine d zero id log e upto none here first =
     let zero_now : number d (take 1 log) ≡ 0 = ap (number d) upto ∙ not_started (is_enable e.act) in
     let low = here.counted in
@@ -129,16 +128,16 @@ no-snap machine d (suc j) id log e upto none here first =
     let same_place : take (j + 1) log ≡ short = ap (λ m. take m log) (add-one j) in
     let epochs : epoch d (take (suc (suc j)) log) ≡ epoch d short = ap (epoch d) upto ∙ epoch-last d short e old.1 in
     let was : InForce machine d id short = record { counted = omega (arith, old.0, low); uuid = here.uuid ∙ ap (packed machine d) epochs; seq = sym old.0 } in
-    false≢true (sym (first j (omega arith) (omega arith)) ∙ ap (is_in_force machine d id) same_place ∙ passes machine d id short was)
+    false≢true (sym (first j (omega arith) (omega arith)) ∙ ap (λ (xs : List Entry). is_id id (in_force machine d xs)) same_place ∙ passes machine d id short was)
 
 snap-there : (machine d k : ℕ) (id : ChangeId) (log : List Entry) (e : Entry) (b : Bool) → take (suc k) log ≡ take k log ++ e ∷ [] → is_snap e.act ≡ b → InForce machine d id (take (suc k) log)
-    → ((j : ℕ) → 0 ≤ j → j < k → is_in_force machine d id (take (j + 1) log) ≡ false) → is_snap e.act ≡ true
+    → ((j : ℕ) → 0 ≤ j → j < k → is_id id (in_force machine d (take (j + 1) log)) ≡ false) → is_snap e.act ≡ true
 snap-there machine d k id log e true upto is here first = is
 snap-there machine d k id log e false upto is here first = absurd (no-snap machine d k id log e upto is here first)
 
 pub has-found : (machine d : ℕ) (id : ChangeId) (log : List Entry) (place : ℕ) → mark_of_id machine d id log ≡ Some place → HasId machine d id log place
 has-found machine d id log place h =
-    let test : ℕ → Bool = λ k. is_in_force machine d id (take (k + 1) log) in
+    let test : ℕ → Bool = λ k. is_id id (in_force machine d (take (k + 1) log)) in
     let found : FoundAt test 0 (length log) place = found-in test 0 (length log) place h in
     let within : place < length log = let b = found.below in omega (arith, b) in
     let entry = at_place log place within in

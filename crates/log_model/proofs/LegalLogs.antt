@@ -9,7 +9,7 @@ use Rattle.log_model.specs.declared.entry.Act.{Act}
 use Rattle.log_model.specs.declared.entry.Act.TheVariants.{Write, Snap, Remove, Reset, Enable, Off, On}
 use Rattle.log_model.specs.declared.entry.Entry.{Entry}
 use Rattle.log_model.specs.Legal.{Disks, all_of, only, HasDisk, LiesOn, MayName, Legal, MayStand, ActMayStand, WriteMayStand, capacity_of}
-use Rattle.log_model.specs.Laws.{PrefixesAreLegal, LegalGrows, LegalForEachDisk}
+use Rattle.log_model.specs.Laws.{PrefixesAreLegal, LegalGrows, LegalGrew, LegalForEachDisk}
 use Rattle.sector_model.proofs.ItemAt.{slice_get-front, slice_get-take}
 use Rattle.log_model.proofs.Last.{slice_get-last}
 
@@ -83,3 +83,6 @@ legal_for_each_disk capacities disk capacity log has legal = record {
   short = legal.short;
   each = λ place e read. act_for_disk capacities disk capacity (take place log) e.who e.act has (legal.each place e read);
 }
+
+pub legal_grew : LegalGrew
+legal_grew disks log e legal = let short = legal.short in (legal_last disks log e legal, omega (arith, short, length-append log (e ∷ [])))

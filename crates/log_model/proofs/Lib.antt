@@ -11,7 +11,11 @@ pub mod OwnedLaws
 pub mod SectorAt
 pub mod Later
 pub mod Epochs
-pub mod AnswerLaws
+pub mod LaterPlaces
 pub mod IdMarks
+pub mod IdsExist
+pub mod AnswerLaws
 pub mod Live
+pub mod SnapMarks
+pub mod OffPlace
 pub mod LinkLaws

@@ -8,8 +8,8 @@ use Rattle.log_model.specs.declared.entry.Act.{Act}
 use Rattle.log_model.specs.declared.entry.Entry.{Entry}
 use Rattle.log_model.specs.declared.refusals.LinkRefused.{LinkRefused}
 use Rattle.log_model.specs.Legal.{Legal, all_of}
-use Rattle.log_model.specs.Link.{LinkState, IsCall, OnlyReads, Adds, GoesOn, is_by, log_met, entry_if_ok}
-use Rattle.log_model.specs.Laws.{CallsGoOn, ReadsArePart}
+use Rattle.log_model.specs.Link.{LinkState, IsCall, OnlyReads, AddsAct, FollowsFrom, is_by, log_met, entry_if_ok}
+use Rattle.log_model.specs.Laws.{CallsFollow, ReadsArePart}
 
 -- ---- a list that begins with another
 
@@ -28,7 +28,7 @@ new-joins xs ys zs first second =
 
 -- ---- one call
 
-no-call : (a : LinkState) → GoesOn a a
+no-call : (a : LinkState) → FollowsFrom a a
 no-call a =
     let none : drop (length a.seen) a.seen ≡ [] = drop_all (length a.seen) a.seen (omega arith) in
     let nothing : filter (is_by a.caller) (drop (length a.seen) a.seen) ≡ [] = ap (filter (is_by a.caller)) none in
@@ -41,6 +41,7 @@ no-call a =
       seen = take_all (length a.seen) a.seen (omega arith);
       own = sym (ap (λ (xs : List Entry). a.own ++ xs) nothing ∙ append-nil a.own);
       alone = λ _. nothing ∙ sym none;
+      legal = λ h. h;
     }
 
 abbrev after_call : LinkState → List Entry → List Entry → LinkState
@@ -49,7 +50,7 @@ after_call a log added = record a { seen = log ++ added; own = a.own ++ added }
 new-of-call : (a b : LinkState) (log added : List Entry) → IsCall log added a b → drop (length a.seen) (log ++ added) ≡ drop (length a.seen) log ++ added
 new-of-call a b log added h = drop-append-le (length a.seen) log added (prefix-fits a.seen log h.goes_on)
 
-one-call : (a b : LinkState) (log added : List Entry) → filter (is_by a.caller) added ≡ added → IsCall log added a b → GoesOn a (after_call a log added)
+one-call : (a b : LinkState) (log added : List Entry) → filter (is_by a.caller) added ≡ added → IsCall log added a b → FollowsFrom a (after_call a log added)
 one-call a b log added mine h =
     let fits = prefix-fits a.seen log h.goes_on in
     let new = new-of-call a b log added h in
@@ -65,14 +66,15 @@ one-call a b log added mine h =
       seen = take-append-le (length a.seen) log added fits ∙ h.goes_on;
       own = ap (λ (xs : List Entry). a.own ++ xs) (sym own_new);
       alone = λ is. own_new ∙ sym (new ∙ ap (λ (xs : List Entry). xs ++ added) (ap (drop (length a.seen)) (h.alone is) ∙ drop_all (length a.seen) a.seen (omega arith)));
+      legal = λ _. h.legal;
     }
 
-call : (a b : LinkState) (log added : List Entry) → filter (is_by a.caller) added ≡ added → IsCall log added a b → GoesOn a b
-call a b log added mine h = subst (GoesOn a) (sym h.after_is) (one-call a b log added mine h)
+call : (a b : LinkState) (log added : List Entry) → filter (is_by a.caller) added ≡ added → IsCall log added a b → FollowsFrom a b
+call a b log added mine h = subst (FollowsFrom a) (sym h.new_is) (one-call a b log added mine h)
 
 -- ---- calls in a row
 
-in-a-row : (a b c : LinkState) → GoesOn a b → GoesOn b c → GoesOn a c
+in-a-row : (a b c : LinkState) → FollowsFrom a b → FollowsFrom b c → FollowsFrom a c
 in-a-row a b c first second =
     let new = new-joins a.seen b.seen c.seen first.seen second.seen in
     let mine : filter (is_by a.caller) (drop (length a.seen) c.seen) ≡ filter (is_by a.caller) (drop (length a.seen) b.seen) ++ filter (is_by a.caller) (drop (length b.seen) c.seen) =
@@ -92,19 +94,24 @@ in-a-row a b c first second =
           ∙ ap (λ (xs : List Entry). drop (length a.seen) b.seen ++ xs)
           (ap (λ (who : ℕ). filter (is_by who) (drop (length b.seen) c.seen)) (sym first.caller) ∙ second.alone (first.unshared ∙ is))
           ∙ sym new;
+      legal = λ h. subst (λ (sizes : List ℕ). Legal (all_of sizes) c.seen) first.capacities
+          (second.legal (subst (λ (sizes : List ℕ). Legal (all_of sizes) b.seen) (sym first.capacities) (first.legal h)));
     }
 
-pub calls_go_on : (a b : LinkState) → CallsGoOn a b
-calls_go_on a b = record { no_call = no-call a; call = call a b; in_a_row = in-a-row a b }
+pub reads-go_on : (a b : LinkState) → OnlyReads a b → FollowsFrom a b
+reads-go_on a b h = call a b b.seen [] refl h
+
+pub calls_follow : (a b : LinkState) → CallsFollow a b
+calls_follow a b = record { no_call = no-call a; reads = reads-go_on a b; call = call a b; in_a_row = in-a-row a b }
 
 -- a call that only reads, and then another
 pub reads_are_part : ReadsArePart
 reads_are_part a b c log added first second =
-    let caller : b.caller ≡ a.caller = ap (λ (x : LinkState). x.caller) first.after_is in
-    let capacities : b.capacities ≡ a.capacities = ap (λ (x : LinkState). x.capacities) first.after_is in
-    let unshared : b.unshared ≡ a.unshared = ap (λ (x : LinkState). x.unshared) first.after_is in
+    let caller : b.caller ≡ a.caller = ap (λ (x : LinkState). x.caller) first.new_is in
+    let capacities : b.capacities ≡ a.capacities = ap (λ (x : LinkState). x.capacities) first.new_is in
+    let unshared : b.unshared ≡ a.unshared = ap (λ (x : LinkState). x.unshared) first.new_is in
     record {
-      after_is = second.after_is ∙ ap (λ (x : LinkState). after_call x log added) first.after_is
+      new_is = second.new_is ∙ ap (λ (x : LinkState). after_call x log added) first.new_is
           ∙ ap (λ (xs : List Entry). record a { seen = log ++ added; own = xs ++ added }) (append-nil a.own);
       goes_on = prefix-join a.seen b.seen log first.goes_on second.goes_on;
       others = ap (filter (is_by a.caller)) (new-joins a.seen b.seen log first.goes_on second.goes_on)
@@ -117,18 +124,15 @@ reads_are_part a b c log added first second =
 
 -- ---- the calls of a link, each as it promises
 
-pub reads-go_on : (a b : LinkState) → OnlyReads a b → GoesOn a b
-reads-go_on a b h = call a b b.seen [] refl h
-
 own-entry : {T : Type 0} (a : LinkState) (result : Result T LinkRefused) (act : Act) → filter (is_by a.caller) (entry_if_ok result (record { who = a.caller; act = act })) ≡ entry_if_ok result (record { who = a.caller; act = act })
 own-entry a (Ok x) act = ap (λ b. cond b (record { who = a.caller; act = act } ∷ []) []) (eq-eqb a.caller a.caller refl)
 own-entry a (Err r) act = refl
 
-pub adds-go_on : {T : Type 0} (a b : LinkState) (result : Result T LinkRefused) (act : Act) → Adds result act a b → GoesOn a b
+pub adds-go_on : {T : Type 0} (a b : LinkState) (result : Result T LinkRefused) (act : Act) → AddsAct result act a b → FollowsFrom a b
 adds-go_on a b result act h = call a b (log_met result b) (entry_if_ok result (record { who = a.caller; act = act })) (own-entry a result act) h
 
-pub read-then-adds : {T : Type 0} (a b c : LinkState) (result : Result T LinkRefused) (act : Act) → OnlyReads a b → Adds result act b c → Adds result act a c
+pub read-then-adds : {T : Type 0} (a b c : LinkState) (result : Result T LinkRefused) (act : Act) → OnlyReads a b → AddsAct result act b c → AddsAct result act a c
 read-then-adds a b c result act first second =
-    let caller : b.caller ≡ a.caller = ap (λ (x : LinkState). x.caller) first.after_is in
+    let caller : b.caller ≡ a.caller = ap (λ (x : LinkState). x.caller) first.new_is in
     reads_are_part a b c (log_met result c) (entry_if_ok result (record { who = a.caller; act = act })) first
     (subst (λ (who : ℕ). IsCall (log_met result c) (entry_if_ok result (record { who = who; act = act })) b c) caller second)

@@ -8,6 +8,16 @@ use Rattle.log_model.specs.declared.entry.Act.{Act}
 use Rattle.log_model.specs.declared.entry.Act.TheVariants.{Write, Snap, Remove, Reset, Enable, Off, On}
 use Rattle.log_model.specs.declared.entry.Entry.{Entry}
 
+-- sectors are written
+abbrev pub is_write : Act → Bool
+is_write (Write disk first sectors) = true
+is_write (Snap id owner) = false
+is_write (Remove id) = false
+is_write (Reset disk) = false
+is_write Enable = false
+is_write Off = false
+is_write On = false
+
 -- a snapshot is taken
 abbrev pub is_snap : Act → Bool
 is_snap (Write disk first sectors) = false
@@ -27,6 +37,16 @@ takes snapshot (Reset disk) = false
 takes snapshot Enable = false
 takes snapshot Off = false
 takes snapshot On = false
+
+-- this snapshot is removed
+abbrev pub removes : (snapshot : ℕ) → Act → Bool
+removes snapshot (Write disk first sectors) = false
+removes snapshot (Snap id owner) = false
+removes snapshot (Remove id) = id == snapshot
+removes snapshot (Reset disk) = false
+removes snapshot Enable = false
+removes snapshot Off = false
+removes snapshot On = false
 
 -- the tracking of the disk is reset
 abbrev pub resets : (disk : ℕ) → Act → Bool

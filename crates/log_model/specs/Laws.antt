@@ -1,28 +1,29 @@
 -- What the definitions say together. Each law is the contract of a public function of laws.rt whose
 -- body does nothing. Laws on legal logs hold for a machine and for one disk alone.
-use Rattle.std.specs.Prelude.{◌≡◌, ℕ, ◌+◌, ◌<◌, ◌≤◌, ◌^◌, List, Bool, [], ◌∷◌, ◌++◌, length, take, drop, slice_get, true, false, ◌||◌, ◌⊎◌, Option, Some, None, Result, Ok, Err}
-use Rattle.std.specs.List.{flat_map, filter}
-use Rattle.sector_model.specs.Run.{in_blocks}
-use Rattle.sector_model.specs.Page.{PageContents, areas_from, ArePages}
+use Rattle.std.specs.Prelude.{◌≡◌, ℕ, ◌+◌, ◌<◌, ◌≤◌, ◌^◌, List, Bool, [], ◌∷◌, ◌++◌, length, take, drop, slice_get, true, false, ◌||◌, ◌&&◌, ◌⊎◌, ◌↔◌, Option, Some, None, Result, Ok, Err}
+use Rattle.std.specs.List.{flat_map, filter, list_any, All}
+use Rattle.sector_model.specs.Run.{in_blocks, end_of, AreSpaced}
+use Rattle.sector_model.specs.Page.{PageContents, areas_from, page_of, ArePages, LiesWithin}
 use Rattle.sector_model.specs.declared.run.Run.{Run}
 use Rattle.sector_model.specs.declared.sector.Sector.{Sector}
 use Rattle.change_id.specs.declared.ChangeId.{ChangeId}
 use Rattle.change_id.specs.declared.Since.{Since}
 use Rattle.change_id.specs.declared.Since.TheVariants.{From}
-use Rattle.log_model.specs.declared.entry.TheConstants.{MAX_LOG_ENTRIES}
+use Rattle.log_model.specs.declared.entry.TheConstants.{MAX_LOG_ENTRIES, MIGRATION_CALLER}
 use Rattle.log_model.specs.declared.entry.Owner.{Owner}
 use Rattle.log_model.specs.declared.entry.Owner.TheVariants.{Migration}
 use Rattle.log_model.specs.declared.entry.Act.{Act}
 use Rattle.log_model.specs.declared.entry.Act.TheVariants.{Write, Snap, Remove, Reset, Enable, Off, On}
 use Rattle.log_model.specs.declared.entry.Entry.{Entry}
-use Rattle.log_model.specs.Entry.{writes_of, contents, is_snap}
-use Rattle.log_model.specs.Legal.{Disks, all_of, only, HasDisk, Legal, MayStand, ActsFor, taken, owner_of}
-use Rattle.log_model.specs.Marks.{mark, epoch, number, in_force, id_at, is_reset_from, mark_of_id, HasId}
-use Rattle.log_model.specs.Frozen.{frozen, off_place}
+use Rattle.log_model.specs.declared.folds.Tracking.TheVariants.{Active}
+use Rattle.log_model.specs.Entry.{writes_of, contents, is_snap, is_off, takes, removes}
+use Rattle.log_model.specs.Legal.{Disks, all_of, only, HasDisk, Legal, MayStand, ActsFor, machine_on, is_enabled, taken, owner_of}
+use Rattle.log_model.specs.Marks.{mark, before, epoch, number, tracking, in_force, id_at, mark_of_id, HasId}
+use Rattle.log_model.specs.Frozen.{frozen, last_off, off_place}
 use Rattle.log_model.specs.Touched.{between, touched, touched_areas}
-use Rattle.log_model.specs.Query.{changed_areas, numbered_place}
+use Rattle.log_model.specs.Query.{changed_areas, accepts, numbered_place}
 use Rattle.log_model.specs.Refusals.{snap_refusal, remove_refusal, power_off_refusal, power_on_refusal, reset_refusal, enable_refusal, write_refusal}
-use Rattle.log_model.specs.Link.{LinkState, IsCall, OnlyReads, GoesOn, is_by}
+use Rattle.log_model.specs.Link.{LinkState, IsCall, OnlyReads, FollowsFrom, is_by}
 
 -- a legal log stays legal under its prefixes, and grows by what may stand after it
 abbrev pub PrefixesAreLegal : Type 0
@@ -40,26 +41,31 @@ LegalForEachDisk = (capacities : List ℕ) (disk capacity : ℕ) (log : List Ent
     → HasDisk (all_of capacities) disk capacity
     → Legal (all_of capacities) log → Legal (only disk capacity) log
 
+-- whose last entry might stand there, and had room
+abbrev pub LegalGrew : Type 0
+LegalGrew = (disks : Disks) (log : List Entry) (e : Entry) → Legal disks (log ++ e ∷ [])
+    → MayStand disks log e × (length log < MAX_LOG_ENTRIES)
+
 -- the act may stand after the log, and there is room for it
-abbrev pub Stands : (disks : Disks) (log : List Entry) (who : ℕ) → Act → Type 0
-Stands disks log who act =
+abbrev pub FitsBehind : (disks : Disks) (log : List Entry) (who : ℕ) → Act → Type 0
+FitsBehind disks log who act =
     MayStand disks log (record { who = who; act = act }) × (length log < MAX_LOG_ENTRIES)
 
 -- what no call refuses may stand
 pub record AcceptedMayStand (capacities : List ℕ) (log : List Entry) (who : ℕ) : Type 0 where
   pub snap : (must_be_off : Bool) (owner : Owner) → ActsFor who owner
       → snap_refusal must_be_off log ≡ None
-      → Stands (all_of capacities) log who (Snap (taken log + 1) owner)
+      → FitsBehind (all_of capacities) log who (Snap (taken log + 1) owner)
   pub remove : (owner : Owner) (id : ℕ) → remove_refusal who owner id log ≡ None
-      → Stands (all_of capacities) log who (Remove id)
-  pub power_off : power_off_refusal log ≡ None → Stands (all_of capacities) log who Off
-  pub power_on : power_on_refusal log ≡ None → Stands (all_of capacities) log who On
+      → FitsBehind (all_of capacities) log who (Remove id)
+  pub power_off : power_off_refusal log ≡ None → FitsBehind (all_of capacities) log who Off
+  pub power_on : power_on_refusal log ≡ None → FitsBehind (all_of capacities) log who On
   pub reset : (disk : ℕ) → reset_refusal capacities disk log ≡ None
-      → Stands (all_of capacities) log who (Reset disk)
-  pub enable : enable_refusal log ≡ None → Stands (all_of capacities) log who Enable
+      → FitsBehind (all_of capacities) log who (Reset disk)
+  pub enable : enable_refusal log ≡ None → FitsBehind (all_of capacities) log who Enable
   pub write : (disk first : ℕ) (sectors : List Sector)
       → write_refusal capacities disk first (length sectors) log ≡ None
-      → Stands (all_of capacities) log who (Write disk first sectors)
+      → FitsBehind (all_of capacities) log who (Write disk first sectors)
 
 -- no write stands between the power-off place and its snapshot, so what the log up to it leaves is
 -- what the snapshot froze
@@ -107,17 +113,98 @@ abbrev pub LaterEntriesKeep : Type 0
 LaterEntriesKeep = (s : ℕ) (log more : List Entry) → mark s log < length log
     → LaterKeep s log more
 
--- a live snapshot was taken
+-- the places up to this one keep what was before them, whatever entries follow
+pub record PlacesKeep (place : ℕ) (log more : List Entry) : Type 0 where
+  pub contents_stay : (c d : ℕ)
+      → contents c d (take place (log ++ more)) ≡ contents c d (take place log)
+  pub epoch_stays : (d : ℕ) → epoch d (take place (log ++ more)) ≡ epoch d (take place log)
+  pub touched_stay : (c d from : ℕ)
+      → touched c d from place (log ++ more) ≡ touched c d from place log
+  -- a disk that was reset since stays so
+  pub reset_stays : (d : ℕ) → ¬ (epoch d (take place log) ≡ epoch d log)
+      → ¬ (epoch d (take place (log ++ more)) ≡ epoch d (log ++ more))
+
+abbrev pub LaterEntriesKeepPlaces : Type 0
+LaterEntriesKeepPlaces = (place : ℕ) (log more : List Entry) → place ≤ length log
+    → PlacesKeep place log more
+
+-- the place of a Snap entry is its snapshot's mark, and the snapshot's number the next one there
+pub record HasItsMark (s place : ℕ) (log : List Entry) : Type 0 where
+  pub mark_is : mark s log ≡ place
+  pub next : s ≡ taken (take place log) + 1
+
+abbrev pub SnapsHaveTheirMarks : Type 0
+SnapsHaveTheirMarks = (disks : Disks) (log : List Entry) (s place : ℕ) (e : Entry)
+    → Legal disks log → slice_get log place ≡ Some e → takes s e.act ≡ true
+    → HasItsMark s place log
+
+-- each number up to that of the last snapshot was given to one, and marks ascend with numbers
+abbrev pub EachWasTaken : Type 0
+EachWasTaken = (disks : Disks) (log : List Entry) (s : ℕ) → Legal disks log
+    → 1 ≤ s → s ≤ taken log → mark s log < length log
+
+abbrev pub MarksAscend : Type 0
+MarksAscend = (disks : Disks) (log : List Entry) (s t : ℕ) → Legal disks log
+    → 1 ≤ s → s < t → t ≤ taken log → mark s log < mark t log
+
+-- a live snapshot is one of those
+pub record WasTaken (s : ℕ) (log : List Entry) : Type 0 where
+  pub from : 1 ≤ s
+  pub upto : s ≤ taken log
+  pub within : mark s log < length log
+
 abbrev pub LiveWasTaken : Type 0
 LiveWasTaken = (disks : Disks) (log : List Entry) (s : ℕ) (owner : Owner)
-    → Legal disks log → owner_of s log ≡ Some owner → mark s log < length log
+    → Legal disks log → owner_of s log ≡ Some owner → WasTaken s log
 
--- a live snapshot of a migration stays live under its owner, whatever entries follow that aren't
--- under the number 1
+-- where a machine is on, it has no power-off place; where it is off, it has one, of an Off entry
+abbrev pub HasOffPlace : (on : Bool) (place : Option ℕ) (log : List Entry) → Type 0
+HasOffPlace true place log = place ≡ None
+HasOffPlace false place log = (p : ℕ) × (place ≡ Some p) × (p < length log)
+    × ((e : Entry) → slice_get log p ≡ Some e → is_off e.act ≡ true)
+
+abbrev pub OffHasPlace : Type 0
+OffHasPlace = (log : List Entry) → HasOffPlace (machine_on log) (last_off log) log
+
+-- a snapshot has an identifier for each disk exactly where an Enable entry stands before it
+pub record IdsExist (s : ℕ) (log : List Entry) : Type 0 where
+  pub enabled : (machine d : ℕ) → is_enabled (before s log) ≡ true
+      → (id : ChangeId) × (id_at machine d s log ≡ Some id)
+  pub never : (machine d : ℕ) → is_enabled (before s log) ≡ false
+      → id_at machine d s log ≡ None
+
+abbrev pub SnapshotsHaveIds : Type 0
+SnapshotsHaveIds = (s : ℕ) (log : List Entry) → mark s log < length log → IdsExist s log
+
+-- and so has one that is taken next, where tracking is enabled; where it is active, it is enabled
+abbrev pub NextHasId : Type 0
+NextHasId = (machine d : ℕ) (log : List Entry) (e : Entry) → is_enabled log ≡ true
+    → is_snap e.act ≡ true → (id : ChangeId) × (in_force machine d (log ++ e ∷ []) ≡ Some id)
+
+abbrev pub ActiveIsEnabled : Type 0
+ActiveIsEnabled = (log : List Entry) → tracking log ≡ Active → is_enabled log ≡ true
+
+-- a live snapshot of a migration stays live under its owner, whatever entries follow, unless one
+-- under the number of the migrations' caller removes it
 abbrev pub MigrationsKeepTheirs : Type 0
 MigrationsKeepTheirs = (disks : Disks) (log more : List Entry) (s migration : ℕ)
     → Legal disks (log ++ more) → owner_of s log ≡ Some (Migration migration)
-    → filter (is_by 1) more ≡ [] → owner_of s (log ++ more) ≡ Some (Migration migration)
+    → list_any (λ e. is_by MIGRATION_CALLER e && removes s e.act) more ≡ false
+    → owner_of s (log ++ more) ≡ Some (Migration migration)
+
+-- and none comes to be, unless one under that number takes it
+abbrev pub MigrationsGetNone : Type 0
+MigrationsGetNone = (disks : Disks) (log more : List Entry) (s migration : ℕ)
+    → Legal disks (log ++ more) → owner_of s (log ++ more) ≡ Some (Migration migration)
+    → list_any (λ e. is_by MIGRATION_CALLER e && takes s e.act) more ≡ false
+    → owner_of s log ≡ Some (Migration migration)
+
+-- so the live snapshots of a migration are the same after entries of others
+abbrev pub OthersLeaveMigrations : Type 0
+OthersLeaveMigrations = (disks : Disks) (log more : List Entry) (s migration : ℕ)
+    → Legal disks (log ++ more) → filter (is_by MIGRATION_CALLER) more ≡ []
+    → (owner_of s (log ++ more) ≡ Some (Migration migration))
+    ↔ (owner_of s log ≡ Some (Migration migration))
 
 -- what a query has answered it answers again, or says that the identifier is strange, whatever
 -- entries follow
@@ -127,20 +214,27 @@ AnswersStay = (machine c d s : ℕ) (since : Since) (log more : List Entry) (are
     → (changed_areas machine c d s since (log ++ more) ≡ Ok areas)
     ⊎ (changed_areas machine c d s since (log ++ more) ≡ Err (in_force machine d (log ++ more)))
 
--- the identifier of snapshot b, asked at a snapshot s that isn't earlier
-pub record AnswersBetween (machine c d b s : ℕ) (id : ChangeId) (log : List Entry) : Type 0 where
-  -- answers what changed between the two marks
-  pub accepted : is_reset_from d (mark b log) log ≡ false
+-- the identifier of the snapshot with this mark, asked at a snapshot s that isn't earlier
+pub record AnswersBetween (machine c d place s : ℕ) (id : ChangeId) (log : List Entry)
+    : Type 0 where
+  -- answers what changed between the two marks, where the disk's epoch is still that of the mark
+  pub accepted : epoch d (take place log) ≡ epoch d log
       → changed_areas machine c d s (From id) log
-      ≡ Ok (touched_areas c d (mark b log) (mark s log) log)
-  -- and is strange exactly where the disk was reset after b
-  pub strange : is_reset_from d (mark b log) log ≡ true
+      ≡ Ok (touched_areas c d place (mark s log) log)
+  -- and is strange where the disk was reset since
+  pub strange : ¬ (epoch d (take place log) ≡ epoch d log)
       → changed_areas machine c d s (From id) log ≡ Err (in_force machine d log)
 
 abbrev pub IdsAnswerBetween : Type 0
-IdsAnswerBetween = (machine c d b s : ℕ) (id : ChangeId) (log : List Entry)
-    → id_at machine d b log ≡ Some id → mark b log ≤ mark s log → mark s log < length log
-    → AnswersBetween machine c d b s id log
+IdsAnswerBetween = (machine c d place s : ℕ) (id : ChangeId) (log : List Entry)
+    → HasId machine d id log place → place ≤ mark s log → mark s log < length log
+    → AnswersBetween machine c d place s id log
+
+-- the place that a query since an accepted identifier starts from is the mark of its snapshot
+abbrev pub NumberedPlaceIsMark : Type 0
+NumberedPlaceIsMark = (machine d s : ℕ) (id : ChangeId) (log : List Entry)
+    → accepts machine d s id log ≡ true
+    → mark_of_id machine d id log ≡ Some (numbered_place d id.seq log)
 
 -- the mark of an identifier is the one place of the snapshot that has it
 pub record MarksOfIds (machine d : ℕ) (id : ChangeId) (log : List Entry) : Type 0 where
@@ -173,6 +267,17 @@ abbrev pub ContentsAreSized : Type 0
 ContentsAreSized = (disks : Disks) (c d : ℕ) (log : List Entry)
     → Legal disks log → HasDisk disks d c → length (contents c d log) ≡ c
 
+-- the areas of an answer are ascending and apart, and end within the capacity; a page of them that
+-- starts below the capacity lies within it
+pub record AreAreas (c : ℕ) (areas : List Run) : Type 0 where
+  pub spaced : AreSpaced areas
+  pub within : All (λ r. end_of r ≤ c) areas
+  pub pages : (start : ℕ) → start < c → LiesWithin c (page_of c areas start)
+
+abbrev pub AnswersAreAreas : Type 0
+AnswersAreAreas = (machine c d s : ℕ) (since : Since) (log : List Entry) (areas : List Run)
+    → c < 2 ^ 64 → changed_areas machine c d s since log ≡ Ok areas → AreAreas c areas
+
 -- the pages of an answer, each from the end of the one before, are the answer from the first one's
 -- start on; from sector 0 on they are the answer
 abbrev pub AnswerPagesJoin : Type 0
@@ -188,11 +293,12 @@ AllPagesAreTheAnswer = (machine c d s : ℕ) (since : Since) (log : List Entry)
     → ArePages c areas 0 pages → flat_map (λ p. p.areas) pages ≡ areas
 
 -- calls in a row only go on, and what they add is the caller's
-pub record CallsGoOn (a b : LinkState) : Type 0 where
-  pub no_call : GoesOn a a
+pub record CallsFollow (a b : LinkState) : Type 0 where
+  pub no_call : FollowsFrom a a
+  pub reads : OnlyReads a b → FollowsFrom a b
   pub call : (log added : List Entry) → filter (is_by a.caller) added ≡ added
-      → IsCall log added a b → GoesOn a b
-  pub in_a_row : (c : LinkState) → GoesOn a b → GoesOn b c → GoesOn a c
+      → IsCall log added a b → FollowsFrom a b
+  pub in_a_row : (c : LinkState) → FollowsFrom a b → FollowsFrom b c → FollowsFrom a c
 
 -- a call that only reads, before another, is part of that one
 abbrev pub ReadsArePart : Type 0

@@ -3,7 +3,7 @@
 -- whoever copies that disk sees it: then nothing is asked of entries for other disks.
 use Rattle.std.specs.Prelude.{◌≡◌, ℕ, ◌+◌, ◌<◌, ◌≤◌, ◌==◌, List, length, take, slice_get, slice_index, Bool, true, false, Option, Some, None, if◌then◌else◌}
 use Rattle.std.specs.List.{fold, count_by, sum_by}
-use Rattle.log_model.specs.declared.entry.TheConstants.{MAX_LOG_ENTRIES, MAX_WRITE_SECTORS, MAX_LOGGED_SECTORS}
+use Rattle.log_model.specs.declared.entry.TheConstants.{MAX_LOG_ENTRIES, MAX_WRITE_SECTORS, MAX_LOGGED_SECTORS, MIGRATION_CALLER}
 use Rattle.log_model.specs.declared.entry.Owner.{Owner}
 use Rattle.log_model.specs.declared.entry.Owner.TheVariants.{Operator, Migration}
 use Rattle.log_model.specs.declared.entry.Act.{Act}
@@ -85,10 +85,10 @@ pub record WriteMayStand (disks : Disks) (log : List Entry) (disk first count : 
   pub room : written log + count ≤ MAX_LOGGED_SECTORS
 
 -- snapshots of this owner are taken and removed under the number `who`: those of a migration under
--- the number 1 alone, so that the one who carries it out knows that they are its own
+-- the number of the caller that carries it out alone, which so knows that they are its own
 abbrev pub ActsFor : (who : ℕ) → Owner → Type 0
 ActsFor who Operator = Unit {0}
-ActsFor who (Migration number) = who ≡ 1
+ActsFor who (Migration number) = who ≡ MIGRATION_CALLER
 
 -- what has this owner may be removed under the number `who`: it is live, and that number acts for
 -- its owner

@@ -37,51 +37,52 @@ abbrev pub is_by : (who : ℕ) → Entry → Bool
 is_by who e = e.who == who
 
 -- a call that sees `log` at its moment, and adds these entries to it
-pub record IsCall (log added : List Entry) (before after : LinkState) : Type 0 where
+pub record IsCall (log added : List Entry) (old new : LinkState) : Type 0 where
   -- only the log as last seen and the caller's own entries change
-  pub after_is : after ≡ record before { seen = log ++ added; own = before.own ++ added }
+  pub new_is : new ≡ record old { seen = log ++ added; own = old.own ++ added }
   -- the log begins with what the caller had seen
-  pub goes_on : take (length before.seen) log ≡ before.seen
+  pub goes_on : take (length old.seen) log ≡ old.seen
   -- what else is new is of others
-  pub others : filter (is_by before.caller) (drop (length before.seen) log) ≡ []
+  pub others : filter (is_by old.caller) (drop (length old.seen) log) ≡ []
   -- and where nobody else reaches the machine, nothing is
-  pub alone : before.unshared ≡ true → log ≡ before.seen
-  pub legal : Legal (all_of before.capacities) (log ++ added)
+  pub alone : old.unshared ≡ true → log ≡ old.seen
+  pub legal : Legal (all_of old.capacities) (log ++ added)
 
 -- the call adds no entry
-abbrev pub OnlyReads : (before after : LinkState) → Type 0
-OnlyReads before after = IsCall after.seen [] before after
+abbrev pub OnlyReads : (old new : LinkState) → Type 0
+OnlyReads old new = IsCall new.seen [] old new
 
 -- the log at the moment of a call that adds one entry exactly where it is accepted
-abbrev pub log_met : {T : Type 0} → Result T LinkRefused → (after : LinkState) → List Entry
-log_met (Ok answer) after = take (length after.seen - 1) after.seen
-log_met (Err refusal) after = after.seen
+abbrev pub log_met : {T : Type 0} → Result T LinkRefused → (new : LinkState) → List Entry
+log_met (Ok answer) new = take (length new.seen - 1) new.seen
+log_met (Err refusal) new = new.seen
 
 abbrev pub entry_if_ok : {T : Type 0} → Result T LinkRefused → Entry → List Entry
 entry_if_ok (Ok answer) e = e ∷ []
 entry_if_ok (Err refusal) e = []
 
 -- the call adds this act under the caller's number where it is accepted, and else no entry
-abbrev pub Adds : {T : Type 0} → Result T LinkRefused → Act → (before after : LinkState) → Type 0
-Adds result act before after =
-    IsCall (log_met result after) (entry_if_ok result (record { who = before.caller; act = act }))
-    before after
+abbrev pub AddsAct : {T : Type 0} → Result T LinkRefused → Act → (old new : LinkState) → Type 0
+AddsAct result act old new =
+    IsCall (log_met result new) (entry_if_ok result (record { who = old.caller; act = act }))
+    old new
 
 -- what calls in a row leave, however many: the same machine for the same caller, and a longer log,
 -- in which what is new under the caller's number is what its own entries gained
-pub record GoesOn (before after : LinkState) : Type 0 where
-  pub machine : after.machine ≡ before.machine
-  pub capacities : after.capacities ≡ before.capacities
-  pub caller : after.caller ≡ before.caller
-  pub turn : after.turn ≡ before.turn
-  pub unshared : after.unshared ≡ before.unshared
-  pub seen : take (length before.seen) after.seen ≡ before.seen
-  pub own : after.own
-      ≡ before.own ++ filter (is_by before.caller) (drop (length before.seen) after.seen)
+pub record FollowsFrom (old new : LinkState) : Type 0 where
+  pub machine : new.machine ≡ old.machine
+  pub capacities : new.capacities ≡ old.capacities
+  pub caller : new.caller ≡ old.caller
+  pub turn : new.turn ≡ old.turn
+  pub unshared : new.unshared ≡ old.unshared
+  pub seen : take (length old.seen) new.seen ≡ old.seen
+  pub own : new.own
+      ≡ old.own ++ filter (is_by old.caller) (drop (length old.seen) new.seen)
   -- where nobody else reaches the machine, all that is new is the caller's
-  pub alone : before.unshared ≡ true
-      → filter (is_by before.caller) (drop (length before.seen) after.seen)
-      ≡ drop (length before.seen) after.seen
+  pub alone : old.unshared ≡ true
+      → filter (is_by old.caller) (drop (length old.seen) new.seen)
+      ≡ drop (length old.seen) new.seen
+  pub legal : Legal (all_of old.capacities) old.seen → Legal (all_of old.capacities) new.seen
 
 -- what taking a snapshot after the log tells: its id, its mark, and the place where the machine
 -- went off, if it is off

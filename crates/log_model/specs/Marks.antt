@@ -1,7 +1,7 @@
 -- Places in a log, which count from 0, and the change identifiers of a disk. Snapshots of one epoch
 -- of a disk are numbered 1, 2 and so on, so an identifier leads back to one place of the log.
-use Rattle.std.specs.Prelude.{◌≡◌, ℕ, ◌+◌, ◌<◌, ◌==◌, ◌&&◌, nat_le, List, length, take, drop, slice_get, Bool, true, Option, Some, None, unwrap_or, if◌then◌else◌, ◌||◌}
-use Rattle.std.specs.List.{fold, count_by, find, list_any, position_or_len, range_with_len}
+use Rattle.std.specs.Prelude.{◌≡◌, ℕ, ◌+◌, ◌<◌, ◌==◌, ◌&&◌, List, length, take, slice_get, Bool, true, false, Option, Some, None, unwrap_or, if◌then◌else◌, ◌||◌}
+use Rattle.std.specs.List.{fold, count_by, find, position_or_len, range_with_len}
 use Rattle.change_id.specs.ChangeId.{packed}
 use Rattle.change_id.specs.declared.ChangeId.{ChangeId}
 use Rattle.log_model.specs.declared.entry.Entry.{Entry}
@@ -23,10 +23,6 @@ through snapshot log = take (mark snapshot log + 1) log
 -- the epoch of a disk: how often its tracking was reset
 abbrev pub epoch : (disk : ℕ) → List Entry → ℕ
 epoch disk log = count_by (λ e. resets disk e.act) log
-
--- the tracking of the disk was reset at some place from `from` on
-abbrev pub is_reset_from : (disk from : ℕ) → List Entry → Bool
-is_reset_from disk from log = list_any (λ e. resets disk e.act) (drop from log)
 
 -- how many snapshots were taken since both the Enable entry and the last reset of the disk; none
 -- where no Enable entry stands
@@ -64,17 +60,16 @@ in_force machine disk log =
 abbrev pub id_at : (machine disk snapshot : ℕ) → List Entry → Option ChangeId
 id_at machine disk snapshot log = in_force machine disk (through snapshot log)
 
--- the identifier is the one in force
-abbrev pub is_in_force : (machine disk : ℕ) → ChangeId → List Entry → Bool
-is_in_force machine disk id log =
-    id.uuid == packed machine disk (epoch disk log) && id.seq == number disk log
-    && nat_le 1 id.seq
+-- what was found is the identifier
+abbrev pub is_id : (id : ChangeId) (found : Option ChangeId) → Bool
+is_id id None = false
+is_id id (Some found) = found.uuid == id.uuid && found.seq == id.seq
 
 -- the mark of the snapshot that has the identifier for the disk: the first place with whose entry
 -- the identifier is in force
 abbrev pub mark_of_id : (machine disk : ℕ) → ChangeId → List Entry → Option ℕ
 mark_of_id machine disk id log =
-    find (λ place. is_in_force machine disk id (take (place + 1) log))
+    find (λ place. is_id id (in_force machine disk (take (place + 1) log)))
     (range_with_len 0 (length log))
 
 -- the entry at this place takes a snapshot, which has the identifier for the disk

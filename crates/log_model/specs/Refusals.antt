@@ -4,7 +4,7 @@ use Rattle.std.specs.Prelude.{ℕ, ◌+◌, ◌==◌, List, length, Bool, true, 
 use Rattle.sector_model.specs.declared.run.Run.{Run}
 use Rattle.change_id.specs.declared.ChangeId.{ChangeId}
 use Rattle.change_id.specs.declared.Since.{Since}
-use Rattle.log_model.specs.declared.entry.TheConstants.{MAX_LOG_ENTRIES, MAX_WRITE_SECTORS, MAX_LOGGED_SECTORS}
+use Rattle.log_model.specs.declared.entry.TheConstants.{MAX_LOG_ENTRIES, MAX_WRITE_SECTORS, MAX_LOGGED_SECTORS, MIGRATION_CALLER}
 use Rattle.log_model.specs.declared.entry.Owner.{Owner}
 use Rattle.log_model.specs.declared.entry.Owner.TheVariants.{Operator, Migration}
 use Rattle.log_model.specs.declared.entry.Entry.{Entry}
@@ -53,10 +53,11 @@ snap_refusal must_be_off log =
     if must_be_off && machine_on log then Some Running else spent_refusal log
 
 -- a caller may remove in an owner's name what that owner has; what a migration has, only under the
--- number 1
+-- number of the caller that carries migrations out
 abbrev pub may_remove : (caller : ℕ) (owner has : Owner) → Bool
 may_remove caller Operator Operator = true
-may_remove caller (Migration number) (Migration other) = number == other && caller == 1
+may_remove caller (Migration number) (Migration other) =
+    number == other && caller == MIGRATION_CALLER
 may_remove caller Operator (Migration other) = false
 may_remove caller (Migration number) Operator = false
 

@@ -9,8 +9,8 @@ ghost use Rattle.log_model.specs.PlainMachine.{Appends};
 use crate::folds::{is_enabled, last_off, machine_on, owner_of, taken, written};
 use crate::query::is_within;
 use crate::{
-    Act, Entry, LinkRefused, MAX_LOG_ENTRIES, MAX_LOGGED_SECTORS, MAX_WRITE_SECTORS, Owner,
-    Snapped, WriteRefused,
+    Act, Entry, LinkRefused, MAX_LOG_ENTRIES, MAX_LOGGED_SECTORS, MAX_WRITE_SECTORS,
+    MIGRATION_CALLER, Owner, Snapped, WriteRefused,
 };
 use sector_model::{Sector, SectorList};
 use std::alloc::Global;
@@ -42,7 +42,8 @@ pub fn snap(
     ensures entries { Appends result
         (record { who = who; act = Act.Snap (taken log.old.items + 1) owner })
         log.old.items log.new.items }
-    ensures refused { IsRefusedOr (snap_refusal must_be_off log.old.items) LinkRefused.NoMemory result }
+    ensures refused { IsRefusedOr
+        (snap_refusal must_be_off log.old.items) LinkRefused.NoMemory result }
     ensures snapped { IfOk result (λ snapped. snapped ≡ snapped_after log.old.items) }
 {
     if must_be_off && machine_on(log) {
@@ -64,7 +65,9 @@ fn may_remove(caller: u32, owner: Owner, has: Owner) -> bool
 {
     match (owner, has) {
         (Owner::Operator, Owner::Operator) => true,
-        (Owner::Migration(number), Owner::Migration(other)) => number == other && caller == 1,
+        (Owner::Migration(number), Owner::Migration(other)) => {
+            number == other && caller == MIGRATION_CALLER
+        }
         _ => false,
     }
 }
@@ -74,7 +77,8 @@ pub fn remove(log: &mut Vec<Entry>, who: u32, owner: Owner, id: u32) -> Result<(
     ensures entries { Appends result
         (record { who = who; act = Act.Remove id })
         log.old.items log.new.items }
-    ensures refused { IsRefusedOr (remove_refusal who owner id log.old.items) LinkRefused.NoMemory result }
+    ensures refused { IsRefusedOr
+        (remove_refusal who owner id log.old.items) LinkRefused.NoMemory result }
 {
     match owner_of(log, id) {
         None => Err(LinkRefused::UnknownSnap),

@@ -1,6 +1,6 @@
 //! What happens to a machine, one entry after another.
 ghost use Rattle.std.specs.Prelude.{◌≡◌, [], ◌∷◌, ◌++◌, IfOk, OnOk, OnErr};
-ghost use Rattle.log_model.specs.Entry.{is_snap, takes, resets, is_enable, is_off, is_on, sectors_of};
+ghost use Rattle.log_model.specs.Entry.{is_write, is_snap, takes, resets, is_enable, is_off, is_on, sectors_of};
 
 use sector_model::{NoMemory, SectorList};
 use std::alloc::Global;
@@ -14,6 +14,10 @@ pub const MAX_WRITE_SECTORS: u64 = 128;
 
 /// The most sectors that all writes of a log have together: a log keeps what was written.
 pub const MAX_LOGGED_SECTORS: u64 = 1 << 16;
+
+/// The number of the caller that carries out migrations: snapshots in a migration's name are taken
+/// and removed by it alone.
+pub const MIGRATION_CALLER: u32 = 1;
 
 /// Who a snapshot belongs to.
 #[derive(Clone, Copy, Debug, PartialEq, Eq)]
@@ -38,15 +42,19 @@ pub enum Act {
     },
     /// Takes the snapshot of this number.
     Snap {
+        /// Its number: 1, 2 and so on.
         id: u32,
+        /// Who it belongs to.
         owner: Owner,
     },
     /// Removes that snapshot. The current contents stay.
     Remove {
+        /// The number of the snapshot.
         id: u32,
     },
     /// Resets the change tracking of a disk.
     Reset {
+        /// The disk, from 0 on.
         disk: u32,
     },
     /// Enables change tracking on the machine.
@@ -58,6 +66,13 @@ pub enum Act {
 }
 
 impl Act {
+    /// Whether sectors are written.
+    pub fn is_write(&self) -> bool
+        ensures { result ≡ is_write self.now }
+    {
+        matches!(self, Act::Write { .. })
+    }
+
     /// Whether a snapshot is taken.
     pub fn is_snap(&self) -> bool
         ensures { result ≡ is_snap self.now }

@@ -14,14 +14,21 @@ mod refusals;
 mod tests;
 
 pub use entry::{
-    Act, Entry, EntryList, MAX_LOG_ENTRIES, MAX_LOGGED_SECTORS, MAX_WRITE_SECTORS, Owner,
+    Act, Entry, EntryList, MAX_LOG_ENTRIES, MAX_LOGGED_SECTORS, MAX_WRITE_SECTORS,
+    MIGRATION_CALLER, Owner,
 };
-pub use folds::Tracking;
+pub use folds::{
+    Tracking, epoch, facts_of, is_enabled, last_off, machine_on, mark, number, owner_of, taken,
+    tracking_of, written,
+};
 pub use laws::{
-    accepted_may_stand, answer_pages_join, answers_stay, calls_go_on, ids_answer_between,
-    later_entries_keep, legal_logs, marks_of_ids, migrations_keep_theirs, numbers_have_no_gap,
-    off_is_frozen, touched_blocks_join,
+    accepted_may_stand, answer_pages_join, answers_stay, calls_follow, ids_answer_between,
+    ids_exist, later_entries_keep, legal_logs, marks_of_ids, migrations_keep_theirs,
+    numbers_have_no_gap, off_is_frozen, snapshots_have_their_marks, touched_blocks_join,
 };
 pub use link::{Facts, Link, Snapped};
 pub use plain_machine::PlainMachine;
+pub use query::{
+    accepts, before, between, fill_page, in_force, read_into, sector_at, since_place, through,
+};
 pub use refusals::{LinkRefused, WriteRefused};

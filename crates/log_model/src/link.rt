@@ -7,7 +7,7 @@ ghost use Rattle.log_model.specs.Frozen.{frozen};
 ghost use Rattle.log_model.specs.Query.{changed_areas};
 ghost use Rattle.log_model.specs.Refusals.{snap_refusal, remove_refusal, change_id_refusal, query_refusal, read_refusal, power_off_refusal, power_on_refusal, reset_refusal, enable_refusal};
 ghost use Rattle.basics.specs.Refusal.{IsRefusedBy, IsRefusedOr};
-ghost use Rattle.log_model.specs.Link.{LinkState, OnlyReads, Adds, log_met, snapped_after, facts_of, IsLeastOwned};
+ghost use Rattle.log_model.specs.Link.{LinkState, OnlyReads, AddsAct, log_met, snapped_after, facts_of, IsLeastOwned};
 
 use crate::{Act, LinkRefused, Owner};
 use change_id::{ChangeId, Since};
@@ -40,33 +40,36 @@ pub struct Facts {
 }
 
 /// A machine as one caller reaches it. Each call sees the machine's log at one moment. Others may
-/// have added entries since the caller's last call, where the link stands over a turn that it
-/// shares with them. Calls take memory from the machine's own allocator.
+/// have added entries since the caller's last call, unless nobody else reaches the machine. Calls
+/// take memory from the machine's own allocator.
 pub trait Link {
     /// The machine's number, the capacities of its disks, the caller's number, the turn, whether
     /// nobody else reaches the machine, the log as last seen, and the caller's own entries.
     ghost state: { Self → LinkState };
 
-    /// Takes a snapshot. One in a migration's name is taken by the caller with the number 1 alone.
-    /// [`LinkRefused::Running`] where the machine must be off and is on, [`LinkRefused::Spent`]
-    /// where the log is full, [`LinkRefused::NoMemory`].
+    /// Takes a snapshot. One in a migration's name is taken by the caller with the number
+    /// [`MIGRATION_CALLER`](crate::MIGRATION_CALLER) alone. [`LinkRefused::Running`] where the
+    /// machine must be off and is on, [`LinkRefused::Spent`] where the log is full,
+    /// [`LinkRefused::NoMemory`].
     fn snap(&mut self, owner: Owner, must_be_off: bool) -> Result<Snapped, LinkRefused>
         requires { ActsFor (state self.old).caller owner }
-        ensures adds { Adds result (Act.Snap (taken (log_met result (state self.new)) + 1) owner)
+        ensures adds { AddsAct result (Act.Snap (taken (log_met result (state self.new)) + 1) owner)
             (state self.old) (state self.new) }
         ensures refused { IsRefusedOr
-            (snap_refusal must_be_off (log_met result (state self.new))) LinkRefused.NoMemory result }
+            (snap_refusal must_be_off (log_met result (state self.new)))
+            LinkRefused.NoMemory result }
         ensures snapped { IfOk result
             (λ snapped. snapped ≡ snapped_after (log_met result (state self.new))) };
 
     /// Removes a live snapshot in its owner's name. [`LinkRefused::UnknownSnap`] where it isn't
     /// live, [`LinkRefused::Owned`] where it is another owner's, or a migration's and the caller's
-    /// number isn't 1, [`LinkRefused::Spent`] where the log is full, [`LinkRefused::NoMemory`].
+    /// number isn't [`MIGRATION_CALLER`](crate::MIGRATION_CALLER), [`LinkRefused::Spent`] where the
+    /// log is full, [`LinkRefused::NoMemory`].
     fn remove(&mut self, owner: Owner, id: u32) -> Result<(), LinkRefused>
-        ensures adds { Adds result (Act.Remove id) (state self.old) (state self.new) }
+        ensures adds { AddsAct result (Act.Remove id) (state self.old) (state self.new) }
         ensures refused { IsRefusedOr
-            (remove_refusal (state self.old).caller owner id (log_met result (state self.new))) LinkRefused.NoMemory
-            result };
+            (remove_refusal (state self.old).caller owner id (log_met result (state self.new)))
+            LinkRefused.NoMemory result };
 
     /// The identifier of a disk at a live snapshot, if tracking was enabled before it. A later
     /// reset doesn't change it. [`LinkRefused::UnknownSnap`] where the snapshot isn't live,
@@ -79,7 +82,8 @@ pub trait Link {
             (λ found. found ≡ id_at (state self.old).machine disk id (state self.new).seen) };
 
     /// Puts into the page the areas of a disk that changed between an identifier, or the beginning,
-    /// and a live snapshot: those from sector `start` on, at most 1,024.
+    /// and a live snapshot: those from sector `start` on, at most
+    /// [`PAGE_AREAS`](sector_model::PAGE_AREAS).
     /// [`LinkRefused::UnknownSnap`] where the snapshot isn't live, [`LinkRefused::Range`] where the
     /// disk is unknown or `start` isn't below its capacity, [`LinkRefused::Strange`] where the
     /// identifier isn't one of this disk's present epoch up to the snapshot.
@@ -124,7 +128,7 @@ pub trait Link {
     /// Powers the machine off, and tells the place of the entry. [`LinkRefused::AlreadyOff`] where
     /// it is off, [`LinkRefused::Spent`] where the log is full, [`LinkRefused::NoMemory`].
     fn power_off(&mut self) -> Result<u64, LinkRefused>
-        ensures adds { Adds result Act.Off (state self.old) (state self.new) }
+        ensures adds { AddsAct result Act.Off (state self.old) (state self.new) }
         ensures refused { IsRefusedOr
             (power_off_refusal (log_met result (state self.new))) LinkRefused.NoMemory result }
         ensures place { IfOk result (λ place. place ≡ length (log_met result (state self.new))) };
@@ -132,7 +136,7 @@ pub trait Link {
     /// Powers the machine on, and tells the place of the entry. [`LinkRefused::AlreadyOn`] where it
     /// is on, [`LinkRefused::Spent`] where the log is full, [`LinkRefused::NoMemory`].
     fn power_on(&mut self) -> Result<u64, LinkRefused>
-        ensures adds { Adds result Act.On (state self.old) (state self.new) }
+        ensures adds { AddsAct result Act.On (state self.old) (state self.new) }
         ensures refused { IsRefusedOr
             (power_on_refusal (log_met result (state self.new))) LinkRefused.NoMemory result }
         ensures place { IfOk result (λ place. place ≡ length (log_met result (state self.new))) };
@@ -141,15 +145,15 @@ pub trait Link {
     /// [`LinkRefused::Range`] where the disk is unknown, [`LinkRefused::Spent`] where the log is
     /// full, [`LinkRefused::NoMemory`].
     fn reset(&mut self, disk: u32) -> Result<(), LinkRefused>
-        ensures adds { Adds result (Act.Reset disk) (state self.old) (state self.new) }
+        ensures adds { AddsAct result (Act.Reset disk) (state self.old) (state self.new) }
         ensures refused { IsRefusedOr
-            (reset_refusal (state self.old).capacities disk (log_met result (state self.new))) LinkRefused.NoMemory
-            result };
+            (reset_refusal (state self.old).capacities disk (log_met result (state self.new)))
+            LinkRefused.NoMemory result };
 
     /// Enables change tracking. [`LinkRefused::AlreadyEnabled`] where it was enabled before,
     /// [`LinkRefused::Spent`] where the log is full, [`LinkRefused::NoMemory`].
     fn enable(&mut self) -> Result<(), LinkRefused>
-        ensures adds { Adds result Act.Enable (state self.old) (state self.new) }
+        ensures adds { AddsAct result Act.Enable (state self.old) (state self.new) }
         ensures refused { IsRefusedOr
             (enable_refusal (log_met result (state self.new))) LinkRefused.NoMemory result };
 

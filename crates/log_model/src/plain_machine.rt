@@ -61,10 +61,8 @@ impl PlainMachine {
     }
 
     /// Adds a guest's write of these sectors from `first` on, under the number `who`.
-    /// [`WriteRefused::Off`] where the machine is off, [`WriteRefused::Range`] where the disk is
-    /// unknown, the count isn't 1 to 128 or the range passes the capacity,
-    /// [`WriteRefused::LogFull`] where the sectors of all writes would pass 2^16 or the log holds
-    /// 2^18 entries, [`WriteRefused::NoMemory`]. A refused write changes nothing.
+    /// [`WriteRefused::Off`], [`WriteRefused::Range`], [`WriteRefused::LogFull`], each with the
+    /// cause that it names, and [`WriteRefused::NoMemory`]. A refused write changes nothing.
     pub fn write(
         &mut self,
         who: u32,

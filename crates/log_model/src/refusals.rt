@@ -22,7 +22,7 @@ pub enum LinkRefused {
     AlreadyOff,
     /// The machine is on already.
     AlreadyOn,
-    /// The log holds all the entries that it can: 2^18.
+    /// The log holds [`MAX_LOG_ENTRIES`](crate::MAX_LOG_ENTRIES) entries.
     Spent,
     /// The snapshot is another owner's, or a migration's and the caller isn't the one that may
     /// remove it.
@@ -59,7 +59,7 @@ impl fmt::Display for LinkRefused {
         match self {
             LinkRefused::UnknownSnap => write!(f, "the snapshot isn't live"),
             LinkRefused::Running => write!(f, "the machine is on"),
-            LinkRefused::Strange(_) => write!(f, "the identifier isn't of the disk's epoch"),
+            LinkRefused::Strange(_) => write!(f, "the identifier isn't one to ask this snapshot"),
             LinkRefused::Range => write!(f, "no such disk or sectors"),
             LinkRefused::AlreadyOff => write!(f, "the machine is off already"),
             LinkRefused::AlreadyOn => write!(f, "the machine is on already"),
@@ -78,9 +78,11 @@ impl Error for LinkRefused {}
 pub enum WriteRefused {
     /// The machine is off.
     Off,
-    /// The disk is unknown, the count isn't 1 to 128, or the range passes the capacity.
+    /// The disk is unknown, the sectors are none or more than one write may have
+    /// ([`MAX_WRITE_SECTORS`](crate::MAX_WRITE_SECTORS)), or the range passes the capacity.
     Range,
-    /// The sectors of all writes would pass 2^16, or the log holds 2^18 entries.
+    /// The sectors of all writes would pass [`MAX_LOGGED_SECTORS`](crate::MAX_LOGGED_SECTORS), or
+    /// the log holds [`MAX_LOG_ENTRIES`](crate::MAX_LOG_ENTRIES) entries.
     LogFull,
     /// Memory ran out.
     NoMemory,

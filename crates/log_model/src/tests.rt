@@ -1,4 +1,4 @@
-ghost use Rattle.std.specs.Prelude.{◌≡◌, ◌∷◌, [], Some, None};
+ghost use Rattle.std.specs.Prelude.{◌≡◌, ◌∷◌, [], Some, None, Ok, Err, true, false, take};
 ghost use Rattle.sector_model.specs.Sector.{filled, zero_sector};
 ghost use Rattle.log_model.specs.declared.entry.Owner.{Owner};
 ghost use Rattle.log_model.specs.declared.entry.Act.{Act};
@@ -7,14 +7,17 @@ ghost use Rattle.log_model.specs.Legal.{machine_on, owner_of};
 ghost use Rattle.log_model.specs.Marks.{mark, epoch, number, tracking, in_force, id_at, mark_of_id};
 ghost use Rattle.log_model.specs.Frozen.{frozen, off_place};
 ghost use Rattle.log_model.specs.Touched.{touched};
+ghost use Rattle.log_model.specs.Query.{changed_areas};
+ghost use Rattle.log_model.specs.Refusals.{power_off_refusal, remove_refusal};
+ghost use Rattle.log_model.specs.Link.{facts_of};
 ghost use Rattle.log_model.specs.SmallLog.{small_log};
 ghost use Rattle.log_model.specs.declared.folds.Tracking.{Tracking};
 
 use crate::{
     Act, Entry, EntryList, Link, LinkRefused, MAX_LOG_ENTRIES, Owner, PlainMachine, WriteRefused,
-    accepted_may_stand, answer_pages_join, answers_stay, calls, calls_go_on, ids_answer_between,
-    later_entries_keep, legal_logs, marks_of_ids, migrations_keep_theirs, numbers_have_no_gap,
-    off_is_frozen, touched_blocks_join,
+    accepted_may_stand, answer_pages_join, answers_stay, calls, calls_follow, ids_answer_between,
+    ids_exist, later_entries_keep, legal_logs, marks_of_ids, migrations_keep_theirs,
+    numbers_have_no_gap, off_is_frozen, snapshots_have_their_marks, touched_blocks_join,
 };
 use change_id::{ChangeId, Since, pack};
 use sector_model::{Page, Run, Sector};
@@ -32,12 +35,22 @@ fn definitions_on_small_logs()
     ensures touched { touched 300 0 3 5 small_log ≡ 0 ∷ [] }
     ensures off { off_place 2 small_log ≡ Some 4 }
     ensures on_before { off_place 1 small_log ≡ None }
-    ensures second { number 0 small_log ≡ 0 }
+    ensures after_reset { number 0 small_log ≡ 0 }
     ensures resets { epoch 0 small_log ≡ 1 }
     ensures first_id { id_at 1 0 1 small_log
         ≡ Some (record { uuid = 79228162514264337593543950336; seq = 1 }) }
-    ensures back { mark_of_id 1 0 (record { uuid = 79228162514264337593543950336; seq = 1 }) small_log
-        ≡ Some 2 }
+    ensures back { mark_of_id 1 0
+        (record { uuid = 79228162514264337593543950336; seq = 1 }) small_log ≡ Some 2 }
+    ensures answered { changed_areas 1 300 0 2
+        (Since.From (record { uuid = 79228162514264337593543950336; seq = 1 })) (take 7 small_log)
+        ≡ Ok (record { first = 0; count = 128 } ∷ []) }
+    ensures strange { changed_areas 1 300 0 2
+        (Since.From (record { uuid = 79228162514264337593543950336; seq = 1 })) small_log
+        ≡ Err None }
+    ensures facts { facts_of small_log
+        ≡ record { on = false; entries = 8; enabled = true; tracking = true; snaps = 2 } }
+    ensures off_already { power_off_refusal small_log ≡ Some LinkRefused.AlreadyOff }
+    ensures another_owner { remove_refusal 1 Owner.Operator 2 small_log ≡ Some LinkRefused.Owned }
     ensures none_in_force { in_force 1 0 small_log ≡ None }
     ensures owner { owner_of 2 small_log ≡ Some (Owner.Migration 7) }
     ensures removed { owner_of 1 small_log ≡ None }
@@ -232,11 +245,13 @@ fn the_laws_hold() {
     off_is_frozen();
     numbers_have_no_gap();
     later_entries_keep();
+    snapshots_have_their_marks();
+    ids_exist();
     migrations_keep_theirs();
     answers_stay();
     ids_answer_between();
     marks_of_ids();
-    calls_go_on();
+    calls_follow();
     definitions_on_small_logs();
     touched_blocks_join();
     answer_pages_join();

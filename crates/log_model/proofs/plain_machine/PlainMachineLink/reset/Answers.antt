@@ -3,7 +3,7 @@ use Rattle.log_model.specs.declared.entry.Act.TheVariants.{Reset}
 use Rattle.log_model.specs.declared.refusals.LinkRefused.TheVariants.{NoMemory}
 use Rattle.log_model.specs.Refusals.{reset_refusal}
 use Rattle.basics.specs.Refusal.{IsRefusedOr}
-use Rattle.log_model.specs.Link.{LinkState, Adds}
+use Rattle.log_model.specs.Link.{LinkState, AddsAct}
 use Rattle.log_model.specs.PlainMachine.{plain_state}
 use Rattle.log_model.proofs.Accepted.{reset_stands, plain_legal, plain_adds}
 use Rattle.log_model.proofs.plain_machine.PlainMachineLink.reset.Goals as goal
@@ -17,6 +17,6 @@ invariant_of-self c =
 pub returns-clause-adds : goal.returns-clause-adds
 returns-clause-adds c =
     let inside = c.self.inside in
-    subst (λ (s : LinkState). Adds c.reset.result (Reset c.args.disk) s (plain_state inside.machine inside.capacities.items inside.caller c.reset.new.log.items)) c.self.view_is
+    subst (λ (s : LinkState). AddsAct c.reset.result (Reset c.args.disk) s (plain_state inside.machine inside.capacities.items inside.caller c.reset.new.log.items)) c.self.view_is
     (plain_adds inside.machine inside.capacities.items inside.caller c.reset.result (reset_refusal c.self.inside.capacities.items c.args.disk c.self.inside.entries.items) (Reset c.args.disk) inside.entries.items c.reset.new.log.items c.self.invariant c.reset.ensures.entries
     (subst (λ (xs : List ℕ). IsRefusedOr (reset_refusal xs c.args.disk inside.entries.items) NoMemory c.reset.result) c.as_slice.ensures.value c.reset.ensures.refused) (reset_stands inside.capacities.items inside.entries.items inside.caller c.args.disk))

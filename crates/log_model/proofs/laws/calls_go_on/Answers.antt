@@ -1,8 +1,0 @@
-use Rattle.log_model.proofs.LinkLaws.{calls_go_on, reads_are_part}
-use Rattle.log_model.proofs.laws.calls_go_on.Goals as goal
-
-pub returns-clause-in_a_row : goal.returns-clause-in_a_row
-returns-clause-in_a_row c = calls_go_on
-
-pub returns-clause-reads : goal.returns-clause-reads
-returns-clause-reads c = reads_are_part
