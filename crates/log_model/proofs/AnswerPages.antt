@@ -7,16 +7,17 @@ use Rattle.sector_model.specs.Page.{areas_from}
 use Rattle.sector_model.specs.declared.run.Run.{Run}
 use Rattle.sector_model.proofs.Spacing.{Kept, runs_of-kept}
 use Rattle.sector_model.proofs.PageLaws.{pages_joined}
+use Rattle.sector_model.proofs.PageWithin.{page_lies_within}
 use Rattle.change_id.specs.declared.ChangeId.{ChangeId}
 use Rattle.change_id.specs.declared.Since.{Since}
 use Rattle.change_id.specs.declared.Since.TheVariants.{All as Everything, From}
-use Rattle.log_model.specs.declared.entries.Entry.{Entry}
-use Rattle.log_model.specs.Answers.{answer, accepts, numbered_place}
+use Rattle.log_model.specs.declared.entry.Entry.{Entry}
+use Rattle.log_model.specs.Query.{changed_areas, accepts, numbered_place}
 use Rattle.log_model.specs.Marks.{mark, in_force}
 use Rattle.log_model.specs.Touched.{touched, touched_areas}
-use Rattle.log_model.specs.Laws.{AnswerPagesJoin, AllPagesAreTheAnswer}
+use Rattle.log_model.specs.Laws.{AnswersAreAreas, AnswerPagesJoin, AllPagesAreTheAnswer}
 
-ok_part : (b : Bool) (x y : List Run) (e : Option ChangeId) → cond b (Ok x) (Err e) ≡ Ok y → x ≡ y
+pub ok_part : (b : Bool) (x y : List Run) (e : Option ChangeId) → cond b (Ok x) (Err e) ≡ Ok y → x ≡ y
 ok_part true x y e h = cc
 ok_part false x y e h = absurd (cc)
 
@@ -28,12 +29,12 @@ areas_from-start m (r ∷ rs) h =
     rw (lt-ltb 0 (end_of r) past, le-ltb r.first 0 (omega arith)) (ap (λ (more : List Run). r ∷ more) (areas_from-start (end_of r + 1) rs h.2))
 
 -- an answer is the areas of some blocks
-answered : (machine c d s : ℕ) (since : Since) (log : List Entry) (areas : List Run) → answer machine c d s since log ≡ Ok areas → (blocks : List ℕ) × (areas ≡ areas_of c blocks)
+answered : (machine c d s : ℕ) (since : Since) (log : List Entry) (areas : List Run) → changed_areas machine c d s since log ≡ Ok areas → (blocks : List ℕ) × (areas ≡ areas_of c blocks)
 answered machine c d s Everything log areas found = (touched c d 0 (mark s log) log, cc)
 answered machine c d s (From id) log areas found =
     (touched c d (numbered_place d id.seq log) (mark s log) log, sym (ok_part (accepts machine d s id log) (touched_areas c d (numbered_place d id.seq log) (mark s log) log) areas (in_force machine d log) found))
 
-kept : (machine c d s : ℕ) (since : Since) (log : List Entry) (areas : List Run) → c < 2 ^ 64 → answer machine c d s since log ≡ Ok areas → Kept 0 c areas
+kept : (machine c d s : ℕ) (since : Since) (log : List Entry) (areas : List Run) → c < 2 ^ 64 → changed_areas machine c d s since log ≡ Ok areas → Kept 0 c areas
 kept machine c d s since log areas fits found =
     let blocks = answered machine c d s since log areas found in
     subst (Kept 0 c) (sym blocks.1) (runs_of-kept (in_blocks blocks.0) c fits)
@@ -47,3 +48,9 @@ pub all_pages_are_the_answer : AllPagesAreTheAnswer
 all_pages_are_the_answer machine c d s since log areas pages fits found are =
     let k = kept machine c d s since log areas fits found in
     answer_pages_join machine c d s since log areas 0 pages fits found are ∙ areas_from-start 0 areas k.spaced
+
+pub answers_are_areas : AnswersAreAreas
+answers_are_areas machine c d s since log areas fits found =
+    let k = kept machine c d s since log areas fits found in
+    let within = All-from_recursion (λ (r : Run). end_of r ≤ c) areas k.ends in
+    record { spaced = k.spaced; within = within; pages = λ start before. page_lies_within c areas start k.spaced within before }

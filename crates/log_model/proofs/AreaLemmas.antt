@@ -9,11 +9,10 @@ use Rattle.sector_model.specs.Run.{end_of, from_sector, next_run, in_runs, in_bl
 use Rattle.sector_model.specs.Page.{areas_from}
 use Rattle.sector_model.specs.declared.run.Run.{Run}
 use Rattle.sector_model.proofs.Exact.{in_runs_of}
-use Rattle.sector_model.proofs.Spacing.{none_before, none_in_gap, in_first, past_first}
-use Rattle.log_model.specs.declared.entries.Entry.{Entry}
-use Rattle.log_model.specs.Entries.{writes_of, write_to}
-use Rattle.log_model.specs.Plain.{is_touched}
-use Rattle.log_model.proofs.TouchedLaws.{in_touched, any_below}
+use Rattle.log_model.specs.declared.entry.Entry.{Entry}
+use Rattle.log_model.specs.Entry.{writes_of, write_to}
+use Rattle.log_model.specs.PlainMachine.{is_touched}
+use Rattle.sector_model.proofs.Touched.{in_touched, any_below}
 
 -- a test of the writes is one of the entries
 any_write_at : (d sector : ℕ) (o : Option Replacement) (ws : List Replacement) (b : Bool) → list_any (touches (sector / 128)) ws ≡ b

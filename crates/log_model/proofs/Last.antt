@@ -15,17 +15,6 @@ pub slice_get-last : {X : Type 0} (xs : List X) (x : X) → slice_get (xs ++ x �
 slice_get-last [] x = refl
 slice_get-last (y ∷ ys) x = slice_get-last ys x
 
-pub slice_get-front : {X : Type 0} (xs ys : List X) (k : ℕ) → k < length xs → slice_get (xs ++ ys) k ≡ slice_get xs k
-slice_get-front [] ys k h = absurd (omega arith)
-slice_get-front (x ∷ xs) ys zero h = refl
-slice_get-front (x ∷ xs) ys (suc k) h = slice_get-front xs ys k (omega arith)
-
-pub slice_get-take : {X : Type 0} (xs : List X) (n k : ℕ) → k < n → slice_get (take n xs) k ≡ slice_get xs k
-slice_get-take xs zero k h = absurd (omega arith)
-slice_get-take [] (suc n) k h = refl
-slice_get-take (x ∷ xs) (suc n) zero h = refl
-slice_get-take (x ∷ xs) (suc n) (suc k) h = slice_get-take xs n k (omega arith)
-
 pub enumerate_from-append : {X : Type 0} (n : ℕ) (xs ys : List X) → enumerate_from n (xs ++ ys) ≡ enumerate_from n xs ++ enumerate_from (n + length xs) ys
 enumerate_from-append n [] ys = rw add-zero refl
 enumerate_from-append {X = X} n (x ∷ xs) ys =

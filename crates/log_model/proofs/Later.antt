@@ -4,11 +4,11 @@ use Rattle.std.specs.List.{prefix_len, find, range_with_len}
 use Rattle.std.proofs.lemmas.Bool.{eqb-true, eq-eqb, false≢true}
 use Rattle.std.proofs.lemmas.List.{take-append-le}
 use Rattle.std.proofs.lemmas.Option.{same_Some}
-use Rattle.log_model.specs.declared.entries.Entry.{Entry}
-use Rattle.log_model.specs.Entries.{takes, is_snap, is_enable, resets, contents}
+use Rattle.log_model.specs.declared.entry.Entry.{Entry}
+use Rattle.log_model.specs.Entry.{takes, is_snap, is_enable, resets, contents}
 use Rattle.log_model.specs.Marks.{mark, before, through, epoch, counted, number, in_force}
 use Rattle.log_model.specs.Frozen.{last_off}
-use Rattle.log_model.specs.Answers.{numbered_place}
+use Rattle.log_model.specs.Query.{numbered_place}
 use Rattle.log_model.specs.Laws.{GivesNumber, NumberedPlaceGives, LaterEntriesKeep}
 use Rattle.log_model.proofs.Last.{at_place}
 use Rattle.log_model.proofs.NumberLaws.{numbers_have_no_gap, epoch-last, number-last, not_started}
@@ -20,7 +20,7 @@ prefix_step p x xs ys true is more less =
     ap (λ n. cond (p x) (1 + n) 0) (more (omega arith))
 prefix_step p x xs ys false is more less = ap (λ c. cond c (1 + prefix_len p (xs ++ ys)) 0) is ∙ sym (ap (λ c. cond c (1 + prefix_len p xs) 0) is)
 
-prefix_len-append : {X : Type 0} (p : X → Bool) (xs ys : List X) → prefix_len p xs < length xs → prefix_len p (xs ++ ys) ≡ prefix_len p xs
+pub prefix_len-append : {X : Type 0} (p : X → Bool) (xs ys : List X) → prefix_len p xs < length xs → prefix_len p (xs ++ ys) ≡ prefix_len p xs
 prefix_len-append p [] ys less = absurd (omega arith)
 prefix_len-append p (x ∷ xs) ys less = prefix_step p x xs ys (p x) refl (prefix_len-append p xs ys) less
 
@@ -89,7 +89,7 @@ both : (a b : Bool) → a ≡ true → b ≡ true → (a && b) ≡ true
 both a b h k = ap (λ x. x && b) h ∙ k
 
 -- an entry that takes no snapshot gives no new number
-no_new_number : (d n : ℕ) (log : List Entry) (e : Entry) (o : Option ℕ) (r : Bool) → counted d log ≡ o → resets d e.act ≡ r → is_snap e.act ≡ false → 1 ≤ n → number d (log ++ e ∷ []) ≡ n
+pub no_new_number : (d n : ℕ) (log : List Entry) (e : Entry) (o : Option ℕ) (r : Bool) → counted d log ≡ o → resets d e.act ≡ r → is_snap e.act ≡ false → 1 ≤ n → number d (log ++ e ∷ []) ≡ n
     → (number d log ≡ n) × (resets d e.act ≡ false)
 no_new_number d n log e None r same is_r none low now =
     let zero_now : number d (log ++ e ∷ []) ≡ 0 = number-last d log e None same ∙ not_started (is_enable e.act) in absurd (omega arith)

@@ -5,11 +5,12 @@ use Rattle.std.proofs.lemmas.Bool.{cases_eq, cases_lt}
 use Rattle.std.proofs.lemmas.List.{take-append-le, take-append-drop, take-take, take_all}
 use Rattle.std.proofs.lemmas.List.Sums.{fold-append, sum_by-append, sum_by-cons, sum_by-take-le}
 use Rattle.std.proofs.lemmas.Option.{same_Some}
-use Rattle.log_model.specs.declared.entries.Entry.{Entry}
-use Rattle.log_model.specs.Entries.{is_snap, is_enable, resets}
+use Rattle.log_model.specs.declared.entry.Entry.{Entry}
+use Rattle.log_model.specs.Entry.{is_snap, is_enable, resets}
 use Rattle.log_model.specs.Marks.{epoch, counted, counted_after, number}
 use Rattle.log_model.specs.Laws.{GivesNumber, NumbersHaveNoGap, NumbersDiffer}
-use Rattle.log_model.proofs.Last.{by_last, slice_get-last, slice_get-front, at_place}
+use Rattle.sector_model.proofs.ItemAt.{slice_get-front}
+use Rattle.log_model.proofs.Last.{by_last, slice_get-last, at_place}
 
 pub counted-last : (d : ℕ) (log : List Entry) (e : Entry) → counted d (log ++ e ∷ []) ≡ counted_after d (counted d log) e
 counted-last d log e = fold-append (counted_after d) None log (e ∷ [])
@@ -93,7 +94,7 @@ rises_by d a e rest false false is_r is_s more none =
     subst (λ (o : Option ℕ). a ≤ unwrap_or (fold (counted_after d) o rest) 0) (sym same) (more a (omega arith))
 
 -- while nothing of d is reset, its number doesn't fall
-number-rises : (d : ℕ) (rest : List Entry) → NoFall d rest
+pub number-rises : (d : ℕ) (rest : List Entry) → NoFall d rest
 number-rises d [] a none = omega arith
 number-rises d (e ∷ rest) a none = rises_by d a e rest (resets d e.act) (is_snap e.act) refl refl (number-rises d rest) (sym (sum_by-cons (λ x. cond (resets d x.act) 1 0) e rest) ∙ none)
 
@@ -113,8 +114,9 @@ one_less d n log e (Some m) false same is_r snap low now =
     let was : number d log ≡ m = ap (λ (x : Option ℕ). unwrap_or x 0) same in
     omega arith
 
-once : (d n i k : ℕ) (log : List Entry) → 1 ≤ n → i < k → GivesNumber d n log i → GivesNumber d n log k → ⊥
-once d n i k log low less first second =
+-- no earlier place had the number that a Snap entry gives
+pub once : (d n i k : ℕ) (log : List Entry) → 1 ≤ n → i < k → epoch d (take (i + 1) log) ≡ epoch d log → number d (take (i + 1) log) ≡ n → GivesNumber d n log k → ⊥
+once d n i k log low less first_epoch first_number second =
     let here = at_place log k second.within in
     let e : Entry = here.0 in
     let short : List Entry = take k log in
@@ -124,11 +126,11 @@ once d n i k log low less first second =
     let front : take (i + 1) short ≡ take (i + 1) log = take-take (i + 1) k log le in
     let rest : List Entry = drop (i + 1) short in
     let whole : take (i + 1) short ++ rest ≡ short = take-append-drop (i + 1) short in
-    let front_epoch : epoch d (take (i + 1) short) ≡ epoch d log = ap (epoch d) front ∙ first.same_epoch in
+    let front_epoch : epoch d (take (i + 1) short) ≡ epoch d log = ap (epoch d) front ∙ first_epoch in
     let sums : epoch d short ≡ epoch d (take (i + 1) short) + epoch d rest = ap (epoch d) (sym whole) ∙ epoch-append d (take (i + 1) short) rest in
     let most = sum_by-take-le (λ x. cond (resets d x.act) 1 0) log k in
     let none : epoch d rest ≡ 0 = omega arith in
-    let started : counted d (take (i + 1) short) ≡ Some n = counted_is (counted d (take (i + 1) short)) n low (ap (number d) front ∙ first.numbered) in
+    let started : counted d (take (i + 1) short) ≡ Some n = counted_is (counted d (take (i + 1) short)) n low (ap (number d) front ∙ first_number) in
     let then : counted d short ≡ fold (counted_after d) (Some n) rest = ap (counted d) (sym whole) ∙ fold-append (counted_after d) None (take (i + 1) short) rest ∙ ap (λ (o : Option ℕ). fold (counted_after d) o rest) started in
     let now : number d short ≡ unwrap_or (fold (counted_after d) (Some n) rest) 0 = ap (λ (o : Option ℕ). unwrap_or o 0) then in
     omega (arith, number-rises d rest n none)
@@ -137,5 +139,5 @@ pub numbers_differ : NumbersDiffer
 numbers_differ d n i k log low first second =
     elim (cases_eq i k) [
       | inl same ↦ same
-      | inr other ↦ elim (cases_lt i k) [ inl less ↦ absurd (once d n i k log low less first second) | inr more ↦ let less : k < i = omega arith in absurd (once d n k i log low less second first) ]
+      | inr other ↦ elim (cases_lt i k) [ inl less ↦ absurd (once d n i k log low less first.same_epoch first.numbered second) | inr more ↦ let less : k < i = omega arith in absurd (once d n k i log low less second.same_epoch second.numbered first) ]
     ]

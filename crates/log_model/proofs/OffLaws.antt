@@ -7,11 +7,11 @@ use Rattle.std.proofs.lemmas.List.Elements.{filter_map-append}
 use Rattle.std.proofs.Math.Seq.{drop-append_seam}
 use Rattle.std.proofs.lemmas.Bool.{false≢true}
 use Rattle.sector_model.specs.Disk.{Write as Replacement, fold_writes}
-use Rattle.log_model.specs.declared.entries.Act.{Act}
-use Rattle.log_model.specs.declared.entries.Act.TheVariants.{Write, Snap, Remove, Reset, Enable, Off, On}
-use Rattle.log_model.specs.declared.entries.Entry.{Entry}
-use Rattle.log_model.specs.Entries.{writes_of, write_to, contents}
-use Rattle.log_model.specs.Legal.{Legal, ActMayStand, machine_on, on_after}
+use Rattle.log_model.specs.declared.entry.Act.{Act}
+use Rattle.log_model.specs.declared.entry.Act.TheVariants.{Write, Snap, Remove, Reset, Enable, Off, On}
+use Rattle.log_model.specs.declared.entry.Entry.{Entry}
+use Rattle.log_model.specs.Entry.{writes_of, write_to, contents}
+use Rattle.log_model.specs.Legal.{Disks, Legal, ActMayStand, machine_on, on_after}
 use Rattle.log_model.specs.Marks.{mark, before}
 use Rattle.log_model.specs.Frozen.{last_off, off_after, off_place}
 use Rattle.log_model.specs.Laws.{NoWriteWhileOff, OffIsFrozen}
@@ -46,33 +46,33 @@ still_off log e place off no_write facts = (
   λ d. still_none log e place d (no_write d) facts.1 (facts.2 d),
 )
 
-off_step : (capacities : List ℕ) (log : List Entry) (place : Option ℕ) (who : ℕ) (act : Act) → OffFacts log place → ActMayStand capacities log who act
+off_step : (disks : Disks) (log : List Entry) (place : Option ℕ) (who : ℕ) (act : Act) → OffFacts log place → ActMayStand disks log who act
     → OffFacts (log ++ record { who = who; act = act } ∷ []) (off_after place (length log, record { who = who; act = act }))
-off_step capacities log place who Off facts stands =
+off_step disks log place who Off facts stands =
     let e : Entry = record { who = who; act = Off } in
     (machine_on-last log e, omega (arith, length-append log (e ∷ [])), λ d. ap (writes_of d) (drop-append_seam log (e ∷ [])))
-off_step capacities log place who On facts stands = machine_on-last log (record { who = who; act = On })
-off_step capacities log None who (Write disk first sectors) facts stands = machine_on-last log (record { who = who; act = Write disk first sectors }) ∙ facts
-off_step capacities log (Some place) who (Write disk first sectors) facts stands = absurd (false≢true (sym facts.0 ∙ stands.running))
-off_step capacities log None who (Snap id owner) facts stands = machine_on-last log (record { who = who; act = Snap id owner }) ∙ facts
-off_step capacities log (Some place) who (Snap id owner) facts stands = still_off log (record { who = who; act = Snap id owner }) place refl (λ d. refl) facts
-off_step capacities log None who (Remove id) facts stands = machine_on-last log (record { who = who; act = Remove id }) ∙ facts
-off_step capacities log (Some place) who (Remove id) facts stands = still_off log (record { who = who; act = Remove id }) place refl (λ d. refl) facts
-off_step capacities log None who (Reset disk) facts stands = machine_on-last log (record { who = who; act = Reset disk }) ∙ facts
-off_step capacities log (Some place) who (Reset disk) facts stands = still_off log (record { who = who; act = Reset disk }) place refl (λ d. refl) facts
-off_step capacities log None who Enable facts stands = machine_on-last log (record { who = who; act = Enable }) ∙ facts
-off_step capacities log (Some place) who Enable facts stands = still_off log (record { who = who; act = Enable }) place refl (λ d. refl) facts
+off_step disks log place who On facts stands = machine_on-last log (record { who = who; act = On })
+off_step disks log None who (Write disk first sectors) facts stands = machine_on-last log (record { who = who; act = Write disk first sectors }) ∙ facts
+off_step disks log (Some place) who (Write disk first sectors) facts stands = absurd (false≢true (sym facts.0 ∙ stands.running))
+off_step disks log None who (Snap id owner) facts stands = machine_on-last log (record { who = who; act = Snap id owner }) ∙ facts
+off_step disks log (Some place) who (Snap id owner) facts stands = still_off log (record { who = who; act = Snap id owner }) place refl (λ d. refl) facts
+off_step disks log None who (Remove id) facts stands = machine_on-last log (record { who = who; act = Remove id }) ∙ facts
+off_step disks log (Some place) who (Remove id) facts stands = still_off log (record { who = who; act = Remove id }) place refl (λ d. refl) facts
+off_step disks log None who (Reset disk) facts stands = machine_on-last log (record { who = who; act = Reset disk }) ∙ facts
+off_step disks log (Some place) who (Reset disk) facts stands = still_off log (record { who = who; act = Reset disk }) place refl (λ d. refl) facts
+off_step disks log None who Enable facts stands = machine_on-last log (record { who = who; act = Enable }) ∙ facts
+off_step disks log (Some place) who Enable facts stands = still_off log (record { who = who; act = Enable }) place refl (λ d. refl) facts
 
-pub off_facts : (capacities : List ℕ) (log : List Entry) → Legal capacities log → OffFacts log (last_off log)
-off_facts capacities =
-    by_last (λ log. Legal capacities log → OffFacts log (last_off log)) (λ _. refl)
-    (λ log e rest legal. subst (OffFacts (log ++ e ∷ [])) (sym (last_off-last log e)) (off_step capacities log (last_off log) e.who e.act (rest (legal_front capacities log (e ∷ []) legal)) (legal_last capacities log e legal)))
+pub off_facts : (disks : Disks) (log : List Entry) → Legal disks log → OffFacts log (last_off log)
+off_facts disks =
+    by_last (λ log. Legal disks log → OffFacts log (last_off log)) (λ _. refl)
+    (λ log e rest legal. subst (OffFacts (log ++ e ∷ [])) (sym (last_off-last log e)) (off_step disks log (last_off log) e.who e.act (rest (legal_front disks log (e ∷ []) legal)) (legal_last disks log e legal)))
 
-off_before : (capacities : List ℕ) (log : List Entry) (s place : ℕ) → Legal capacities log → off_place s log ≡ Some place → OffFacts (before s log) (Some place)
-off_before capacities log s place legal off = subst (OffFacts (before s log)) off (off_facts capacities (before s log) (prefixes_are_legal capacities log (mark s log) legal))
+off_before : (disks : Disks) (log : List Entry) (s place : ℕ) → Legal disks log → off_place s log ≡ Some place → OffFacts (before s log) (Some place)
+off_before disks log s place legal off = subst (OffFacts (before s log)) off (off_facts disks (before s log) (prefixes_are_legal disks log (mark s log) legal))
 
 pub no_write_while_off : NoWriteWhileOff
-no_write_while_off capacities log d s place legal off = (off_before capacities log s place legal off).2 d
+no_write_while_off disks log d s place legal off = (off_before disks log s place legal off).2 d
 
 -- what has no write behind a place is what is left at that place
 contents-kept : (c d place : ℕ) (log : List Entry) → writes_of d (drop place log) ≡ [] → contents c d (take place log) ≡ contents c d log
@@ -82,7 +82,7 @@ contents-kept c d place log none =
     ∙ ap (λ (ws : List Replacement). writes_of d (take place log) ++ ws) none ∙ append-nil (writes_of d (take place log))))
 
 pub off_is_frozen : OffIsFrozen
-off_is_frozen capacities log c d s place legal off =
-    let facts = off_before capacities log s place legal off in
+off_is_frozen disks log c d s place legal off =
+    let facts = off_before disks log s place legal off in
     let within : place ≤ mark s log = omega (arith, facts.1, length-take (mark s log) log) in
     ap (contents c d) (sym (take-take place (mark s log) log within)) ∙ contents-kept c d place (before s log) (facts.2 d)

@@ -3,12 +3,12 @@ use Rattle.std.proofs.Common.{◌≡◌, ℕ, ◌+◌, ◌≤◌, List, [], ◌�
 use Rattle.std.proofs.lemmas.Bool.{eqb-true}
 use Rattle.std.proofs.lemmas.Option.{none-some}
 use Rattle.std.proofs.lemmas.List.Sums.{fold-append, sum_by-append}
-use Rattle.log_model.specs.declared.entries.Owner.{Owner}
-use Rattle.log_model.specs.declared.entries.Act.{Act}
-use Rattle.log_model.specs.declared.entries.Act.TheVariants.{Write, Snap, Remove, Reset, Enable, Off, On}
-use Rattle.log_model.specs.declared.entries.Entry.{Entry}
-use Rattle.log_model.specs.Entries.{is_snap}
-use Rattle.log_model.specs.Legal.{Legal, ActMayStand, taken, owner_of, owner_after}
+use Rattle.log_model.specs.declared.entry.Owner.{Owner}
+use Rattle.log_model.specs.declared.entry.Act.{Act}
+use Rattle.log_model.specs.declared.entry.Act.TheVariants.{Write, Snap, Remove, Reset, Enable, Off, On}
+use Rattle.log_model.specs.declared.entry.Entry.{Entry}
+use Rattle.log_model.specs.Entry.{is_snap}
+use Rattle.log_model.specs.Legal.{Disks, Legal, ActMayStand, taken, owner_of, owner_after}
 use Rattle.log_model.specs.Link.{IsLeastOwned}
 use Rattle.log_model.proofs.Last.{by_last}
 use Rattle.log_model.proofs.LegalLogs.{legal_last, legal_front}
@@ -30,27 +30,27 @@ removed_at : (n s : ℕ) (owner : Owner) (was : Option Owner) (b : Bool) → (wa
 removed_at n s owner was true old h = absurd (none-some owner h)
 removed_at n s owner was false old h = old h
 
-taken_step : (capacities : List ℕ) (log : List Entry) (who : ℕ) (act : Act) → AreTaken log → ActMayStand capacities log who act
+taken_step : (disks : Disks) (log : List Entry) (who : ℕ) (act : Act) → AreTaken log → ActMayStand disks log who act
     → (s : ℕ) (owner : Owner) → owner_after s (owner_of s log) (record { who = who; act = act }) ≡ Some owner → s ≤ taken log + taken (record { who = who; act = act } ∷ [])
-taken_step capacities log who (Snap id by) old stands s owner h = taken_at (taken log) s id by owner (owner_of s log) (eqb id s) refl stands (old s owner) h
-taken_step capacities log who (Remove id) old stands s owner h = omega (arith, removed_at (taken log) s owner (owner_of s log) (eqb id s) (old s owner) h)
-taken_step capacities log who (Write disk first sectors) old stands s owner h = omega (arith, old s owner h)
-taken_step capacities log who (Reset disk) old stands s owner h = omega (arith, old s owner h)
-taken_step capacities log who Enable old stands s owner h = omega (arith, old s owner h)
-taken_step capacities log who Off old stands s owner h = omega (arith, old s owner h)
-taken_step capacities log who On old stands s owner h = omega (arith, old s owner h)
+taken_step disks log who (Snap id by) old stands s owner h = taken_at (taken log) s id by owner (owner_of s log) (eqb id s) refl stands.0 (old s owner) h
+taken_step disks log who (Remove id) old stands s owner h = omega (arith, removed_at (taken log) s owner (owner_of s log) (eqb id s) (old s owner) h)
+taken_step disks log who (Write disk first sectors) old stands s owner h = omega (arith, old s owner h)
+taken_step disks log who (Reset disk) old stands s owner h = omega (arith, old s owner h)
+taken_step disks log who Enable old stands s owner h = omega (arith, old s owner h)
+taken_step disks log who Off old stands s owner h = omega (arith, old s owner h)
+taken_step disks log who On old stands s owner h = omega (arith, old s owner h)
 
-pub owned_taken : (capacities : List ℕ) (log : List Entry) → Legal capacities log → AreTaken log
-owned_taken capacities =
-    by_last (λ log. Legal capacities log → AreTaken log) (λ _ s owner h. absurd (none-some owner h))
+pub owned_taken : (disks : Disks) (log : List Entry) → Legal disks log → AreTaken log
+owned_taken disks =
+    by_last (λ log. Legal disks log → AreTaken log) (λ _ s owner h. absurd (none-some owner h))
     (λ log e rest legal s owner h. omega (
       arith,
       taken-append log (e ∷ []),
-      taken_step capacities log e.who e.act (rest (legal_front capacities log (e ∷ []) legal)) (legal_last capacities log e legal) s owner (sym (owner_of-last s log e) ∙ h),
+      taken_step disks log e.who e.act (rest (legal_front disks log (e ∷ []) legal)) (legal_last disks log e legal) s owner (sym (owner_of-last s log e) ∙ h),
     ))
 
 -- the least among those taken is the least of all
-pub least_of_all : (capacities : List ℕ) (log : List Entry) (owner : Owner) (from : ℕ) (result : Option ℕ) → Legal capacities log
+pub least_of_all : (disks : Disks) (log : List Entry) (owner : Owner) (from : ℕ) (result : Option ℕ) → Legal disks log
     → MatchOption result ((s : ℕ) → from ≤ s → s ≤ taken log → owner_of s log ≡ Some owner → ⊥) (λ s. IsLeastOwned owner from log (Some s)) → IsLeastOwned owner from log result
-least_of_all capacities log owner from (Some s) legal h = h
-least_of_all capacities log owner from None legal h = λ s later owns. h s later (owned_taken capacities log legal s owner owns) owns
+least_of_all disks log owner from (Some s) legal h = h
+least_of_all disks log owner from None legal h = λ s later owns. h s later (owned_taken disks log legal s owner owns) owns

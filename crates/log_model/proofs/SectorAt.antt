@@ -1,29 +1,24 @@
 -- One sector of what a log leaves.
 use Rattle.std.proofs.Common.{◌≡◌, ℕ, zero, suc, ◌+◌, ◌-◌, ◌<◌, ◌≤◌, List, [], ◌∷◌, length, drop, map, replicate, slice_range, Bool, true, false, cond, leb, ◌&&◌, Option, Some, None, unwrap_or, refl, sym, ap, ◌∙◌, arith, length-take, length-drop, inl, inr}
 use Rattle.std.specs.List.{fold, slice_get, range_with_len, AllByRecursion, cons_option}
-use Rattle.std.proofs.lemmas.Bool.{leb-true, le-leb, cases_lt}
+use Rattle.std.proofs.lemmas.Bool.{leb-true, ltb-true, le-leb, cases_lt}
 use Rattle.std.proofs.lemmas.Option.{slice_get_past, get_or_from_slice_get, slice_get-get_or}
 use Rattle.std.proofs.lemmas.List.{length-replicate}
 use Rattle.std.proofs.lemmas.List.FromFn.{fill_by_all}
-use Rattle.sector_model.specs.Disk.{Write as Replacement, after_write, fresh_disk}
+use Rattle.sector_model.specs.Disk.{Write as Replacement, Fits, after_write, fresh_disk}
 use Rattle.sector_model.specs.Sector.{zero_sector}
 use Rattle.sector_model.specs.declared.sector.Sector.{Sector}
-use Rattle.log_model.specs.declared.entries.Entry.{Entry}
-use Rattle.log_model.specs.Entries.{writes_of, write_to, contents}
-use Rattle.log_model.specs.Legal.{Legal, capacity_of}
+use Rattle.log_model.specs.declared.entry.Entry.{Entry}
+use Rattle.log_model.specs.Entry.{writes_of, write_to, contents}
+use Rattle.log_model.specs.Legal.{Disks, all_of, HasDisk, Legal, capacity_of}
 use Rattle.log_model.specs.Refusals.{is_within, is_known}
-use Rattle.log_model.specs.Plain.{sector_at, sector_after, sector_of_write}
-use Rattle.log_model.proofs.Last.{slice_get-take}
-use Rattle.log_model.proofs.Replaced.{Fits, length-replaced, replaced-before, replaced-within, replaced-behind, slice_get-drop}
+use Rattle.log_model.specs.PlainMachine.{sector_at, sector_after, sector_of_write}
+use Rattle.sector_model.proofs.ItemAt.{slice_get-take, slice_get-drop, slice_get-replicate}
+use Rattle.sector_model.proofs.Replaced.{length-replaced, replaced-before, replaced-within, replaced-behind}
 use Rattle.log_model.proofs.TouchedLaws.{writes_fit, length-contents}
 
 lt-leb_false : (m n : ℕ) → m < n → leb n m ≡ false
 lt-leb_false m n less = elim (leb n m) as (λ b. leb n m ≡ b → b ≡ false) [ true ↦ λ h. absurd (omega (arith, leb-true n m h)) | false ↦ λ _. refl ] refl
-
-slice_get-replicate : (n k : ℕ) (x : Sector) → k < n → slice_get (replicate n x) k ≡ Some x
-slice_get-replicate zero k x less = absurd (omega arith)
-slice_get-replicate (suc n) zero x less = refl
-slice_get-replicate (suc n) (suc k) x less = slice_get-replicate n k x (omega arith)
 
 -- the sector of a disk after a write is what the plain machine reads
 after_one : (c s : ℕ) (disk : List Sector) (w : Replacement) (sector : Sector) → length disk ≡ c → Fits c w → slice_get disk s ≡ Some sector → slice_get (after_write disk w) s ≡ Some (sector_of_write s sector (Some w))
@@ -64,26 +59,27 @@ reads_on : (c d s : ℕ) (log : List Entry) → Reads c d s log
 reads_on c d s [] disk sector long fit here = here
 reads_on c d s (e ∷ log) disk sector long fit here = reads_one c d s log disk sector (write_to d e.act) long fit here (reads_on c d s log)
 
-pub sector_at_is : (capacities : List ℕ) (d s : ℕ) (log : List Entry) → Legal capacities log → s < capacity_of capacities d → slice_get (contents (capacity_of capacities d) d log) s ≡ Some (sector_at d s log)
-sector_at_is capacities d s log legal less =
-    let c : ℕ = capacity_of capacities d in
-    reads_on c d s log (fresh_disk c) zero_sector (length-replicate c zero_sector) (writes_fit capacities d log legal) (slice_get-replicate c s zero_sector less)
+pub sector_at_is : (disks : Disks) (c d s : ℕ) (log : List Entry) → HasDisk disks d c → Legal disks log → s < c → slice_get (contents c d log) s ≡ Some (sector_at d s log)
+sector_at_is disks c d s log has legal less =
+    reads_on c d s log (fresh_disk c) zero_sector (length-replicate c zero_sector) (writes_fit disks c d log has legal) (slice_get-replicate c s zero_sector less)
 
-and_last : (a b e : Bool) → (a && b && e) ≡ true → e ≡ true
-and_last true true e h = h
-and_last true false e h = absurd (cc)
-and_last false b e h = absurd (cc)
+and_parts : (a b e : Bool) → (a && b && e) ≡ true → (a ≡ true) × (e ≡ true)
+and_parts true true e h = (refl, h)
+and_parts true false e h = absurd (cc)
+and_parts false b e h = absurd (cc)
 
-pub read_is : (capacities : List ℕ) (d first count : ℕ) (log : List Entry) → Legal capacities log → is_within capacities d first count ≡ true
+pub read_is : (capacities : List ℕ) (d first count : ℕ) (log : List Entry) → Legal (all_of capacities) log → is_within capacities d first count ≡ true
     → map (λ i. sector_at d (first + i) log) (range_with_len 0 count) ≡ slice_range (contents (capacity_of capacities d) d log) first (first + count)
 read_is capacities d first count log legal within =
     let c : ℕ = capacity_of capacities d in
     let disk : List Sector = contents c d log in
-    let long : length disk ≡ c = length-contents capacities d log legal in
-    let fits : first + count ≤ c = leb-true (first + count) c (and_last (is_known capacities d) (leb 1 count) (leb (first + count) c) within) in
+    let parts = and_parts (is_known capacities d) (leb 1 count) (leb (first + count) c) within in
+    let has : HasDisk (all_of capacities) d c = (ltb-true d (length capacities) parts.0, refl) in
+    let long : length disk ≡ c = length-contents (all_of capacities) c d log legal has in
+    let fits : first + count ≤ c = leb-true (first + count) c parts.1 in
     let n : length (slice_range disk first (first + count)) ≡ count = omega (arith, length-take (first + count - first) (drop first disk), length-drop first disk) in
     sym (fill_by_all (λ i. sector_at d (first + i) log) (slice_range disk first (first + count)) count zero_sector n
     (λ k less.
     let inside : k < first + count - first = omega arith in
     get_or_from_slice_get (slice_range disk first (first + count)) k (sector_at d (first + k) log) zero_sector
-    (slice_get-take (drop first disk) (first + count - first) k inside ∙ slice_get-drop disk first k ∙ sector_at_is capacities d (first + k) log legal (omega arith))))
+    (slice_get-take (drop first disk) (first + count - first) k inside ∙ slice_get-drop disk first k ∙ sector_at_is (all_of capacities) c d (first + k) log has legal (omega arith))))

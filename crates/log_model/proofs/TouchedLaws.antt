@@ -8,20 +8,21 @@ use Rattle.std.proofs.lemmas.List.Sums.{fold-append}
 use Rattle.std.proofs.lemmas.List.Elements.{filter_map-append}
 use Rattle.std.proofs.lemmas.List.Folds.{list_any-append}
 use Rattle.std.proofs.lemmas.Map.Views.{any-filter_same}
-use Rattle.sector_model.specs.Disk.{Write as Replacement, after_write, fold_writes, fresh_disk}
+use Rattle.sector_model.specs.Disk.{Write as Replacement, Fits, after_write, fold_writes, fresh_disk}
 use Rattle.sector_model.specs.Sector.{zero_sector}
 use Rattle.sector_model.specs.Run.{touches, touched_blocks, block_count, in_blocks}
 use Rattle.sector_model.specs.declared.sector.Sector.{Sector}
-use Rattle.log_model.specs.declared.entries.Act.{Act}
-use Rattle.log_model.specs.declared.entries.Act.TheVariants.{Write, Snap, Remove, Reset, Enable, Off, On}
-use Rattle.log_model.specs.declared.entries.Entry.{Entry}
-use Rattle.log_model.specs.Entries.{writes_of, write_to, contents}
-use Rattle.log_model.specs.Legal.{Legal, ActMayStand, capacity_of}
+use Rattle.log_model.specs.declared.entry.Act.{Act}
+use Rattle.log_model.specs.declared.entry.Act.TheVariants.{Write, Snap, Remove, Reset, Enable, Off, On}
+use Rattle.log_model.specs.declared.entry.Entry.{Entry}
+use Rattle.log_model.specs.Entry.{writes_of, write_to, contents}
+use Rattle.log_model.specs.Legal.{Disks, all_of, only, HasDisk, LiesOn, Legal, ActMayStand, capacity_of}
 use Rattle.log_model.specs.Touched.{between}
-use Rattle.log_model.specs.Laws.{TouchedJoins, UntouchedStays}
+use Rattle.log_model.specs.Laws.{TouchedJoins, UntouchedStays, ContentsAreSized}
+use Rattle.sector_model.proofs.Replaced.{untouched, length-after_writes}
+use Rattle.sector_model.proofs.Touched.{in_touched, not_touched, fits-push, fits-back}
 use Rattle.log_model.proofs.Last.{by_last}
 use Rattle.log_model.proofs.LegalLogs.{legal_last, legal_front, prefixes_are_legal}
-use Rattle.log_model.proofs.Replaced.{Fits, untouched, length-after_writes}
 
 pub writes-append : (d : ℕ) (xs ys : List Entry) → writes_of d (xs ++ ys) ≡ writes_of d xs ++ writes_of d ys
 writes-append d xs ys = let found : Entry → Option Replacement = λ e. write_to d e.act in filter_map-append found xs ys
@@ -66,46 +67,50 @@ one_fits_at : (c disk d first : ℕ) (sectors : List Sector) (b : Bool) → eqb 
 one_fits_at c disk d first sectors true same h = (h (eqb-true disk d same), tt)
 one_fits_at c disk d first sectors false same h = tt
 
-one_fits : (capacities : List ℕ) (d : ℕ) (log : List Entry) (who : ℕ) (act : Act) → ActMayStand capacities log who act
-    → AllByRecursion (Fits (capacity_of capacities d)) (writes_of d (record { who = who; act = act } ∷ []))
-one_fits capacities d log who (Write disk first sectors) stands =
-    one_fits_at (capacity_of capacities d) disk d first sectors (eqb disk d) refl (λ same. subst (λ x. first + length sectors ≤ capacity_of capacities x) same stands.within)
-one_fits capacities d log who (Snap id owner) stands = tt
-one_fits capacities d log who (Remove id) stands = tt
-one_fits capacities d log who (Reset disk) stands = tt
-one_fits capacities d log who Enable stands = tt
-one_fits capacities d log who Off stands = tt
-one_fits capacities d log who On stands = tt
+-- what lies on the disks lies within each of them
+within_disk : (disks : Disks) (c d disk first count : ℕ) → HasDisk disks d c → LiesOn disks disk first count → disk ≡ d → first + count ≤ c
+within_disk (all_of capacities) c d disk first count has lies same = subst (λ n. first + count ≤ n) (ap (capacity_of capacities) same ∙ has.1) lies.1
+within_disk (only own size) c d disk first count has lies same = subst (λ n. first + count ≤ n) has.1 (lies (same ∙ sym has.0))
 
-pub writes_fit : (capacities : List ℕ) (d : ℕ) (log : List Entry) → Legal capacities log → AllByRecursion (Fits (capacity_of capacities d)) (writes_of d log)
-writes_fit capacities d =
-    by_last (λ log. Legal capacities log → AllByRecursion (Fits (capacity_of capacities d)) (writes_of d log)) (λ _. tt)
-    (λ log e rest legal. subst (AllByRecursion (Fits (capacity_of capacities d))) (sym (writes-append d log (e ∷ [])))
-    (fits-push (capacity_of capacities d) (writes_of d log) (writes_of d (e ∷ [])) (rest (legal_front capacities log (e ∷ []) legal)) (one_fits capacities d log e.who e.act (legal_last capacities log e legal))))
+one_fits : (disks : Disks) (c d : ℕ) (log : List Entry) (who : ℕ) (act : Act) → HasDisk disks d c → ActMayStand disks log who act
+    → AllByRecursion (Fits c) (writes_of d (record { who = who; act = act } ∷ []))
+one_fits disks c d log who (Write disk first sectors) has stands =
+    one_fits_at c disk d first sectors (eqb disk d) refl (λ same. within_disk disks c d disk first (length sectors) has stands.within same)
+one_fits disks c d log who (Snap id owner) has stands = tt
+one_fits disks c d log who (Remove id) has stands = tt
+one_fits disks c d log who (Reset disk) has stands = tt
+one_fits disks c d log who Enable has stands = tt
+one_fits disks c d log who Off has stands = tt
+one_fits disks c d log who On has stands = tt
 
-pub length-contents : (capacities : List ℕ) (d : ℕ) (log : List Entry) → Legal capacities log → length (contents (capacity_of capacities d) d log) ≡ capacity_of capacities d
-length-contents capacities d log legal =
-    length-after_writes (capacity_of capacities d) (fresh_disk (capacity_of capacities d)) (writes_of d log) (length-replicate (capacity_of capacities d) zero_sector) (writes_fit capacities d log legal)
+pub writes_fit : (disks : Disks) (c d : ℕ) (log : List Entry) → HasDisk disks d c → Legal disks log → AllByRecursion (Fits c) (writes_of d log)
+writes_fit disks c d log has =
+    by_last (λ log. Legal disks log → AllByRecursion (Fits c) (writes_of d log)) (λ _. tt)
+    (λ log e rest legal. subst (AllByRecursion (Fits c)) (sym (writes-append d log (e ∷ [])))
+    (fits-push c (writes_of d log) (writes_of d (e ∷ [])) (rest (legal_front disks log (e ∷ []) legal)) (one_fits disks c d log e.who e.act has (legal_last disks log e legal)))) log
+
+pub length-contents : ContentsAreSized
+length-contents disks c d log legal has =
+    length-after_writes c (fresh_disk c) (writes_of d log) (length-replicate c zero_sector) (writes_fit disks c d log has legal)
 
 -- ---- a sector of no touched block
 
 pub untouched_stays : UntouchedStays
-untouched_stays capacities d i k log sector legal le none =
-    let c : ℕ = capacity_of capacities d in
+untouched_stays disks c d i k log sector legal has le none =
     let early : List Replacement = writes_of d (take i log) in
     let mid : List Replacement = writes_of d (between i k log) in
     let front : take i (take k log) ≡ take i log = take-take i k log le in
     let all : writes_of d (take k log) ≡ early ++ mid =
     ap (writes_of d) (sym (take-append-drop i (take k log)) ∙ ap (λ (xs : List Entry). xs ++ between i k log) front) ∙ writes-append d (take i log) (between i k log) in
     let later : contents c d (take k log) ≡ fold after_write (contents c d (take i log)) mid = ap (fold_writes c) all ∙ fold-append after_write (fresh_disk c) early mid in
-    let legal_i : Legal capacities (take i log) = prefixes_are_legal capacities log i legal in
-    let legal_k : Legal capacities (take k log) = prefixes_are_legal capacities log k legal in
+    let legal_i : Legal disks (take i log) = prefixes_are_legal disks log i legal in
+    let legal_k : Legal disks (take k log) = prefixes_are_legal disks log k legal in
     elim (cases_lt sector c) [
       | inl inside ↦
           ap (λ (disk : List Sector). slice_get disk sector) later
-          ∙ untouched c (contents c d (take i log)) mid sector (length-contents capacities d (take i log) legal_i)
-          (fits-back c early mid (subst (AllByRecursion (Fits c)) all (writes_fit capacities d (take k log) legal_k))) (not_touched c sector mid inside none)
+          ∙ untouched c (contents c d (take i log)) mid sector (length-contents disks c d (take i log) legal_i has)
+          (fits-back c early mid (subst (AllByRecursion (Fits c)) all (writes_fit disks c d (take k log) has legal_k))) (not_touched c sector mid inside none)
       | inr past ↦
-          slice_get_past (contents c d (take k log)) sector (omega (arith, past, length-contents capacities d (take k log) legal_k))
-          ∙ sym (slice_get_past (contents c d (take i log)) sector (omega (arith, past, length-contents capacities d (take i log) legal_i)))
+          slice_get_past (contents c d (take k log)) sector (omega (arith, past, length-contents disks c d (take k log) legal_k has))
+          ∙ sym (slice_get_past (contents c d (take i log)) sector (omega (arith, past, length-contents disks c d (take i log) legal_i has)))
     ]

@@ -1,11 +1,11 @@
-pub mod Entries
+pub mod Entry
 pub mod Legal
 pub mod Marks
 pub mod Frozen
 pub mod Touched
-pub mod Answers
-pub mod Laws
+pub mod Query
 pub mod Refusals
 pub mod Link
-pub mod Plain
+pub mod PlainMachine
 pub mod SmallLog
+pub mod Laws

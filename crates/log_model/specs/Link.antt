@@ -1,16 +1,18 @@
--- What a call by which a caller reaches a machine leaves, and what it answers.
-use Rattle.std.specs.Prelude.{◌≡◌, ℕ, ◌+◌, ◌-◌, ◌<◌, ◌≤◌, ◌==◌, List, [], ◌∷◌, ◌++◌, length, take, drop, Bool, true, false, Option, Some, None, Result, Ok, Err, IsOk, IfErr}
+-- What a call by which a caller reaches a machine leaves, and what it answers. A machine may have
+-- other callers too: each call sees the log at one moment, which begins with what this caller had
+-- seen, and what is new in it is of others. All that a caller knows of a machine is plain data, so
+-- that a history which several callers share can carry it.
+use Rattle.std.specs.Prelude.{◌≡◌, ℕ, ◌+◌, ◌-◌, ◌<◌, ◌≤◌, ◌==◌, List, [], ◌∷◌, ◌++◌, length, take, drop, Bool, true, false, Option, Some, None, Result, Ok, Err}
 use Rattle.std.specs.List.{filter}
-use Rattle.log_model.specs.declared.entries.Owner.{Owner}
-use Rattle.log_model.specs.declared.entries.Act.{Act}
-use Rattle.log_model.specs.declared.entries.Entry.{Entry}
+use Rattle.log_model.specs.declared.entry.Owner.{Owner}
+use Rattle.log_model.specs.declared.entry.Act.{Act}
+use Rattle.log_model.specs.declared.entry.Entry.{Entry}
 use Rattle.log_model.specs.declared.folds.Tracking.{Tracking}
 use Rattle.log_model.specs.declared.folds.Tracking.TheVariants.{Never, Enabled, Active}
-use Rattle.log_model.specs.declared.link.LinkRefused.{LinkRefused}
-use Rattle.log_model.specs.declared.link.LinkRefused.TheVariants.{NoMemory}
+use Rattle.log_model.specs.declared.refusals.LinkRefused.{LinkRefused}
 use Rattle.log_model.specs.declared.link.Snapped.{Snapped}
 use Rattle.log_model.specs.declared.link.Facts.{Facts}
-use Rattle.log_model.specs.Legal.{Legal, machine_on, taken, owner_of, is_enabled}
+use Rattle.log_model.specs.Legal.{Legal, all_of, machine_on, taken, owner_of, is_enabled}
 use Rattle.log_model.specs.Marks.{tracking}
 use Rattle.log_model.specs.Frozen.{last_off}
 
@@ -18,63 +20,75 @@ use Rattle.log_model.specs.Frozen.{last_off}
 abbrev pub TurnName : Type 0
 TurnName = List ℕ
 
--- a machine as one caller reaches it: its number, the capacities of its disks, the caller's number, the turn that the
--- link stands over where it has one, the log as this caller has last seen it, and the caller's own entries
+-- a machine as one caller reaches it: its number, the capacities of its disks, the caller's number,
+-- the turn that the link stands over where it has one, whether nobody else reaches the machine, the
+-- log as this caller has last seen it, and the caller's own entries
 pub record LinkState : Type 0 where
   pub machine : ℕ
   pub capacities : List ℕ
   pub caller : ℕ
   pub turn : Option TurnName
+  pub unshared : Bool
   pub seen : List Entry
   pub own : List Entry
 
 -- the entry is under this number
-abbrev pub is_by : ℕ → Entry → Bool
+abbrev pub is_by : (who : ℕ) → Entry → Bool
 is_by who e = e.who == who
 
--- a call that sees `log` at its moment, and adds these entries to it, leaves the rest as it was
-pub record Leaves (log added : List Entry) (before after : LinkState) : Type 0 where
+-- a call that sees `log` at its moment, and adds these entries to it
+pub record IsCall (log added : List Entry) (old new : LinkState) : Type 0 where
   -- only the log as last seen and the caller's own entries change
-  pub after_is : after ≡ record before { seen = log ++ added; own = before.own ++ added }
+  pub new_is : new ≡ record old { seen = log ++ added; own = old.own ++ added }
   -- the log begins with what the caller had seen
-  pub goes_on : take (length before.seen) log ≡ before.seen
+  pub goes_on : take (length old.seen) log ≡ old.seen
   -- what else is new is of others
-  pub others : filter (is_by before.caller) (drop (length before.seen) log) ≡ []
-  pub legal : Legal before.capacities (log ++ added)
+  pub others : filter (is_by old.caller) (drop (length old.seen) log) ≡ []
+  -- and where nobody else reaches the machine, nothing is
+  pub alone : old.unshared ≡ true → log ≡ old.seen
+  pub legal : Legal (all_of old.capacities) (log ++ added)
 
 -- the call adds no entry
-abbrev pub Looks : LinkState → LinkState → Type 0
-Looks before after = Leaves after.seen [] before after
+abbrev pub OnlyReads : (old new : LinkState) → Type 0
+OnlyReads old new = IsCall new.seen [] old new
 
 -- the log at the moment of a call that adds one entry exactly where it is accepted
-abbrev pub log_at : {T : Type 0} → Result T LinkRefused → LinkState → List Entry
-log_at (Ok answer) after = take (length after.seen - 1) after.seen
-log_at (Err refusal) after = after.seen
+abbrev pub log_met : {T : Type 0} → Result T LinkRefused → (new : LinkState) → List Entry
+log_met (Ok answer) new = take (length new.seen - 1) new.seen
+log_met (Err refusal) new = new.seen
 
 abbrev pub entry_if_ok : {T : Type 0} → Result T LinkRefused → Entry → List Entry
 entry_if_ok (Ok answer) e = e ∷ []
 entry_if_ok (Err refusal) e = []
 
 -- the call adds this act under the caller's number where it is accepted, and else no entry
-abbrev pub Adds : {T : Type 0} → Result T LinkRefused → Act → LinkState → LinkState → Type 0
-Adds result act before after = Leaves (log_at result after) (entry_if_ok result (record { who = before.caller; act = act })) before after
+abbrev pub AddsAct : {T : Type 0} → Result T LinkRefused → Act → (old new : LinkState) → Type 0
+AddsAct result act old new =
+    IsCall (log_met result new) (entry_if_ok result (record { who = old.caller; act = act }))
+    old new
 
--- the call answers the refusal that stands, and is accepted where none does
-abbrev pub IsRefusedBy : {T : Type 0} → Option LinkRefused → Result T LinkRefused → Type 0
-IsRefusedBy None result = IsOk result
-IsRefusedBy (Some refusal) result = result ≡ Err refusal
+-- what calls in a row leave, however many: the same machine for the same caller, and a longer log,
+-- in which what is new under the caller's number is what its own entries gained
+pub record FollowsFrom (old new : LinkState) : Type 0 where
+  pub machine : new.machine ≡ old.machine
+  pub capacities : new.capacities ≡ old.capacities
+  pub caller : new.caller ≡ old.caller
+  pub turn : new.turn ≡ old.turn
+  pub unshared : new.unshared ≡ old.unshared
+  pub seen : take (length old.seen) new.seen ≡ old.seen
+  pub own : new.own
+      ≡ old.own ++ filter (is_by old.caller) (drop (length old.seen) new.seen)
+  -- where nobody else reaches the machine, all that is new is the caller's
+  pub alone : old.unshared ≡ true
+      → filter (is_by old.caller) (drop (length old.seen) new.seen)
+      ≡ drop (length old.seen) new.seen
+  pub legal : Legal (all_of old.capacities) old.seen → Legal (all_of old.capacities) new.seen
 
--- the same, but that want of memory, which `free` tells, may come where no refusal stands
-abbrev pub IsRefusedOr : {T E : Type 0} → Option E → E → Result T E → Type 0
-IsRefusedOr None free result = IfErr result (λ refusal. refusal ≡ free)
-IsRefusedOr (Some refusal) free result = result ≡ Err refusal
-
-abbrev pub IsRefusedByOrNoMemory : {T : Type 0} → Option LinkRefused → Result T LinkRefused → Type 0
-IsRefusedByOrNoMemory refusal result = IsRefusedOr refusal NoMemory result
-
--- what taking a snapshot after the log tells: its id, its mark, and the place where the machine went off, if it is off
+-- what taking a snapshot after the log tells: its id, its mark, and the place where the machine
+-- went off, if it is off
 abbrev pub snapped_after : List Entry → Snapped
-snapped_after log = record { id = taken log + 1; mark = length log; off_place = last_off log }
+snapped_after log =
+    record { id = taken log + 1; mark = length log; off_place = last_off log }
 
 abbrev pub is_active : Tracking → Bool
 is_active Never = false
@@ -82,13 +96,21 @@ is_active Enabled = false
 is_active Active = true
 
 abbrev pub facts_of : List Entry → Facts
-facts_of log = record { on = machine_on log; entries = length log; enabled = is_enabled log; tracking = is_active (tracking log); snaps = taken log }
+facts_of log = record {
+  on = machine_on log;
+  entries = length log;
+  enabled = is_enabled log;
+  tracking = is_active (tracking log);
+  snaps = taken log;
+}
 
 -- the snapshot is live, and this owner's
-abbrev pub Owns : Owner → ℕ → List Entry → Type 0
-Owns owner s log = owner_of s log ≡ Some owner
+abbrev pub Owns : Owner → (snapshot : ℕ) → List Entry → Type 0
+Owns owner snapshot log = owner_of snapshot log ≡ Some owner
 
 -- the least live snapshot of the owner from `from` on, or none where there is none
-abbrev pub IsLeastOwned : Owner → ℕ → List Entry → Option ℕ → Type 0
-IsLeastOwned owner from log (Some s) = Owns owner s log × (from ≤ s) × ((earlier : ℕ) → from ≤ earlier → earlier < s → ¬ (Owns owner earlier log))
+abbrev pub IsLeastOwned : Owner → (from : ℕ) → List Entry → Option ℕ → Type 0
+IsLeastOwned owner from log (Some s) =
+    Owns owner s log × (from ≤ s)
+    × ((earlier : ℕ) → from ≤ earlier → earlier < s → ¬ (Owns owner earlier log))
 IsLeastOwned owner from log None = (s : ℕ) → from ≤ s → ¬ (Owns owner s log)

@@ -1,31 +1,28 @@
 //! What each call adds to a log, and why it is refused.
 ghost use Rattle.std.specs.Prelude.{◌≡◌, ◌+◌, ◌≤◌, IfOk, length};
-ghost use Rattle.log_model.specs.Legal.{taken, written, most_entries, most_written};
-ghost use Rattle.log_model.specs.Link.{IsRefusedByOrNoMemory, IsRefusedOr, snapped_after};
+ghost use Rattle.log_model.specs.Legal.{taken, written};
+ghost use Rattle.basics.specs.Refusal.{IsRefusedOr};
+ghost use Rattle.log_model.specs.Link.{snapped_after};
 ghost use Rattle.log_model.specs.Refusals.{spent_refusal, snap_refusal, may_remove, remove_refusal, power_off_refusal, power_on_refusal, reset_refusal, enable_refusal, write_refusal};
-ghost use Rattle.log_model.specs.Plain.{Appends};
+ghost use Rattle.log_model.specs.PlainMachine.{Appends};
 
-use crate::answers::is_within;
 use crate::folds::{is_enabled, last_off, machine_on, owner_of, taken, written};
-use crate::{Act, Entry, LinkRefused, Owner, Snapped, WriteRefused};
+use crate::query::is_within;
+use crate::{
+    Act, Entry, LinkRefused, MAX_LOG_ENTRIES, MAX_LOGGED_SECTORS, MAX_WRITE_SECTORS,
+    MIGRATION_CALLER, Owner, Snapped, WriteRefused,
+};
 use sector_model::{Sector, SectorList};
 use std::alloc::Global;
 
-/// The most entries that a log holds.
-pub const MOST_ENTRIES: usize = 1 << 18;
-
-/// The most sectors of one write.
-pub const MOST_SECTORS: u64 = 128;
-
-/// The most sectors that all writes of a log have together.
-pub const MOST_WRITTEN: u64 = 1 << 16;
-
 /// Adds an entry, unless the log is full.
 fn append(log: &mut Vec<Entry>, who: u32, act: Act) -> Result<(), LinkRefused>
-    ensures entries { Appends result (record { who = who; act = act }) log.old.items log.new.items }
-    ensures refused { IsRefusedByOrNoMemory (spent_refusal log.old.items) result }
+    ensures entries { Appends result
+        (record { who = who; act = act })
+        log.old.items log.new.items }
+    ensures refused { IsRefusedOr (spent_refusal log.old.items) LinkRefused.NoMemory result }
 {
-    if log.len() >= MOST_ENTRIES {
+    if log.len() >= MAX_LOG_ENTRIES {
         return Err(LinkRefused::Spent);
     }
     match log.push(Entry { who, act }) {
@@ -41,10 +38,13 @@ pub fn snap(
     owner: Owner,
     must_be_off: bool,
 ) -> Result<Snapped, LinkRefused>
-    requires { length log.old.items ≤ most_entries }
-    ensures entries { Appends result (record { who = who; act = Act.Snap (taken log.old.items + 1) owner }) log.old.items log.new.items }
-    ensures refused { IsRefusedByOrNoMemory (snap_refusal must_be_off log.old.items) result }
-    ensures answer { IfOk result (λ snapped. snapped ≡ snapped_after log.old.items) }
+    requires { length log.old.items ≤ MAX_LOG_ENTRIES }
+    ensures entries { Appends result
+        (record { who = who; act = Act.Snap (taken log.old.items + 1) owner })
+        log.old.items log.new.items }
+    ensures refused { IsRefusedOr
+        (snap_refusal must_be_off log.old.items) LinkRefused.NoMemory result }
+    ensures snapped { IfOk result (λ snapped. snapped ≡ snapped_after log.old.items) }
 {
     if must_be_off && machine_on(log) {
         return Err(LinkRefused::Running);
@@ -65,15 +65,20 @@ fn may_remove(caller: u32, owner: Owner, has: Owner) -> bool
 {
     match (owner, has) {
         (Owner::Operator, Owner::Operator) => true,
-        (Owner::Migration(number), Owner::Migration(other)) => number == other && caller == 1,
+        (Owner::Migration(number), Owner::Migration(other)) => {
+            number == other && caller == MIGRATION_CALLER
+        }
         _ => false,
     }
 }
 
 /// Removes a live snapshot.
 pub fn remove(log: &mut Vec<Entry>, who: u32, owner: Owner, id: u32) -> Result<(), LinkRefused>
-    ensures entries { Appends result (record { who = who; act = Act.Remove id }) log.old.items log.new.items }
-    ensures refused { IsRefusedByOrNoMemory (remove_refusal who owner id log.old.items) result }
+    ensures entries { Appends result
+        (record { who = who; act = Act.Remove id })
+        log.old.items log.new.items }
+    ensures refused { IsRefusedOr
+        (remove_refusal who owner id log.old.items) LinkRefused.NoMemory result }
 {
     match owner_of(log, id) {
         None => Err(LinkRefused::UnknownSnap),
@@ -84,9 +89,11 @@ pub fn remove(log: &mut Vec<Entry>, who: u32, owner: Owner, id: u32) -> Result<(
 
 /// Powers the machine off.
 pub fn power_off(log: &mut Vec<Entry>, who: u32) -> Result<u64, LinkRefused>
-    ensures entries { Appends result (record { who = who; act = Act.Off }) log.old.items log.new.items }
-    ensures refused { IsRefusedByOrNoMemory (power_off_refusal log.old.items) result }
-    ensures answer { IfOk result (λ place. place ≡ length log.old.items) }
+    ensures entries { Appends result
+        (record { who = who; act = Act.Off })
+        log.old.items log.new.items }
+    ensures refused { IsRefusedOr (power_off_refusal log.old.items) LinkRefused.NoMemory result }
+    ensures place { IfOk result (λ place. place ≡ length log.old.items) }
 {
     if !machine_on(log) {
         return Err(LinkRefused::AlreadyOff);
@@ -98,9 +105,11 @@ pub fn power_off(log: &mut Vec<Entry>, who: u32) -> Result<u64, LinkRefused>
 
 /// Powers the machine on.
 pub fn power_on(log: &mut Vec<Entry>, who: u32) -> Result<u64, LinkRefused>
-    ensures entries { Appends result (record { who = who; act = Act.On }) log.old.items log.new.items }
-    ensures refused { IsRefusedByOrNoMemory (power_on_refusal log.old.items) result }
-    ensures answer { IfOk result (λ place. place ≡ length log.old.items) }
+    ensures entries { Appends result
+        (record { who = who; act = Act.On })
+        log.old.items log.new.items }
+    ensures refused { IsRefusedOr (power_on_refusal log.old.items) LinkRefused.NoMemory result }
+    ensures place { IfOk result (λ place. place ≡ length log.old.items) }
 {
     if machine_on(log) {
         return Err(LinkRefused::AlreadyOn);
@@ -117,8 +126,11 @@ pub fn reset(
     capacities: &[u64],
     disk: u32,
 ) -> Result<(), LinkRefused>
-    ensures entries { Appends result (record { who = who; act = Act.Reset disk }) log.old.items log.new.items }
-    ensures refused { IsRefusedByOrNoMemory (reset_refusal capacities.now disk log.old.items) result }
+    ensures entries { Appends result
+        (record { who = who; act = Act.Reset disk })
+        log.old.items log.new.items }
+    ensures refused { IsRefusedOr
+        (reset_refusal capacities.now disk log.old.items) LinkRefused.NoMemory result }
 {
     if disk as usize >= capacities.len() {
         return Err(LinkRefused::Range);
@@ -128,8 +140,10 @@ pub fn reset(
 
 /// Enables change tracking.
 pub fn enable(log: &mut Vec<Entry>, who: u32) -> Result<(), LinkRefused>
-    ensures entries { Appends result (record { who = who; act = Act.Enable }) log.old.items log.new.items }
-    ensures refused { IsRefusedByOrNoMemory (enable_refusal log.old.items) result }
+    ensures entries { Appends result
+        (record { who = who; act = Act.Enable })
+        log.old.items log.new.items }
+    ensures refused { IsRefusedOr (enable_refusal log.old.items) LinkRefused.NoMemory result }
 {
     if is_enabled(log) {
         return Err(LinkRefused::AlreadyEnabled);
@@ -147,18 +161,22 @@ pub fn write(
     first: u64,
     sectors: &[Sector],
 ) -> Result<(), WriteRefused>
-    requires { written log.old.items ≤ most_written }
-    ensures entries { Appends result (record { who = who; act = Act.Write disk first sectors.now }) log.old.items log.new.items }
-    ensures refused { IsRefusedOr (write_refusal capacities.now disk first (length sectors.now) log.old.items) WriteRefused.NoMemory result }
+    requires { written log.old.items ≤ MAX_LOGGED_SECTORS }
+    ensures entries { Appends result
+        (record { who = who; act = Act.Write disk first sectors.now })
+        log.old.items log.new.items }
+    ensures refused { IsRefusedOr
+        (write_refusal capacities.now disk first (length sectors.now) log.old.items)
+        WriteRefused.NoMemory result }
 {
     let count = sectors.len() as u64;
     if !machine_on(log) {
         return Err(WriteRefused::Off);
     }
-    if !is_within(capacities, disk, first, count) || count > MOST_SECTORS {
+    if !is_within(capacities, disk, first, count) || count > MAX_WRITE_SECTORS {
         return Err(WriteRefused::Range);
     }
-    if written(log) + count > MOST_WRITTEN || log.len() >= MOST_ENTRIES {
+    if written(log) + count > MAX_LOGGED_SECTORS || log.len() >= MAX_LOG_ENTRIES {
         return Err(WriteRefused::LogFull);
     }
     let Ok(sectors) = SectorList::of(alloc, sectors) else {

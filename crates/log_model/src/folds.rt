@@ -1,12 +1,12 @@
 //! What the entries of a log mean, each fact by one pass over them.
 ghost use Rattle.std.specs.Prelude.{◌≡◌, ◌≢◌, ◌<◌, ◌≤◌, ◌^◌, ℕ, Some, length, position, MatchOption, IsTrue, ◌↔◌};
-ghost use Rattle.log_model.specs.Entries.{takes};
-ghost use Rattle.log_model.specs.Legal.{machine_on, taken, owner_of, owner_after, is_enabled, written, most_entries};
+ghost use Rattle.log_model.specs.Entry.{takes};
+ghost use Rattle.log_model.specs.Legal.{machine_on, taken, owner_of, owner_after, is_enabled, written};
 ghost use Rattle.log_model.specs.Marks.{mark, epoch, counted, counted_after, number, tracking, tracking_after};
 ghost use Rattle.log_model.specs.Frozen.{last_off};
 ghost use Rattle.log_model.specs.Link.{facts_of, Owns, IsLeastOwned};
 
-use crate::{Act, Entry, Facts, Owner};
+use crate::{Act, Entry, Facts, MAX_LOG_ENTRIES, Owner};
 
 /// How far change tracking of a machine has come.
 #[derive(Clone, Copy, Debug, PartialEq, Eq)]
@@ -100,7 +100,8 @@ pub fn epoch(log: &[Entry], disk: u32) -> u64
     log.iter().filter(|entry| entry.act.resets(disk)).count() as u64
 }
 
-/// The disk's sequence number: how many snapshots were taken since tracking was enabled and last reset.
+/// The disk's sequence number: how many snapshots were taken since tracking was enabled and last
+/// reset.
 pub fn number(log: &[Entry], disk: u32) -> u64
     ensures { result ≡ number disk log.now }
 {
@@ -152,7 +153,7 @@ pub fn last_off(log: &[Entry]) -> Option<usize>
 
 /// What a machine is like after the log.
 pub fn facts_of(log: &[Entry]) -> Facts
-    requires { length log.now ≤ most_entries }
+    requires { length log.now ≤ MAX_LOG_ENTRIES }
     ensures { result ≡ facts_of log.now }
 {
     Facts {
@@ -166,8 +167,10 @@ pub fn facts_of(log: &[Entry]) -> Facts
 
 /// The least live snapshot of the owner from `from` on, up to the last that was taken.
 pub fn least_owned(log: &[Entry], owner: Owner, from: u32) -> Option<u32>
-    requires { length log.now ≤ most_entries }
-    ensures { MatchOption result ((s : ℕ) → from ≤ s → s ≤ taken log.now → owner_of s log.now ≢ Some owner) (λ s. IsLeastOwned owner from log.now (Some s)) }
+    requires { length log.now ≤ MAX_LOG_ENTRIES }
+    ensures { MatchOption result
+        ((s : ℕ) → from ≤ s → s ≤ taken log.now → owner_of s log.now ≢ Some owner)
+        (λ s. IsLeastOwned owner from log.now (Some s)) }
 {
     for snapshot in from..taken(log) as u32 + 1 {
         if is_owned(log, owner, snapshot) {

@@ -1,23 +1,34 @@
-//! A machine as the list of what happened to it: its entries, what they mean for its disks, snapshots and
-//! change identifiers, and the calls by which one caller reaches it.
+//! A machine as the list of what happened to it: its entries, what they mean for its disks,
+//! snapshots and change identifiers, and the calls by which one caller reaches it.
 #![tactic(auto)]
 
-mod answers;
 mod calls;
-mod entries;
+mod entry;
 mod folds;
 mod laws;
 mod link;
-mod plain;
+mod plain_machine;
+mod query;
+mod refusals;
 #[cfg(test)]
 mod tests;
 
-pub use calls::{MOST_ENTRIES, MOST_SECTORS, MOST_WRITTEN};
-pub use entries::{Act, Entry, EntryList, Owner};
-pub use folds::Tracking;
-pub use laws::{
-    accepted_may_stand, answer_pages_join, later_entries_keep, legal_logs, numbers_have_no_gap,
-    off_is_frozen, touched_blocks_join,
+pub use entry::{
+    Act, Entry, EntryList, MAX_LOG_ENTRIES, MAX_LOGGED_SECTORS, MAX_WRITE_SECTORS,
+    MIGRATION_CALLER, Owner,
 };
-pub use link::{Facts, Link, LinkRefused, Snapped, WriteRefused};
-pub use plain::PlainMachine;
+pub use folds::{
+    Tracking, epoch, facts_of, is_enabled, last_off, machine_on, mark, number, owner_of, taken,
+    tracking_of, written,
+};
+pub use laws::{
+    accepted_may_stand, answer_pages_join, answers_stay, calls_follow, ids_answer_between,
+    ids_exist, later_entries_keep, legal_logs, marks_of_ids, migrations_keep_theirs,
+    numbers_have_no_gap, off_is_frozen, snapshots_have_their_marks, touched_blocks_join,
+};
+pub use link::{Facts, Link, Snapped};
+pub use plain_machine::PlainMachine;
+pub use query::{
+    accepts, before, between, fill_page, in_force, read_into, sector_at, since_place, through,
+};
+pub use refusals::{LinkRefused, WriteRefused};

@@ -1,5 +1,5 @@
 use Rattle.std.proofs.Common.{◌∙◌, length, ap, unwrap_or}
-use Rattle.log_model.specs.Entries.{takes}
+use Rattle.log_model.specs.Entry.{takes}
 use Rattle.log_model.proofs.FoldLemmas.{position_or_len-from_position}
 use Rattle.log_model.proofs.folds.mark.Goals as goal
 
