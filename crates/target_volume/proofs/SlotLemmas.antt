@@ -1,5 +1,5 @@
 -- Slots of a store in memory: they stay kept, and what a step in them is as a step of the store.
-use Rattle.std.proofs.Common.{◌≡◌, ℕ, ◌≤◌, Bool, true, false, cond, List, [], ◌∷◌, length, map, Option, Some, None, option_map, option_and_then, ◌==◌, IsTrue, Ordering, Less, Equal, Greater, ap, sym, ◌∙◌, refl, subst, arith}
+use Rattle.std.proofs.Common.{◌≡◌, ℕ, ◌-◌, ◌≤◌, Bool, true, false, ◌&&◌, cond, List, [], ◌∷◌, length, map, Option, Some, None, option_map, option_and_then, ◌==◌, IsTrue, Ordering, Less, Equal, Greater, ap, sym, ◌∙◌, refl, subst, arith}
 use Rattle.std.proofs.lemmas.Bool.{false≢true, true≢false}
 use Rattle.std.proofs.lemmas.List.{length-replicate}
 use Rattle.std.specs.Prelude.{IsSome, IsSomeAnd, is_some}
@@ -12,9 +12,10 @@ use Rattle.std.specs.Ordering.{match_ordering}
 use Rattle.basics.specs.Calls.{CallLog, never_fails, after_call}
 use Rattle.basics.specs.Faults.{counted_by}
 use Rattle.target_volume.specs.MemVolume.{HeldState, MemVolumeState, held_state, volume_state}
-use Rattle.target_volume.specs.MemVolumes.{SlotState, Home, Lent, MemVolumesState, slot_state, stored_of, loan_in, named_loan, IsKept, AreKept, IsWhole, volume_calls, store_state, next_volume, after_opening, IsHome}
+use Rattle.target_volume.specs.MemVolumes.{SlotState, Home, Lent, MemVolumesState, slot_state, stored_of, loan_in, named_loan, IsKept, AreKept, IsWhole, volume_calls, store_state, next_volume, after_opening, after_keeping, IsHome, IsHomeWith, IsLent, IsLentWith}
 use Rattle.target_volume.specs.VolumeName.{volume_cmp, volumes_total, find_volume, with_volume, without_volume, AreAscending}
-use Rattle.target_volume.specs.VolumeStore.{StoredVolume, Loan, Lends, IsThere, lent_out, after_lending}
+use Rattle.target_volume.specs.VolumeStore.{StoredVolume, Loan, Lends, IsThere, lent_out, after_lending, after_taking_back}
+use Rattle.target_volume.specs.declared.mem_volume.Held.{Held}
 use Rattle.target_volume.specs.declared.mem_volumes.Slot.{Slot}
 use Rattle.target_volume.specs.declared.mem_volumes.Slot.TheVariants.{Home as SlotHome, Lent as SlotLent}
 use Rattle.target_volume.specs.declared.volume_name.VolumeName.{VolumeName}
@@ -177,19 +178,19 @@ remade inside now n l name slot same count put = cc
 
 pub told_at : (name : VolumeName) (es : List (VolumeName × Slot))
     → find_volume name (told_of (slots_of es))
-        ≡ option_map stored_of (option_map slot_state (lookup (is_at (volume_cmp name)) es))
+    ≡ option_map stored_of (option_map slot_state (lookup (is_at (volume_cmp name)) es))
 told_at name es = told_found name (slots_of es) ∙ ap (option_map stored_of) (slots_found name es)
 
 capacity_in : (found : Option Slot)
     → option_map (λ slot. (stored_of (slot_state slot)).capacity) found
-        ≡ option_map (λ v. v.capacity) (option_map stored_of (option_map slot_state found))
+    ≡ option_map (λ v. v.capacity) (option_map stored_of (option_map slot_state found))
 capacity_in None = refl
 capacity_in (Some slot) = refl
 
 pub capacity_at : (name : VolumeName) (es : List (VolumeName × Slot)) (found : Option Slot)
     → found ≡ lookup (is_at (volume_cmp name)) es
     → option_map (λ slot. (stored_of (slot_state slot)).capacity) found
-        ≡ option_map (λ v. v.capacity) (find_volume name (told_of (slots_of es)))
+    ≡ option_map (λ v. v.capacity) (find_volume name (told_of (slots_of es)))
 capacity_at name es found is =
     capacity_in found
     ∙ ap (λ o. option_map (λ (v : StoredVolume). v.capacity) (option_map stored_of (option_map slot_state o))) is
@@ -202,7 +203,7 @@ told_some (Some slot) = refl
 
 pub told_is_some : (name : VolumeName) (es : List (VolumeName × Slot))
     → is_some (find_volume name (told_of (slots_of es)))
-        ≡ is_some (lookup (is_at (volume_cmp name)) es)
+    ≡ is_some (lookup (is_at (volume_cmp name)) es)
 told_is_some name es =
     ap is_some (told_at name es) ∙ told_some (lookup (is_at (volume_cmp name)) es)
 
@@ -227,10 +228,10 @@ slot_missing name es none =
 pub lending : (s : MemVolumesState) (calls : CallLog) (created : ℕ) (name : VolumeName)
     (loan : Loan) → AreAscending s.slots → calls.faults ≡ s.calls.faults
     → store_state (record s {
-        calls = calls;
-        created = created;
-        slots = with_volume name (Lent loan) s.slots;
-      }) ≡ after_lending name loan.capacity loan.faults (store_state s)
+      calls = calls;
+      created = created;
+      slots = with_volume name (Lent loan) s.slots;
+    }) ≡ after_lending name loan.capacity loan.faults (store_state s)
 lending s calls created name loan ordered same =
     let volumes = told_put name (Lent loan) s.slots in
     let loans = loans_put name loan s.slots ordered in
@@ -243,23 +244,23 @@ pub lends_created : (s now after : MemVolumesState) (calls : CallLog) (name : Vo
     → calls ≡ after_call s.calls true
     → vol ≡ next_volume name capacity (record s { calls = calls })
     → after ≡ record s {
-        calls = calls;
-        created = counted_by 1 s.created;
-        slots = with_volume name (Lent (record { capacity = capacity; faults = 0 })) s.slots;
-      }
+      calls = calls;
+      created = counted_by 1 s.created;
+      slots = with_volume name (Lent (record { capacity = capacity; faults = 0 })) s.slots;
+    }
     → Lends name capacity (volume_state vol) (store_state now) (store_state after)
 lends_created s now after calls name capacity vol same ordered none given called made left =
     subst (λ (v : MemVolumeState). Lends name capacity (volume_state v) (store_state now)
-      (store_state after)) (sym made)
+    (store_state after)) (sym made)
     (subst (λ (t : MemVolumesState). Lends name capacity
-      (volume_state (next_volume name capacity (record s { calls = calls })))
-      (store_state t) (store_state after)) same
+    (volume_state (next_volume name capacity (record s { calls = calls })))
+    (store_state t) (store_state after)) same
     (record {
       named = refl;
       sized = length-replicate capacity (filled s.junk);
       free = loans_found name s.slots ordered ∙ ap (option_and_then loan_in) none;
       lent = ap store_state left
-        ∙ lending s calls (counted_by 1 s.created) name (record { capacity = capacity; faults = 0 })
+          ∙ lending s calls (counted_by 1 s.created) name (record { capacity = capacity; faults = 0 })
           ordered (ap (λ (l : CallLog). l.faults) called);
       counted = omega arith;
       sound = λ t. none_given (counted_by 1 s.created) s.failing (given t);
@@ -274,24 +275,24 @@ pub lends_opened : (s now : MemVolumesState) (calls : CallLog)
     → (IsTrue s.sound → IsTrue (never_fails h.calls)) → calls ≡ after_call s.calls true
     → slots ≡ with_volume name (Lent (record { capacity = capacity; faults = faults })) s.slots
     → Lends name capacity (volume_state (record { name = called_name; held = h }))
-        (store_state now) (store_state (record s { calls = calls; slots = slots }))
+    (store_state now) (store_state (record s { calls = calls; slots = slots }))
 lends_opened s now calls slots called_name name capacity faults h same named ordered found sized
     counted inside sound called put =
     let loan : Loan = record { capacity = capacity; faults = faults } in
     let after : store_state (record s { calls = calls; slots = slots })
-        ≡ after_lending name capacity faults (store_state s) =
-        ap (λ (l : List (VolumeName × SlotState)). store_state (record s { calls = calls; slots = l }))
-          put
-        ∙ lending s calls s.created name loan ordered (ap (λ (l : CallLog). l.faults) called) in
+    ≡ after_lending name capacity faults (store_state s) =
+    ap (λ (l : List (VolumeName × SlotState)). store_state (record s { calls = calls; slots = l }))
+    put
+    ∙ lending s calls s.created name loan ordered (ap (λ (l : CallLog). l.faults) called) in
     subst (λ (t : MemVolumesState). Lends name capacity
-      (volume_state (record { name = called_name; held = h }))
-      (store_state t) (store_state (record s { calls = calls; slots = slots }))) same
+    (volume_state (record { name = called_name; held = h }))
+    (store_state t) (store_state (record s { calls = calls; slots = slots }))) same
     (record {
       named = ap Some named;
       sized = sized;
       free = loans_found name s.slots ordered ∙ ap (option_and_then loan_in) found;
       lent = after
-        ∙ ap (λ (n : ℕ). after_lending name capacity n (store_state s)) (sym counted);
+          ∙ ap (λ (n : ℕ). after_lending name capacity n (store_state s)) (sym counted);
       counted = inside;
       sound = sound;
     })
@@ -303,34 +304,34 @@ pub opened_state : (s now : MemVolumesState) (calls : CallLog)
     → calls ≡ after_call s.calls true
     → slots ≡ with_volume name (Lent (record { capacity = capacity; faults = faults })) s.slots
     → record s { calls = calls; slots = slots }
-        ≡ after_opening (record { name = called_name; held = h }) now
+    ≡ after_opening (record { name = called_name; held = h }) now
 opened_state s now calls slots called_name name capacity faults h same named sized counted called
     put =
     subst (λ (t : MemVolumesState). record s { calls = calls; slots = slots }
-      ≡ after_opening (record { name = called_name; held = h }) t) same
+    ≡ after_opening (record { name = called_name; held = h }) t) same
     (ap (λ (p : List (VolumeName × SlotState)). record s { calls = calls; slots = p }) put
-      ∙ ap (λ (l : CallLog). record s {
-          calls = l;
-          slots = with_volume name (Lent (record { capacity = capacity; faults = faults })) s.slots;
-        }) called
-      ∙ ap (λ (n : VolumeName). record s {
-          calls = after_call s.calls true;
-          slots = with_volume n (Lent (record { capacity = capacity; faults = faults })) s.slots;
-        }) (sym named)
-      ∙ ap (λ (k : ℕ). record s {
-          calls = after_call s.calls true;
-          slots = with_volume called_name (Lent (record { capacity = k; faults = faults })) s.slots;
-        }) (sym sized)
-      ∙ ap (λ (k : ℕ). record s {
-          calls = after_call s.calls true;
-          slots = with_volume called_name
-              (Lent (record { capacity = length h.contents.sectors; faults = k })) s.slots;
-        }) (sym counted))
+    ∙ ap (λ (l : CallLog). record s {
+      calls = l;
+      slots = with_volume name (Lent (record { capacity = capacity; faults = faults })) s.slots;
+    }) called
+    ∙ ap (λ (n : VolumeName). record s {
+      calls = after_call s.calls true;
+      slots = with_volume n (Lent (record { capacity = capacity; faults = faults })) s.slots;
+    }) (sym named)
+    ∙ ap (λ (k : ℕ). record s {
+      calls = after_call s.calls true;
+      slots = with_volume called_name (Lent (record { capacity = k; faults = faults })) s.slots;
+    }) (sym sized)
+    ∙ ap (λ (k : ℕ). record s {
+      calls = after_call s.calls true;
+      slots = with_volume called_name
+          (Lent (record { capacity = length h.contents.sectors; faults = k })) s.slots;
+    }) (sym counted))
 
 -- what is there is at home
 there_home : (capacity : ℕ) (found : Option Slot)
     → IsSomeAnd (option_map stored_of (option_map slot_state found))
-        (λ stored. (stored.capacity ≡ capacity) × IsSome stored.contents)
+    (λ stored. (stored.capacity ≡ capacity) × IsSome stored.contents)
     → IsHome capacity (option_map slot_state found)
 there_home capacity None there = there
 there_home capacity (Some (SlotHome held)) there = there.0
@@ -341,6 +342,173 @@ pub not_there : (name : VolumeName) (capacity : ℕ) (es : List (VolumeName × S
     → IsThere name capacity (told_of (slots_of es)) → ⊥
 not_there name capacity es away there =
     away (there_home capacity (lookup (is_at (volume_cmp name)) es)
-      (subst (λ (o : Option StoredVolume). IsSomeAnd o
-          (λ stored. (stored.capacity ≡ capacity) × IsSome stored.contents))
-        (told_at name es) there))
+    (subst (λ (o : Option StoredVolume). IsSomeAnd o
+    (λ stored. (stored.capacity ≡ capacity) × IsSome stored.contents))
+    (told_at name es) there))
+
+pub away_at : (name : VolumeName) (capacity : ℕ) (es : List (VolumeName × Slot))
+    → (IsHome capacity (option_map slot_state (lookup (is_at (volume_cmp name)) es)) → ⊥)
+    → IsHome capacity (find_volume name (slots_of es)) → ⊥
+away_at name capacity es away home =
+    away (subst (λ (o : Option SlotState). IsHome capacity o) (slots_found name es) home)
+
+home_only : (capacity faults : ℕ) (o : Option SlotState) → IsHomeWith capacity faults o
+    → IsHome capacity o
+home_only capacity faults None home = home
+home_only capacity faults (Some (Home h)) home = home.0
+home_only capacity faults (Some (Lent loan)) home = home
+
+pub home_at : (name : VolumeName) (capacity faults : ℕ) (es : List (VolumeName × Slot))
+    → IsHomeWith capacity faults (option_map slot_state (lookup (is_at (volume_cmp name)) es))
+    → IsHome capacity (find_volume name (slots_of es))
+home_at name capacity faults es home =
+    home_only capacity faults (find_volume name (slots_of es))
+    (subst (λ (o : Option SlotState). IsHomeWith capacity faults o) (sym (slots_found name es)) home)
+
+-- ---- taking back
+
+pub loan_slot : (o : Option SlotState) (loan : Loan) → option_and_then loan_in o ≡ Some loan
+    → o ≡ Some (Lent loan)
+loan_slot None loan found = cc
+loan_slot (Some (Home h)) loan found = cc
+loan_slot (Some (Lent l)) loan found = cc
+
+lent_there : (P : Loan → Type 0) (o : Option SlotState)
+    → IsSomeAnd (option_and_then loan_in o) P → IsLent o
+lent_there P None lent = lent
+lent_there P (Some (Home h)) lent = lent
+lent_there P (Some (Lent loan)) lent = tt
+
+-- what the store has lent out stands in its slot as lent
+pub lent_at : (P : Loan → Type 0) (name : VolumeName) (es : List (VolumeName × Slot))
+    → AreAscending es
+    → IsSomeAnd (find_volume name (filter_map named_loan (slots_of es))) P
+    → IsLent (option_map slot_state (lookup (is_at (volume_cmp name)) es))
+lent_at P name es ordered lent =
+    subst (λ (o : Option SlotState). IsLent o) (slots_found name es)
+    (lent_there P (find_volume name (slots_of es))
+    (subst (λ (o : Option Loan). IsSomeAnd o P)
+    (loans_found name (slots_of es) (slots_ordered es ordered)) lent))
+
+pub not_lent : (found : Option Slot) → IsLent (option_map slot_state found) → found ≡ None → ⊥
+not_lent None lent none = lent
+not_lent (Some slot) lent none = cc
+
+-- its count of faults as it went out is in the store's
+lent_inside : (sound : Bool) (faults lent : ℕ) (found : Option Slot)
+    → IsLentWith lent (option_map slot_state found)
+    → ((slot : Slot) → found ≡ Some slot → IsKept sound faults (slot_state slot)) → lent ≤ faults
+lent_inside sound faults lent None with kept = absurd with
+lent_inside sound faults lent (Some (SlotHome held)) with kept = absurd with
+lent_inside sound faults lent (Some (SlotLent c f)) with kept =
+    let inside : f ≤ faults = kept (SlotLent c f) refl in
+    omega arith
+
+pub lent_counted : (sound : Bool) (faults lent : ℕ) (name : VolumeName)
+    (es : List (VolumeName × Slot)) → AreKept sound faults es
+    → IsLentWith lent (option_map slot_state (lookup (is_at (volume_cmp name)) es)) → lent ≤ faults
+lent_counted sound faults lent name es kept with =
+    lent_inside sound faults lent (lookup (is_at (volume_cmp name)) es) with
+    (λ slot found. kept_found sound faults (is_at (volume_cmp name)) es slot kept found)
+
+first_true : (a b : Bool) → (a && b) ≡ true → a ≡ true
+first_true true b both = refl
+first_true false b both = both
+
+second_true : (a b : Bool) → (a && b) ≡ true → b ≡ true
+second_true true b both = both
+second_true false b both = absurd (false≢true both)
+
+-- a store that took a volume back is whole
+pub whole_kept : (sound more : Bool) (failing : List ℕ) (calls after : CallLog)
+    (es slots : List (VolumeName × Slot)) (name : VolumeName) (held : Held)
+    → IsWhole sound failing calls es
+    → after.failing ≡ calls.failing → calls.faults ≤ after.faults
+    → more ≡ (sound && never_fails held.calls)
+    → length held.loose.items ≡ length held.sectors.items
+    → held.calls.faults ≤ after.faults
+    → slots ≡ insert_entry volume_cmp es name (SlotHome held) → AreAscending slots
+    → IsWhole more failing after slots
+whole_kept sound more failing calls after es slots name held whole same later both sized counted
+    is ordered = record {
+      own = λ t. ap (λ f. length f == 0) same
+          ∙ whole.own (first_true sound (never_fails held.calls) (sym both ∙ t));
+      given = λ t. whole.given (first_true sound (never_fails held.calls) (sym both ∙ t));
+      kept = subst (λ l. AreKept more after.faults l) (sym is)
+          (kept_put more after.faults name (SlotHome held) es (
+            (refl, sized),
+            counted,
+            λ t. second_true sound (never_fails held.calls) (sym both ∙ t),
+          )
+          (kept_later sound more calls.faults after.faults es
+          (λ t. first_true sound (never_fails held.calls) (sym both ∙ t)) later whole.kept));
+      ordered = ordered;
+    }
+
+keeping : (s : MemVolumesState) (v : MemVolumeState) (calls : CallLog) (sound : Bool)
+    (slots : List (VolumeName × SlotState)) (lent : ℕ) (loan : Loan)
+    → calls ≡ record s.calls {
+      faults = counted_by (v.held.calls.faults - lent) s.calls.faults;
+    }
+    → sound ≡ (s.sound && never_fails v.held.calls)
+    → slots ≡ with_volume v.name (Home v.held) s.slots → loan.faults ≡ lent
+    → record s { calls = calls; sound = sound; slots = slots } ≡ after_keeping loan.faults v s
+keeping s v calls sound slots lent loan called both put counted =
+    ap (λ (l : CallLog). record s { calls = l; sound = sound; slots = slots }) called
+    ∙ ap (λ (b : Bool). record s {
+      calls = record s.calls {
+        faults = counted_by (v.held.calls.faults - lent) s.calls.faults;
+      };
+      sound = b;
+      slots = slots;
+    }) both
+    ∙ ap (λ (l : List (VolumeName × SlotState)). record s {
+      calls = record s.calls {
+        faults = counted_by (v.held.calls.faults - lent) s.calls.faults;
+      };
+      sound = s.sound && never_fails v.held.calls;
+      slots = l;
+    }) put
+    ∙ ap (λ (n : ℕ). after_keeping n v s) (sym counted)
+
+-- taking a volume back is one step of the store in memory
+pub kept_state : (s now : MemVolumesState) (v vol : MemVolumeState) (calls : CallLog)
+    (sound : Bool) (slots : List (VolumeName × SlotState)) (lent : ℕ) (loan : Loan)
+    (found : Option SlotState) → s ≡ now → v ≡ vol
+    → calls ≡ record s.calls {
+      faults = counted_by (v.held.calls.faults - lent) s.calls.faults;
+    }
+    → sound ≡ (s.sound && never_fails v.held.calls)
+    → slots ≡ with_volume v.name (Home v.held) s.slots
+    → find_volume v.name s.slots ≡ found → IsLentWith lent found
+    → find_volume vol.name now.slots ≡ Some (Lent loan)
+    → record s { calls = calls; sound = sound; slots = slots } ≡ after_keeping loan.faults vol now
+kept_state s now v vol calls sound slots lent loan found same samev called both put there with lentout =
+    let here : find_volume v.name s.slots ≡ Some (Lent loan) =
+    ap (λ (p : MemVolumeState × MemVolumesState). find_volume p.0.name p.1.slots)
+    (pair samev same) ∙ lentout in
+    let counted : loan.faults ≡ lent =
+    subst (λ (o : Option SlotState). IsLentWith lent o) (sym there ∙ here) with in
+    keeping s v calls sound slots lent loan called both put counted
+    ∙ ap (λ (p : MemVolumeState × MemVolumesState). after_keeping loan.faults p.0 p.1)
+    (pair samev same)
+  where
+    pair : {A B : Type 0} {a b : A} {c d : B} → a ≡ b → c ≡ d → ◌≡◌ {A = A × B} (a, c) (b, d)
+    pair p q = cc
+
+-- and of the store that it is
+pub kept_as_taken : (s : MemVolumesState) (v : MemVolumeState) (name : VolumeName) (lent : ℕ)
+    → AreAscending s.slots → v.name ≡ name
+    → store_state (after_keeping lent v s)
+    ≡ after_taking_back name lent (volume_state v) (store_state s)
+kept_as_taken s v name lent ordered named =
+    let volumes = told_put v.name (Home v.held) s.slots in
+    let loans = loans_taken v.name v.held s.slots ordered in
+    let here : store_state (after_keeping lent v s)
+    ≡ after_taking_back v.name lent (volume_state v) (store_state s) = cc in
+    here ∙ ap (λ (n : VolumeName). after_taking_back n lent (volume_state v) (store_state s)) named
+
+pub lent_only : (lent : ℕ) (o : Option SlotState) → IsLentWith lent o → IsLent o
+lent_only lent None counted = counted
+lent_only lent (Some (Home h)) counted = counted
+lent_only lent (Some (Lent loan)) counted = tt

@@ -257,7 +257,7 @@ impl VolumeStore for MemVolumes {
                 name: volume_name,
                 held,
             }),
-            _ => unreachable!(),
+            Some(Slot::Lent { .. }) | None => unreachable!(),
         }
     }
 

@@ -16,21 +16,21 @@ returns-then-contains_key-clause-exists c = λ _.
     subst (λ (s : MemVolumesState). IsSome (find_volume c.args.name.now (told_of s.slots)))
     c.self.view_is
     (told_is_some c.args.name.now c.self.inside.slots.entries
-      ∙ sym c.contains_key.ensures ∙ c.if-contains_key.true)
+    ∙ sym c.contains_key.ensures ∙ c.if-contains_key.true)
 
 pub returns-in_err-make-clause-taken : goal.returns-in_err-make-clause-taken
 returns-in_err-make-clause-taken c = λ some.
     absurd (told_missing c.args.name.now c.self.inside.slots.entries
-      (sym c.contains_key.ensures ∙ c.if-contains_key.false)
-      (subst (λ (s : MemVolumesState). IsSome (find_volume c.args.name.now (told_of s.slots)))
-        (sym c.self.view_is) some))
+    (sym c.contains_key.ensures ∙ c.if-contains_key.false)
+    (subst (λ (s : MemVolumesState). IsSome (find_volume c.args.name.now (told_of s.slots)))
+    (sym c.self.view_is) some))
 
 pub returns-clause-taken : goal.returns-clause-taken
 returns-clause-taken c = λ some.
     absurd (told_missing c.args.name.now c.self.inside.slots.entries
-      (sym c.contains_key.ensures ∙ c.if-contains_key.false)
-      (subst (λ (s : MemVolumesState). IsSome (find_volume c.args.name.now (told_of s.slots)))
-        (sym c.self.view_is) some))
+    (sym c.contains_key.ensures ∙ c.if-contains_key.false)
+    (subst (λ (s : MemVolumesState). IsSome (find_volume c.args.name.now (told_of s.slots)))
+    (sym c.self.view_is) some))
 
 pub returns-clause-lent : goal.returns-clause-lent
 returns-clause-lent c =

@@ -21,7 +21,7 @@ pub returns-in_default-clause-found : goal.returns-in_default-clause-found
 returns-in_default-clause-found c =
     let none : Option ℕ = None in
     subst (λ (s : MemVolumesState). none
-        ≡ option_map (λ (v : StoredVolume). v.capacity) (find_volume c.args.name.now (told_of s.slots)))
+    ≡ option_map (λ (v : StoredVolume). v.capacity) (find_volume c.args.name.now (told_of s.slots)))
     c.self.view_is
     (capacity_at c.args.name.now c.self.inside.slots.entries None c.in_default.ensures.value)
 
@@ -34,10 +34,10 @@ returns-in_default-clause-orderly c = record {
 pub returns-clause-found : goal.returns-clause-found
 returns-clause-found c =
     subst (λ (s : MemVolumesState). Some c.capacity.result
-        ≡ option_map (λ (v : StoredVolume). v.capacity) (find_volume c.args.name.now (told_of s.slots)))
+    ≡ option_map (λ (v : StoredVolume). v.capacity) (find_volume c.args.name.now (told_of s.slots)))
     c.self.view_is
     (ap Some c.capacity.ensures
-      ∙ capacity_at c.args.name.now c.self.inside.slots.entries (Some c.in-Some.slot.now) c.in-Some.ensures.value)
+    ∙ capacity_at c.args.name.now c.self.inside.slots.entries (Some c.in-Some.slot.now) c.in-Some.ensures.value)
 
 pub returns-clause-orderly : goal.returns-clause-orderly
 returns-clause-orderly c = record {
