@@ -1,3 +1,5 @@
+pub mod PairLemmas
 pub mod NameLemmas
 pub mod FilledRanges
 pub mod SlotLemmas
+pub mod VolumeLemmas

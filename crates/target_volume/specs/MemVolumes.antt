@@ -160,3 +160,12 @@ abbrev pub AreKept : (sound : Bool) (faults : ℕ) → List (VolumeName × Slot)
 AreKept sound faults [] = Unit {0}
 AreKept sound faults (slot ∷ slots) = IsKept sound faults (slot_state slot.1)
     × AreKept sound faults slots
+
+-- what holds of a store's fields: where it is sound nothing was told to fail, its slots are kept, and
+-- they are in order
+pub record IsWhole (sound : Bool) (failing : List ℕ) (calls : CallLog)
+    (slots : List (VolumeName × Slot)) : Type 0 where
+  pub own : IsTrue sound → IsTrue (never_fails calls)
+  pub given : IsTrue sound → length failing ≡ 0
+  pub kept : AreKept sound calls.faults slots
+  pub ordered : AreAscending slots

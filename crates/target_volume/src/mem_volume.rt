@@ -110,10 +110,11 @@ impl Volume for MemVolume {
         }) }
     {
         let first = first as usize;
+        let written = self.held.written.saturating_add(sectors.len() as u64);
         fill(&mut self.held.loose, first, sectors.len(), true);
         self.held.calls.next()?;
         replace(&mut self.held.sectors, first, sectors);
-        self.held.written = self.held.written.saturating_add(sectors.len() as u64);
+        self.held.written = written;
         Ok(())
     }
 
@@ -135,15 +136,12 @@ impl Volume for MemVolume {
         }) }
     {
         let first = first as usize;
+        let written = self.held.written.saturating_add(count);
         fill(&mut self.held.loose, first, count as usize, true);
         self.held.calls.next()?;
-        fill(
-            &mut self.held.sectors,
-            first,
-            count as usize,
-            Sector::filled(0),
-        );
-        self.held.written = self.held.written.saturating_add(count);
+        let zero = Sector::filled(0);
+        fill(&mut self.held.sectors, first, count as usize, zero);
+        self.held.written = written;
         Ok(())
     }
 

@@ -40,9 +40,8 @@ pub struct MemVolumes {
 }
 
 impl Model for MemVolumes {
-    ghost use Rattle.std.specs.Prelude.{◌≡◌, IsTrue, length, map};
-    ghost use Rattle.basics.specs.Calls.{never_fails};
-    ghost use Rattle.target_volume.specs.MemVolumes.{MemVolumesState, slot_state, AreKept};
+    ghost use Rattle.std.specs.Prelude.{map};
+    ghost use Rattle.target_volume.specs.MemVolumes.{MemVolumesState, slot_state, IsWhole};
 
     ghost Value = { MemVolumesState };
 
@@ -55,9 +54,7 @@ impl Model for MemVolumes {
       slots = map (λ slot. (slot.0, slot_state slot.1)) s.slots.entries;
     } };
 
-    ghost invariant = { λ s. (IsTrue s.sound → IsTrue (never_fails s.calls))
-        × (IsTrue s.sound → length s.failing.items ≡ 0)
-        × AreKept s.sound s.calls.faults s.slots.entries };
+    ghost invariant = { λ s. IsWhole s.sound s.failing.items s.calls s.slots.entries };
 }
 
 impl MemVolumes {
@@ -109,29 +106,35 @@ impl MemVolumes {
         self.created = number;
         Ok(volume)
     }
+}
 
-    /// The count of faults of a volume that is at home with this capacity.
-    fn faults_at_home(&self, name: &VolumeName, capacity: u64) -> Option<u64>
-        ensures { MatchOption result (¬ IsHome capacity (find_volume name.now self.now.slots))
-            (λ faults. IsHomeWith capacity faults (find_volume name.now self.now.slots)) }
-    {
-        match self.slots.get(name) {
-            Some(Slot::Home(held)) if held.sectors.len() as u64 == capacity => {
-                Some(held.calls.faults())
-            }
-            _ => None,
+/// The count of faults of a volume that is at home with this capacity.
+fn faults_at_home(
+    slots: &BTreeMap<VolumeName, Slot>,
+    name: &VolumeName,
+    capacity: u64,
+) -> Option<u64>
+    ensures { MatchOption result
+        (¬ IsHome capacity (option_map slot_state (get volume_cmp slots.now name.now)))
+        (λ faults. IsHomeWith capacity faults
+        (option_map slot_state (get volume_cmp slots.now name.now))) }
+{
+    match slots.get(name) {
+        Some(Slot::Home(held)) if held.sectors.len() as u64 == capacity => {
+            Some(held.calls.faults())
         }
+        _ => None,
     }
+}
 
-    /// The count of faults with which a volume was lent out.
-    fn faults_as_lent(&self, name: &VolumeName) -> u64
-        requires { IsLent (find_volume name.now self.now.slots) }
-        ensures { IsLentWith result (find_volume name.now self.now.slots) }
-    {
-        match self.slots.get(name) {
-            Some(Slot::Lent { faults, .. }) => *faults,
-            _ => unreachable!(),
-        }
+/// The count of faults with which a volume was lent out.
+fn faults_as_lent(slots: &BTreeMap<VolumeName, Slot>, name: &VolumeName) -> u64
+    requires { IsLent (option_map slot_state (get volume_cmp slots.now name.now)) }
+    ensures { IsLentWith result (option_map slot_state (get volume_cmp slots.now name.now)) }
+{
+    match slots.get(name) {
+        Some(Slot::Lent { faults, .. }) => *faults,
+        _ => unreachable!(),
     }
 }
 
@@ -243,7 +246,7 @@ impl VolumeStore for MemVolumes {
         ensures left_refused { IfErr result
             (λ why. self.new ≡ called (not (is_failure why)) self.old) }
     {
-        let Some(faults) = self.faults_at_home(name, capacity) else {
+        let Some(faults) = faults_at_home(&self.slots, name, capacity) else {
             return Err(StoreRefused::from(self.calls.fail()));
         };
         self.calls.next()?;
@@ -254,7 +257,7 @@ impl VolumeStore for MemVolumes {
                 name: volume_name,
                 held,
             }),
-            _ => unreachable!(),
+            Some(Slot::Lent { .. }) | None => unreachable!(),
         }
     }
 
@@ -270,7 +273,7 @@ impl VolumeStore for MemVolumes {
             → self.new ≡ after_keeping loan.faults vol self.old }
     {
         let MemVolume { name, held } = vol;
-        let lent = self.faults_as_lent(&name);
+        let lent = faults_as_lent(&self.slots, &name);
         self.calls
             .add_faults(held.calls.faults().saturating_sub(lent));
         self.sound = self.sound && held.calls.never_fail();
