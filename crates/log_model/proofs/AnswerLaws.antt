@@ -1,27 +1,24 @@
 -- What a query answers once more entries came, and what a snapshot's own identifier is answered.
-use Rattle.std.proofs.Common.{◌≡◌, ℕ, ◌+◌, ◌<◌, ◌≤◌, List, [], ◌∷◌, ◌++◌, length, take, drop, Bool, true, false, cond, ◌&&◌, ◌==◌, leb, eqb, nat_le, Option, Some, unwrap_or, Result, Ok, Err, subst, sym, ap, refl, ◌∙◌, arith, ◌⊎◌, inl, inr, add-one}
-use Rattle.std.specs.List.{slice_get}
+use Rattle.std.proofs.Common.{◌≡◌, ℕ, ◌+◌, ◌<◌, ◌≤◌, List, [], ◌∷◌, ◌++◌, length, take, drop, Bool, true, false, cond, ◌&&◌, ◌==◌, nat_le, Option, unwrap_or, Ok, Err, sym, ap, refl, ◌∙◌, arith, ◌⊎◌, inl, inr, add-one}
 use Rattle.std.proofs.lemmas.Bool.{cases_eq, eqb-true, eq-eqb, ne_eqb, le-leb, leb-true, false≢true}
-use Rattle.std.proofs.lemmas.Option.{same_Some}
 use Rattle.std.proofs.lemmas.List.{take-append-le}
 use Rattle.sector_model.specs.Run.{touched_blocks, areas_of}
 use Rattle.sector_model.specs.declared.run.Run.{Run}
 use Rattle.change_id.specs.ChangeId.{packed}
 use Rattle.change_id.specs.declared.ChangeId.{ChangeId}
-use Rattle.change_id.specs.declared.Since.{Since}
 use Rattle.change_id.specs.declared.Since.TheVariants.{All as Everything, From}
 use Rattle.log_model.specs.declared.entry.Entry.{Entry}
-use Rattle.log_model.specs.Entry.{is_snap, writes_of}
+use Rattle.log_model.specs.Entry.{writes_of}
 use Rattle.log_model.specs.Marks.{mark, before, through, epoch, number, in_force, mark_of_id, HasId}
 use Rattle.log_model.specs.Touched.{touched_areas}
 use Rattle.log_model.specs.Query.{changed_areas, accepts}
 use Rattle.log_model.specs.PlainMachine.{numbered_place}
 use Rattle.log_model.specs.Laws.{AnswersStay, IdsAnswerBetween, NumberedPlaceIsMark}
 use Rattle.log_model.proofs.Last.{at_place}
-use Rattle.log_model.proofs.NumberLaws.{epoch-append, epoch-last, numbers_differ}
+use Rattle.log_model.proofs.NumberLaws.{epoch-append, epoch-last}
 use Rattle.log_model.proofs.Later.{later_entries_keep, numbered_place_gives}
 use Rattle.log_model.proofs.AnswerPages.{ok_part}
-use Rattle.log_model.proofs.Epochs.{epoch-between, number-grows, number-take-le, number-le, still-given, snap-resets_none, in_force-parts, in_force-made, same-epochs}
+use Rattle.log_model.proofs.Epochs.{epoch-between, number-take-le, number-le, snap-resets_none, in_force-parts, in_force-made, same-epochs}
 use Rattle.log_model.proofs.IdMarks.{found-has, marks_of_ids}
 
 -- ---- a test of four parts

@@ -1,6 +1,6 @@
 -- What the definitions say together. Each law is the contract of a public function of laws.rt whose
 -- body does nothing. Laws on legal logs hold for a machine and for one disk alone.
-use Rattle.std.specs.Prelude.{◌≡◌, ℕ, ◌+◌, ◌<◌, ◌≤◌, ◌^◌, List, Bool, [], ◌∷◌, ◌++◌, length, take, drop, slice_get, true, false, ◌||◌, ◌&&◌, ◌⊎◌, ◌↔◌, Option, Some, None, Result, Ok, Err}
+use Rattle.std.specs.Prelude.{◌≡◌, ℕ, ◌+◌, ◌<◌, ◌≤◌, ◌^◌, List, Bool, [], ◌∷◌, ◌++◌, length, take, slice_get, true, false, ◌||◌, ◌&&◌, ◌⊎◌, ◌↔◌, Option, Some, None, Ok, Err}
 use Rattle.std.specs.List.{flat_map, filter, list_any, All}
 use Rattle.sector_model.specs.Run.{in_blocks, end_of, AreSpaced}
 use Rattle.sector_model.specs.Page.{PageContents, areas_from, page_of, ArePages, LiesWithin}

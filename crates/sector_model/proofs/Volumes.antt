@@ -1,5 +1,5 @@
 -- What a volume holds after a write, a flush, a filling and a failed write.
-use Rattle.std.proofs.Common.{◌≡◌, ℕ, zero, suc, ◌+◌, ◌-◌, ◌<◌, ◌≤◌, List, [], ◌∷◌, ◌++◌, length, take, drop, replicate, Bool, true, false, cond, leb, ltb, ◌&&◌, ◌||◌, get_or, ◌⊎◌, Option, unwrap_or, Some, refl, sym, ap, ◌∙◌, arith, inl, inr, length-take, length-drop, length-append}
+use Rattle.std.proofs.Common.{◌≡◌, ℕ, zero, suc, ◌+◌, ◌-◌, ◌<◌, ◌≤◌, List, [], ◌∷◌, length, replicate, Bool, true, false, cond, leb, ltb, ◌&&◌, ◌||◌, get_or, ◌⊎◌, Option, unwrap_or, Some, refl, sym, ap, ◌∙◌, arith, inl, inr}
 use Rattle.std.specs.List.{slice_get, count_by}
 use Rattle.std.proofs.Math.Bool.{or-true, or-false}
 use Rattle.std.proofs.lemmas.Bool.{cases_lt, le-ltb, lt-ltb, le-leb, lt-leb, and_right}
@@ -8,10 +8,10 @@ use Rattle.std.proofs.lemmas.List.{length-replicate}
 use Rattle.std.proofs.lemmas.List.Sums.{sum_by-cons}
 use Rattle.sector_model.specs.Sector.{zero_sector}
 use Rattle.sector_model.specs.Disk.{replaced}
-use Rattle.sector_model.specs.VolumeContents.{VolumeContents, IsSized, IsFlushed, loose_count, volume_written, volume_zeroed, volume_flushed, IsBrokenAt, fill_loose, volume_filled, loose_of, loose_sectors, DiffersOnlyWhereLoose}
+use Rattle.sector_model.specs.VolumeContents.{VolumeContents, IsSized, IsFlushed, loose_count, volume_written, IsBrokenAt, fill_loose, volume_filled, loose_of, loose_sectors, DiffersOnlyWhereLoose}
 use Rattle.sector_model.specs.Laws.{VolumesKeepTheirSize, IsFilling, DiffersInARow, FlushedIsNoneLoose, LooseThen}
 use Rattle.sector_model.specs.declared.sector.Sector.{Sector}
-use Rattle.sector_model.proofs.ItemAt.{slice_get-front, slice_get-take, slice_get-drop, slice_get-replicate}
+use Rattle.sector_model.proofs.ItemAt.{slice_get-take, slice_get-drop, slice_get-replicate}
 use Rattle.sector_model.proofs.Replaced.{length-replaced, replaced-before, replaced-within, replaced-behind}
 
 -- ---- sizes
