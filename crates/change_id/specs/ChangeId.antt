@@ -1,4 +1,5 @@
 -- The spelling of a change identifier, what a text may lack, and the number that its UUID packs.
+-- Each identifier has one spelling, so that texts are equal exactly where they mean the same.
 use Rattle.std.specs.Prelude.{◌≡◌, ℕ, ◌+◌, ◌*◌, ◌^◌, ◌≤◌, ◌<◌, ◌==◌, List, ◌∷◌, ◌++◌, Contains, Result, Ok, Err, decimal}
 use Rattle.std.specs.Int.{w128, to_be_bytes}
 use Rattle.std.specs.List.{before_first, after_first}
@@ -48,6 +49,12 @@ uuid_part text = before_first (λ b. b == slash) text
 
 abbrev pub number_part : List ℕ → List ℕ
 number_part text = after_first (λ b. b == slash) text
+
+-- the number of a refusal
+abbrev pub refusal_number : IdRefused → ℕ
+refusal_number Form = 1
+refusal_number Uuid = 2
+refusal_number Number = 3
 
 -- the text has no slash
 abbrev pub LacksSlash : List ℕ → Type 0

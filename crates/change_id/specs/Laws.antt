@@ -6,7 +6,8 @@ use Rattle.change_id.specs.ChangeId.{IsIdentifier, IsAnswer, spelling, packed}
 
 -- no text has two answers
 abbrev pub OneAnswer : Type 0
-OneAnswer = (text : List ℕ) (a b : Result ChangeId IdRefused) → IsAnswer text a → IsAnswer text b → a ≡ b
+OneAnswer = (text : List ℕ) (a b : Result ChangeId IdRefused)
+    → IsAnswer text a → IsAnswer text b → a ≡ b
 
 -- a written identifier can be read as nothing but itself
 abbrev pub WrittenParses : Type 0

@@ -5,7 +5,7 @@
 
 ghost use Rattle.std.specs.Prelude.{◌≡◌, ◌≤◌, ◌<◌, ◌↔◌, ◌==◌, Contains, IfNone, IfSome, IsTrue, MatchOption, position, slice_index, decimal, drop, length, take};
 ghost use Rattle.change_id.specs.declared.ChangeId.{ChangeId};
-ghost use Rattle.change_id.specs.ChangeId.{packed, spelling, uuid_text, uuid_part, number_part, IsUuidText, IsNumberText, IsAnswer, Spells, LacksSlash, LacksUuid, LacksNumber, slash};
+ghost use Rattle.change_id.specs.ChangeId.{refusal_number, packed, spelling, uuid_text, uuid_part, number_part, IsUuidText, IsNumberText, IsAnswer, Spells, LacksSlash, LacksUuid, LacksNumber, slash};
 ghost use Rattle.change_id.specs.Laws.{OneAnswer, WrittenParses, SpellingsDiffer, PackingsDiffer};
 
 use std::error::Error;
@@ -37,11 +37,24 @@ pub enum Since {
 #[derive(Clone, Copy, Debug, PartialEq, Eq)]
 pub enum IdRefused {
     /// It has no slash.
-    Form = 1,
+    Form,
     /// What stands before the first slash is no lower-case hyphenated UUID.
-    Uuid = 2,
+    Uuid,
     /// What stands after it is no decimal number from 1 to 2^64 - 1, or has a leading zero.
-    Number = 3,
+    Number,
+}
+
+impl IdRefused {
+    /// The number of the refusal, 1 to 3.
+    pub fn number(&self) -> u8
+        ensures { result ≡ refusal_number self.now }
+    {
+        match self {
+            IdRefused::Form => 1,
+            IdRefused::Uuid => 2,
+            IdRefused::Number => 3,
+        }
+    }
 }
 
 impl fmt::Display for IdRefused {
@@ -134,7 +147,8 @@ fn parse_uuid(text: &[u8]) -> Option<u128>
 
 // The number of a text of decimal digits, of which the first is not 0.
 fn parse_number(text: &[u8]) -> Option<u64>
-    ensures { MatchOption result (¬ (IsNumberText text.now)) (λ n. (1 ≤ n) × (text.now ≡ decimal n)) }
+    ensures { MatchOption result (¬ (IsNumberText text.now))
+        (λ n. (1 ≤ n) × (text.now ≡ decimal n)) }
 {
     if !starts_above_zero(text) {
         return None;
@@ -268,19 +282,22 @@ mod tests {
     #[test]
     fn refusals_say_what_is_wrong(rt: HostRuntime) -> Result<(), Fail> {
         let vectors = [
-            (IdRefused::Form, "a change identifier has a slash"),
+            (IdRefused::Form, 1, "a change identifier has a slash"),
             (
                 IdRefused::Uuid,
+                2,
                 "no lower-case hyphenated UUID before the slash",
             ),
             (
                 IdRefused::Number,
+                3,
                 "no number from 1 to 2^64 - 1 after the slash",
             ),
         ];
-        for (refusal, text) in vectors {
+        for (refusal, number, text) in vectors {
             let printed = format!(in rt.alloc(); "{refusal}")?;
             assert_eq!(rt; printed.as_str(), text);
+            assert_eq!(rt; refusal.number(), number);
         }
         Ok(())
     }

@@ -1,27 +1,25 @@
 -- What a query answers once more entries came, and what a snapshot's own identifier is answered.
-use Rattle.std.proofs.Common.{◌≡◌, ℕ, ◌+◌, ◌<◌, ◌≤◌, List, [], ◌∷◌, ◌++◌, length, take, drop, Bool, true, false, cond, ◌&&◌, ◌==◌, leb, eqb, nat_le, Option, Some, Result, Ok, Err, subst, sym, ap, refl, ◌∙◌, arith, ◌⊎◌, inl, inr, add-one}
-use Rattle.std.specs.List.{slice_get}
+use Rattle.std.proofs.Common.{◌≡◌, ℕ, ◌+◌, ◌<◌, ◌≤◌, List, [], ◌∷◌, ◌++◌, length, take, drop, Bool, true, false, cond, ◌&&◌, ◌==◌, nat_le, Option, unwrap_or, Ok, Err, sym, ap, refl, ◌∙◌, arith, ◌⊎◌, inl, inr, add-one}
 use Rattle.std.proofs.lemmas.Bool.{cases_eq, eqb-true, eq-eqb, ne_eqb, le-leb, leb-true, false≢true}
-use Rattle.std.proofs.lemmas.Option.{same_Some}
 use Rattle.std.proofs.lemmas.List.{take-append-le}
 use Rattle.sector_model.specs.Run.{touched_blocks, areas_of}
 use Rattle.sector_model.specs.declared.run.Run.{Run}
 use Rattle.change_id.specs.ChangeId.{packed}
 use Rattle.change_id.specs.declared.ChangeId.{ChangeId}
-use Rattle.change_id.specs.declared.Since.{Since}
 use Rattle.change_id.specs.declared.Since.TheVariants.{All as Everything, From}
 use Rattle.log_model.specs.declared.entry.Entry.{Entry}
-use Rattle.log_model.specs.Entry.{is_snap, writes_of}
-use Rattle.log_model.specs.Marks.{mark, before, through, epoch, number, in_force, HasId}
+use Rattle.log_model.specs.Entry.{writes_of}
+use Rattle.log_model.specs.Marks.{mark, before, through, epoch, number, in_force, mark_of_id, HasId}
 use Rattle.log_model.specs.Touched.{touched_areas}
-use Rattle.log_model.specs.Query.{changed_areas, accepts, numbered_place}
+use Rattle.log_model.specs.Query.{changed_areas, accepts}
+use Rattle.log_model.specs.PlainMachine.{numbered_place}
 use Rattle.log_model.specs.Laws.{AnswersStay, IdsAnswerBetween, NumberedPlaceIsMark}
 use Rattle.log_model.proofs.Last.{at_place}
-use Rattle.log_model.proofs.NumberLaws.{epoch-append, epoch-last, numbers_differ}
+use Rattle.log_model.proofs.NumberLaws.{epoch-append, epoch-last}
 use Rattle.log_model.proofs.Later.{later_entries_keep, numbered_place_gives}
 use Rattle.log_model.proofs.AnswerPages.{ok_part}
-use Rattle.log_model.proofs.Epochs.{epoch-between, number-grows, number-take-le, number-le, still-given, snap-resets_none, in_force-parts, in_force-made, same-epochs}
-use Rattle.log_model.proofs.IdMarks.{found-has}
+use Rattle.log_model.proofs.Epochs.{epoch-between, number-take-le, number-le, snap-resets_none, in_force-parts, in_force-made, same-epochs}
+use Rattle.log_model.proofs.IdMarks.{found-has, marks_of_ids}
 
 -- ---- a test of four parts
 
@@ -63,15 +61,27 @@ number-within d s q log same le =
     let grown = number-le d (mark s log + 1) log upto in
     omega (arith, grown, le)
 
-place-same : (d q : ℕ) (log more : List Entry) → epoch d more ≡ 0 → 1 ≤ q → q ≤ number d log → numbered_place d q (log ++ more) ≡ numbered_place d q log
-place-same d q log more none low high =
-    let grown = number-grows d log more none in
-    numbers_differ d q (numbered_place d q (log ++ more)) (numbered_place d q log) (log ++ more) low
-    (numbered_place_gives d q (log ++ more) low (omega (arith, grown, high)))
-    (still-given d q log more (numbered_place d q log) none (numbered_place_gives d q log low high))
+-- an accepted identifier is had by the snapshot whose number it has
+pub numbered_place_is_mark : NumberedPlaceIsMark
+numbered_place_is_mark machine d s id log accepted =
+    let parts = four-parts (id.uuid == packed machine d (epoch d log)) (epoch d (before s log) == epoch d log) (nat_le 1 id.seq) (nat_le id.seq (number d (through s log))) accepted in
+    let low : 1 ≤ id.seq = leb-true 1 id.seq parts.three in
+    let high : id.seq ≤ number d log = number-within d s id.seq log (eqb-true (epoch d (before s log)) (epoch d log) parts.two) (leb-true id.seq (number d (through s log)) parts.four) in
+    let place : ℕ = numbered_place d id.seq log in
+    let given = numbered_place_gives d id.seq log low high in
+    let numbered = given.numbered in
+    found-has machine d id log place (record {
+      within = given.within;
+      by_snap = given.by_snap;
+      identified = in_force-made machine d id (take (place + 1) log) (record {
+        counted = omega (arith, low, numbered);
+        uuid = eqb-true id.uuid (packed machine d (epoch d log)) parts.one ∙ ap (packed machine d) (sym given.same_epoch);
+        seq = sym numbered;
+      });
+    })
 
 from-stays : (machine c d s : ℕ) (id : ChangeId) (log more : List Entry) (areas : List Run) → mark s log < length log → accepts machine d s id log ≡ true
-    → touched_areas c d (numbered_place d id.seq log) (mark s log) log ≡ areas
+    → touched_areas c d (unwrap_or (mark_of_id machine d id log) 0) (mark s log) log ≡ areas
     → (changed_areas machine c d s (From id) (log ++ more) ≡ Ok areas) ⊎ (changed_areas machine c d s (From id) (log ++ more) ≡ Err (in_force machine d (log ++ more)))
 from-stays machine c d s id log more areas less accepted told =
     let parts = four-parts (id.uuid == packed machine d (epoch d log)) (epoch d (before s log) == epoch d log) (nat_le 1 id.seq) (nat_le id.seq (number d (through s log))) accepted in
@@ -92,16 +102,16 @@ from-stays machine c d s id log more areas less accepted told =
             three = parts.three;
             four = ap (λ (xs : List Entry). nat_le id.seq (number d xs)) upto ∙ parts.four;
           }) in
-          let q_low : 1 ≤ id.seq = leb-true 1 id.seq parts.three in
-          let q_high : id.seq ≤ number d log = number-within d s id.seq log was_same (leb-true id.seq (number d (through s log)) parts.four) in
-          inl (ap (λ b. cond b (Ok (touched_areas c d (numbered_place d id.seq (log ++ more)) (mark s (log ++ more)) (log ++ more))) (Err (in_force machine d (log ++ more)))) all
-          ∙ ap Ok (ap (λ k. touched_areas c d k (mark s (log ++ more)) (log ++ more)) (place-same d id.seq log more none q_low q_high)
-          ∙ touched-same c d (numbered_place d id.seq log) s log more less ∙ told))
+          let here = numbered_place_is_mark machine d s id log accepted in
+          let later = (marks_of_ids machine d id log).stays (numbered_place d id.seq log) more here in
+          inl (ap (λ b. cond b (Ok (touched_areas c d (unwrap_or (mark_of_id machine d id (log ++ more)) 0) (mark s (log ++ more)) (log ++ more))) (Err (in_force machine d (log ++ more)))) all
+          ∙ ap Ok (ap (λ (o : Option ℕ). touched_areas c d (unwrap_or o 0) (mark s (log ++ more)) (log ++ more)) (later ∙ sym here)
+          ∙ touched-same c d (unwrap_or (mark_of_id machine d id log) 0) s log more less ∙ told))
       | inr some ↦
           let apart : epoch d (before s (log ++ more)) ≡ epoch d (log ++ more) → ⊥ = λ same. absurd (omega (arith, same, ap (epoch d) front, was_same, longer, some)) in
           let none : accepts machine d s id (log ++ more) ≡ false = second-fails (id.uuid == packed machine d (epoch d (log ++ more))) (epoch d (before s (log ++ more)) == epoch d (log ++ more)) (nat_le 1 id.seq) (nat_le id.seq (number d (through s (log ++ more))))
           (ne_eqb (epoch d (before s (log ++ more))) (epoch d (log ++ more)) apart) in
-          inr (ap (λ b. cond b (Ok (touched_areas c d (numbered_place d id.seq (log ++ more)) (mark s (log ++ more)) (log ++ more))) (Err (in_force machine d (log ++ more)))) none)
+          inr (ap (λ b. cond b (Ok (touched_areas c d (unwrap_or (mark_of_id machine d id (log ++ more)) 0) (mark s (log ++ more)) (log ++ more))) (Err (in_force machine d (log ++ more)))) none)
     ]
 
 ok_only : (b : Bool) (x y : List Run) (e : Option ChangeId) → cond b (Ok x) (Err e) ≡ Ok y → b ≡ true
@@ -111,7 +121,7 @@ ok_only false x y e h = absurd (cc)
 pub answers_stay : AnswersStay
 answers_stay machine c d s Everything log more areas less found = inl (ap Ok (touched-same c d 0 s log more less) ∙ found)
 answers_stay machine c d s (From id) log more areas less found =
-    let told : List Run = touched_areas c d (numbered_place d id.seq log) (mark s log) log in
+    let told : List Run = touched_areas c d (unwrap_or (mark_of_id machine d id log) 0) (mark s log) log in
     from-stays machine c d s id log more areas less (ok_only (accepts machine d s id log) told areas (in_force machine d log) found) (ok_part (accepts machine d s id log) told areas (in_force machine d log) found)
 
 -- ---- the identifier of the snapshot at a place
@@ -131,7 +141,6 @@ accepted-between machine c d place s id log has le within front =
     let upto : epoch d (take (place + 1) log) ≡ epoch d log = epoch-between d place (place + 1) log (omega arith) front in
     let here : epoch d (before s log) ≡ epoch d log = epoch-between d place (mark s log) log le front in
     let grown = number-take-le d (place + 1) (mark s log + 1) log (omega arith) upto in
-    let whole = number-le d (place + 1) log upto in
     let low : 1 ≤ id.seq = let l = own.counted in let q = own.seq in omega (arith, l, q) in
     let all : accepts machine d s id log ≡ true = four-made (id.uuid == packed machine d (epoch d log)) (epoch d (before s log) == epoch d log) (nat_le 1 id.seq) (nat_le id.seq (number d (through s log)))
     (record {
@@ -140,12 +149,8 @@ accepted-between machine c d place s id log has le within front =
       three = le-leb 1 id.seq low;
       four = le-leb id.seq (number d (through s log)) (let q = own.seq in omega (arith, grown, q));
     }) in
-    let same_place : numbered_place d id.seq log ≡ place =
-    numbers_differ d id.seq (numbered_place d id.seq log) place log low
-    (numbered_place_gives d id.seq log low (let q = own.seq in omega (arith, whole, q)))
-    (record { within = has.within; by_snap = has.by_snap; same_epoch = upto; numbered = sym own.seq }) in
-    ap (λ x. cond x (Ok (touched_areas c d (numbered_place d id.seq log) (mark s log) log)) (Err (in_force machine d log))) all
-    ∙ ap Ok (ap (λ k. touched_areas c d k (mark s log) log) same_place)
+    ap (λ x. cond x (Ok (touched_areas c d (unwrap_or (mark_of_id machine d id log) 0) (mark s log) log)) (Err (in_force machine d log))) all
+    ∙ ap Ok (ap (λ (o : Option ℕ). touched_areas c d (unwrap_or o 0) (mark s log) log) (found-has machine d id log place has))
 
 strange-between : (machine c d place s : ℕ) (id : ChangeId) (log : List Entry) → HasId machine d id log place → (epoch d (take place log) ≡ epoch d log → ⊥)
     → changed_areas machine c d s (From id) log ≡ Err (in_force machine d log)
@@ -153,7 +158,7 @@ strange-between machine c d place s id log has reset =
     let own = in_force-parts machine d id (take (place + 1) log) has.identified in
     let apart : id.uuid ≡ packed machine d (epoch d log) → ⊥ = λ same.
     reset (sym (epoch-there machine d id log place has) ∙ same-epochs machine d (epoch d (take (place + 1) log)) (epoch d log) (sym own.uuid ∙ same)) in
-    ap (λ x. cond x (Ok (touched_areas c d (numbered_place d id.seq log) (mark s log) log)) (Err (in_force machine d log)))
+    ap (λ x. cond x (Ok (touched_areas c d (unwrap_or (mark_of_id machine d id log) 0) (mark s log) log)) (Err (in_force machine d log)))
     (first-fails (id.uuid == packed machine d (epoch d log)) (epoch d (before s log) == epoch d log) (nat_le 1 id.seq) (nat_le id.seq (number d (through s log)))
     (ne_eqb id.uuid (packed machine d (epoch d log)) apart))
 
@@ -163,21 +168,10 @@ ids_answer_between machine c d place s id log has le within = record {
   strange = strange-between machine c d place s id log has;
 }
 
--- an accepted identifier is had by the snapshot whose number it has
-pub numbered_place_is_mark : NumberedPlaceIsMark
-numbered_place_is_mark machine d s id log accepted =
-    let parts = four-parts (id.uuid == packed machine d (epoch d log)) (epoch d (before s log) == epoch d log) (nat_le 1 id.seq) (nat_le id.seq (number d (through s log))) accepted in
-    let low : 1 ≤ id.seq = leb-true 1 id.seq parts.three in
-    let high : id.seq ≤ number d log = number-within d s id.seq log (eqb-true (epoch d (before s log)) (epoch d log) parts.two) (leb-true id.seq (number d (through s log)) parts.four) in
-    let place : ℕ = numbered_place d id.seq log in
-    let given = numbered_place_gives d id.seq log low high in
-    let numbered = given.numbered in
-    found-has machine d id log place (record {
-      within = given.within;
-      by_snap = given.by_snap;
-      identified = in_force-made machine d id (take (place + 1) log) (record {
-        counted = omega (arith, low, numbered);
-        uuid = eqb-true id.uuid (packed machine d (epoch d log)) parts.one ∙ ap (packed machine d) (sym given.same_epoch);
-        seq = sym numbered;
-      });
-    })
+-- what an accepted identifier is answered, from the place that has its number
+pub told-from : (machine c d s place : ℕ) (id : ChangeId) (log : List Entry) → accepts machine d s id log ≡ true → place ≡ numbered_place d id.seq log
+    → changed_areas machine c d s (From id) log ≡ Ok (touched_areas c d place (mark s log) log)
+told-from machine c d s place id log accepted at =
+    ap (λ x. cond x (Ok (touched_areas c d (unwrap_or (mark_of_id machine d id log) 0) (mark s log) log)) (Err (in_force machine d log))) accepted
+    ∙ ap Ok (ap (λ (o : Option ℕ). touched_areas c d (unwrap_or o 0) (mark s log) log) (numbered_place_is_mark machine d s id log accepted)
+    ∙ ap (λ k. touched_areas c d k (mark s log) log) (sym at))

@@ -1,5 +1,5 @@
 -- The pages of an answer.
-use Rattle.std.proofs.Common.{◌≡◌, ℕ, ◌<◌, ◌+◌, ◌^◌, ◌≤◌, List, [], ◌∷◌, Bool, true, false, cond, Option, Ok, Err, sym, ap, subst, refl, ◌∙◌, arith}
+use Rattle.std.proofs.Common.{◌≡◌, ℕ, ◌<◌, ◌+◌, ◌^◌, ◌≤◌, List, [], ◌∷◌, Bool, true, false, cond, Option, unwrap_or, Ok, Err, sym, ap, subst, refl, ◌∙◌, arith}
 use Rattle.std.proofs.lemmas.Bool.{lt-ltb, le-ltb}
 use Rattle.std.proofs.lemmas.List.Elements.{All-from_recursion}
 use Rattle.sector_model.specs.Run.{end_of, in_blocks, areas_of, AreSpacedFrom}
@@ -12,8 +12,8 @@ use Rattle.change_id.specs.declared.ChangeId.{ChangeId}
 use Rattle.change_id.specs.declared.Since.{Since}
 use Rattle.change_id.specs.declared.Since.TheVariants.{All as Everything, From}
 use Rattle.log_model.specs.declared.entry.Entry.{Entry}
-use Rattle.log_model.specs.Query.{changed_areas, accepts, numbered_place}
-use Rattle.log_model.specs.Marks.{mark, in_force}
+use Rattle.log_model.specs.Query.{changed_areas, accepts}
+use Rattle.log_model.specs.Marks.{mark, in_force, mark_of_id}
 use Rattle.log_model.specs.Touched.{touched, touched_areas}
 use Rattle.log_model.specs.Laws.{AnswersAreAreas, AnswerPagesJoin, AllPagesAreTheAnswer}
 
@@ -32,7 +32,7 @@ areas_from-start m (r ∷ rs) h =
 answered : (machine c d s : ℕ) (since : Since) (log : List Entry) (areas : List Run) → changed_areas machine c d s since log ≡ Ok areas → (blocks : List ℕ) × (areas ≡ areas_of c blocks)
 answered machine c d s Everything log areas found = (touched c d 0 (mark s log) log, cc)
 answered machine c d s (From id) log areas found =
-    (touched c d (numbered_place d id.seq log) (mark s log) log, sym (ok_part (accepts machine d s id log) (touched_areas c d (numbered_place d id.seq log) (mark s log) log) areas (in_force machine d log) found))
+    (touched c d (unwrap_or (mark_of_id machine d id log) 0) (mark s log) log, sym (ok_part (accepts machine d s id log) (touched_areas c d (unwrap_or (mark_of_id machine d id log) 0) (mark s log) log) areas (in_force machine d log) found))
 
 kept : (machine c d s : ℕ) (since : Since) (log : List Entry) (areas : List Run) → c < 2 ^ 64 → changed_areas machine c d s since log ≡ Ok areas → Kept 0 c areas
 kept machine c d s since log areas fits found =

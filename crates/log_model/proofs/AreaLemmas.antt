@@ -1,12 +1,10 @@
 -- The next area from a sector on, found sector by sector.
-use Rattle.std.proofs.Common.{◌≡◌, ℕ, ◌+◌, ◌-◌, ◌/◌, ◌<◌, ◌≤◌, List, [], ◌∷◌, Bool, true, false, cond, ◌&&◌, ◌||◌, ltb, nat_eq, Option, Some, None, refl, sym, ap, subst, ◌∙◌, arith, ◌⊎◌, inl, inr}
-use Rattle.std.specs.List.{list_any, cons_option, range_with_len, AllByRecursion}
+use Rattle.std.proofs.Common.{◌≡◌, ℕ, ◌+◌, ◌/◌, ◌<◌, ◌≤◌, List, [], ◌∷◌, Bool, true, false, ◌&&◌, ◌||◌, nat_eq, Option, Some, None, refl, ap, ◌∙◌, arith}
+use Rattle.std.specs.List.{list_any, cons_option, range_with_len}
 use Rattle.std.specs.Option.{option_map_or}
-use Rattle.std.proofs.lemmas.Bool.{lt-ltb, le-ltb, cases_lt, ltb-true, ltb-false, false≢true}
-use Rattle.std.proofs.lemmas.Option.{none-some, same_Some}
+use Rattle.std.proofs.lemmas.Bool.{lt-ltb, le-ltb}
 use Rattle.sector_model.specs.Disk.{Write as Replacement}
-use Rattle.sector_model.specs.Run.{end_of, from_sector, next_run, in_runs, in_blocks, areas_of, touched_blocks, touches, block_count, AreSpacedFrom}
-use Rattle.sector_model.specs.Page.{areas_from}
+use Rattle.sector_model.specs.Run.{in_runs, in_blocks, areas_of, touched_blocks, touches, block_count}
 use Rattle.sector_model.specs.declared.run.Run.{Run}
 use Rattle.sector_model.proofs.Exact.{in_runs_of}
 use Rattle.log_model.specs.declared.entry.Entry.{Entry}

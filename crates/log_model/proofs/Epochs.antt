@@ -1,10 +1,10 @@
 -- Epochs and numbers over a part of a log in which a disk is reset or isn't, and the entry at a mark.
-use Rattle.std.proofs.Common.{◌≡◌, ℕ, zero, suc, ◌+◌, ◌*◌, ◌^◌, ◌<◌, ◌≤◌, List, [], ◌∷◌, ◌++◌, length, take, drop, Bool, true, false, cond, not, ◌&&◌, ◌||◌, ◌==◌, eqb, Option, Some, None, unwrap_or, subst, sym, ap, refl, ◌∙◌, arith, inl, inr, length-append}
+use Rattle.std.proofs.Common.{◌≡◌, ℕ, ◌+◌, ◌*◌, ◌^◌, ◌≤◌, List, ◌++◌, length, take, drop, Bool, true, false, cond, eqb, Option, Some, None, unwrap_or, subst, sym, ap, refl, ◌∙◌, arith, length-append}
 use Rattle.std.specs.List.{fold, slice_get}
-use Rattle.std.proofs.lemmas.Bool.{eqb-true, eqb-false, eq-eqb, ne_eqb, le-leb, false≢true}
+use Rattle.std.proofs.lemmas.Bool.{eqb-false, ne_eqb, false≢true}
 use Rattle.std.proofs.lemmas.Option.{same_Some, none-some, slice_get_within, get_or_from_slice_get}
 use Rattle.std.proofs.lemmas.List.{take-append-le, take-append-drop, take-take}
-use Rattle.std.proofs.lemmas.List.Sums.{fold-append, sum_by-cons, sum_by-take-le, sum_by-take-drop, passes_at_first}
+use Rattle.std.proofs.lemmas.List.Sums.{fold-append, sum_by-take-le, sum_by-take-drop, passes_at_first}
 use Rattle.change_id.specs.ChangeId.{packed}
 use Rattle.change_id.specs.declared.ChangeId.{ChangeId}
 use Rattle.sector_model.proofs.ItemAt.{slice_get-front}
@@ -12,7 +12,7 @@ use Rattle.log_model.specs.declared.entry.Act.{Act}
 use Rattle.log_model.specs.declared.entry.Act.TheVariants.{Write, Snap, Remove, Reset, Enable, Off, On}
 use Rattle.log_model.specs.declared.entry.Entry.{Entry}
 use Rattle.log_model.specs.Entry.{is_snap, takes, resets}
-use Rattle.log_model.specs.Marks.{mark, through, epoch, counted, counted_after, number, in_force, id_at}
+use Rattle.log_model.specs.Marks.{mark, epoch, counted, counted_after, number, in_force}
 use Rattle.log_model.specs.Laws.{GivesNumber}
 use Rattle.log_model.proofs.NumberLaws.{epoch-append, number-rises}
 

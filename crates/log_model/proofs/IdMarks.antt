@@ -1,16 +1,16 @@
 -- From an identifier to the mark of the snapshot that has it.
-use Rattle.std.proofs.Common.{◌≡◌, ℕ, zero, suc, ◌+◌, ◌<◌, ◌≤◌, List, [], ◌∷◌, ◌++◌, length, take, Bool, true, false, cond, ◌&&◌, ◌==◌, eqb, Option, Some, None, subst, sym, ap, refl, ◌∙◌, arith, inl, inr, add-one, length-append, length-take}
-use Rattle.std.specs.List.{find, range_with_len, slice_get}
+use Rattle.std.proofs.Common.{◌≡◌, ℕ, zero, suc, ◌+◌, ◌<◌, ◌≤◌, List, [], ◌∷◌, ◌++◌, length, take, Bool, true, false, cond, ◌&&◌, ◌==◌, eqb, Some, None, subst, sym, ap, refl, ◌∙◌, arith, inl, inr, add-one, length-append, length-take}
+use Rattle.std.specs.List.{find, range_with_len}
 use Rattle.std.proofs.lemmas.Bool.{cases_eq, eqb-true, eqb-false, eq-eqb, false≢true}
 use Rattle.std.proofs.lemmas.Option.{same_Some, none-some}
-use Rattle.std.proofs.lemmas.List.{take-append-le, take-take, take_all}
+use Rattle.std.proofs.lemmas.List.{take-append-le, take-take}
 use Rattle.change_id.specs.ChangeId.{packed}
 use Rattle.change_id.specs.declared.ChangeId.{ChangeId}
 use Rattle.sector_model.proofs.ItemAt.{slice_get-front, slice_get-take}
 use Rattle.log_model.specs.declared.entry.Entry.{Entry}
 use Rattle.log_model.specs.Entry.{is_snap, is_enable, resets}
-use Rattle.log_model.specs.Marks.{mark, through, epoch, counted, number, in_force, id_at, is_id, mark_of_id, HasId}
-use Rattle.log_model.specs.Laws.{GivesNumber, MarksOfIds}
+use Rattle.log_model.specs.Marks.{mark, epoch, counted, number, in_force, is_id, mark_of_id, HasId}
+use Rattle.log_model.specs.Laws.{MarksOfIds}
 use Rattle.log_model.proofs.Last.{at_place}
 use Rattle.log_model.proofs.FoldLemmas.{find-range_at}
 use Rattle.log_model.proofs.NumberLaws.{once, epoch-last, not_started}

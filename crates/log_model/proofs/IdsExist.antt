@@ -1,5 +1,5 @@
 -- When a snapshot has an identifier.
-use Rattle.std.proofs.Common.{◌≡◌, ℕ, ◌+◌, ◌<◌, ◌≤◌, List, [], ◌∷◌, ◌++◌, length, take, Bool, true, false, cond, ◌||◌, eqb, Option, Some, None, is_some, unwrap_or, subst, sym, ap, refl, ◌∙◌, arith, add-one}
+use Rattle.std.proofs.Common.{◌≡◌, ℕ, ◌+◌, ◌≤◌, List, [], ◌∷◌, ◌++◌, take, Bool, true, false, cond, ◌||◌, eqb, Option, Some, None, is_some, unwrap_or, subst, sym, ap, refl, ◌∙◌, arith, add-one}
 use Rattle.std.proofs.lemmas.Bool.{false≢true}
 use Rattle.std.proofs.lemmas.List.Sums.{fold-append}
 use Rattle.change_id.specs.ChangeId.{packed}
@@ -11,7 +11,7 @@ use Rattle.log_model.specs.declared.folds.Tracking.{Tracking}
 use Rattle.log_model.specs.declared.folds.Tracking.TheVariants.{Never, Enabled, Active}
 use Rattle.log_model.specs.Entry.{is_snap, is_enable, is_on, resets}
 use Rattle.log_model.specs.Legal.{is_enabled, enabled_after}
-use Rattle.log_model.specs.Marks.{mark, before, through, epoch, counted, counted_after, number, tracking, tracking_after, in_force, id_at}
+use Rattle.log_model.specs.Marks.{mark, before, through, epoch, counted, counted_after, number, tracking, tracking_after, in_force}
 use Rattle.log_model.specs.Laws.{SnapshotsHaveIds, NextHasId, ActiveIsEnabled}
 use Rattle.log_model.proofs.Last.{by_last, at_place}
 use Rattle.log_model.proofs.NumberLaws.{counted-last}

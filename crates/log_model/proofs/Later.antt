@@ -8,7 +8,7 @@ use Rattle.log_model.specs.declared.entry.Entry.{Entry}
 use Rattle.log_model.specs.Entry.{takes, is_snap, is_enable, resets, contents}
 use Rattle.log_model.specs.Marks.{mark, before, through, epoch, counted, number, in_force}
 use Rattle.log_model.specs.Frozen.{last_off}
-use Rattle.log_model.specs.Query.{numbered_place}
+use Rattle.log_model.specs.PlainMachine.{numbered_place}
 use Rattle.log_model.specs.Laws.{GivesNumber, NumberedPlaceGives, LaterEntriesKeep}
 use Rattle.log_model.proofs.Last.{at_place}
 use Rattle.log_model.proofs.NumberLaws.{numbers_have_no_gap, epoch-last, number-last, not_started}

@@ -1,11 +1,11 @@
 -- What later entries leave of the places before them.
-use Rattle.std.proofs.Common.{◌≡◌, ℕ, ◌+◌, ◌≤◌, List, ◌++◌, length, take, drop, sym, ap, ◌∙◌, arith}
+use Rattle.std.proofs.Common.{◌≡◌, ℕ, List, ◌++◌, take, drop, ap, arith}
 use Rattle.std.proofs.lemmas.List.{take-append-le}
 use Rattle.sector_model.specs.Run.{touched_blocks}
 use Rattle.log_model.specs.declared.entry.Entry.{Entry}
 use Rattle.log_model.specs.Entry.{writes_of, contents}
 use Rattle.log_model.specs.Marks.{epoch}
-use Rattle.log_model.specs.Laws.{PlacesKeep, LaterEntriesKeepPlaces}
+use Rattle.log_model.specs.Laws.{LaterEntriesKeepPlaces}
 use Rattle.log_model.proofs.NumberLaws.{epoch-append}
 use Rattle.log_model.proofs.Epochs.{epoch-le}
 

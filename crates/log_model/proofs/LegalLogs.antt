@@ -8,7 +8,7 @@ use Rattle.std.proofs.Math.Seq.{take-append_seam}
 use Rattle.log_model.specs.declared.entry.Act.{Act}
 use Rattle.log_model.specs.declared.entry.Act.TheVariants.{Write, Snap, Remove, Reset, Enable, Off, On}
 use Rattle.log_model.specs.declared.entry.Entry.{Entry}
-use Rattle.log_model.specs.Legal.{Disks, all_of, only, HasDisk, LiesOn, MayName, Legal, MayStand, ActMayStand, WriteMayStand, capacity_of}
+use Rattle.log_model.specs.Legal.{Disks, all_of, only, HasDisk, Legal, MayStand, ActMayStand, capacity_of}
 use Rattle.log_model.specs.Laws.{PrefixesAreLegal, LegalGrows, LegalGrew, LegalForEachDisk}
 use Rattle.sector_model.proofs.ItemAt.{slice_get-front, slice_get-take}
 use Rattle.log_model.proofs.Last.{slice_get-last}

@@ -1,14 +1,14 @@
 -- A live snapshot was taken, and one of a migration stays live while nothing under the number 1 follows.
 use Rattle.std.proofs.Common.{◌≡◌, ℕ, ◌+◌, ◌<◌, ◌≤◌, List, [], ◌∷◌, ◌++◌, length, Bool, true, false, cond, not, ◌&&◌, ◌||◌, eqb, Option, Some, None, subst, sym, ap, refl, ◌∙◌, arith, append_assoc, length-append}
 use Rattle.std.specs.List.{filter, list_any}
-use Rattle.std.proofs.lemmas.Bool.{eqb-true, eq-eqb, ne_eqb, false≢true}
+use Rattle.std.proofs.lemmas.Bool.{eqb-true, eq-eqb, false≢true}
 use Rattle.std.proofs.lemmas.Option.{none-some, same_Some}
 use Rattle.std.proofs.lemmas.List.{append-nil}
 use Rattle.std.proofs.lemmas.List.Folds.{position_or_len_push, list_any-append}
 use Rattle.std.proofs.lemmas.List.Sums.{prefix_len-le-length}
 use Rattle.log_model.specs.declared.entry.TheConstants.{MIGRATION_CALLER}
 use Rattle.log_model.specs.declared.entry.Owner.{Owner}
-use Rattle.log_model.specs.declared.entry.Owner.TheVariants.{Operator, Migration}
+use Rattle.log_model.specs.declared.entry.Owner.TheVariants.{Migration}
 use Rattle.log_model.specs.declared.entry.Act.{Act}
 use Rattle.log_model.specs.declared.entry.Act.TheVariants.{Write, Snap, Remove, Reset, Enable, Off, On}
 use Rattle.log_model.specs.declared.entry.Entry.{Entry}

@@ -1,6 +1,6 @@
 -- What the definitions say together. Each law is the contract of a public function of laws.rt whose
 -- body does nothing. Laws on legal logs hold for a machine and for one disk alone.
-use Rattle.std.specs.Prelude.{◌≡◌, ℕ, ◌+◌, ◌<◌, ◌≤◌, ◌^◌, List, Bool, [], ◌∷◌, ◌++◌, length, take, drop, slice_get, true, false, ◌||◌, ◌&&◌, ◌⊎◌, ◌↔◌, Option, Some, None, Result, Ok, Err}
+use Rattle.std.specs.Prelude.{◌≡◌, ℕ, ◌+◌, ◌<◌, ◌≤◌, ◌^◌, List, Bool, [], ◌∷◌, ◌++◌, length, take, slice_get, true, false, ◌||◌, ◌&&◌, ◌⊎◌, ◌↔◌, Option, Some, None, Ok, Err}
 use Rattle.std.specs.List.{flat_map, filter, list_any, All}
 use Rattle.sector_model.specs.Run.{in_blocks, end_of, AreSpaced}
 use Rattle.sector_model.specs.Page.{PageContents, areas_from, page_of, ArePages, LiesWithin}
@@ -21,7 +21,8 @@ use Rattle.log_model.specs.Legal.{Disks, all_of, only, HasDisk, Legal, MayStand,
 use Rattle.log_model.specs.Marks.{mark, before, epoch, number, tracking, in_force, id_at, mark_of_id, HasId}
 use Rattle.log_model.specs.Frozen.{frozen, last_off, off_place}
 use Rattle.log_model.specs.Touched.{between, touched, touched_areas}
-use Rattle.log_model.specs.Query.{changed_areas, accepts, numbered_place}
+use Rattle.log_model.specs.Query.{changed_areas, accepts}
+use Rattle.log_model.specs.PlainMachine.{numbered_place}
 use Rattle.log_model.specs.Refusals.{snap_refusal, remove_refusal, power_off_refusal, power_on_refusal, reset_refusal, enable_refusal, write_refusal}
 use Rattle.log_model.specs.Link.{LinkState, IsCall, OnlyReads, FollowsFrom, is_by}
 

@@ -1,8 +1,8 @@
 -- Words of the plain machine's own steps: each says of a log what one pass over it finds. They are
 -- no promise of the crate, but for `plain_state` and `with_entry`, which say what a plain machine
 -- is.
-use Rattle.std.specs.Prelude.{◌≡◌, ℕ, ◌-◌, ◌/◌, List, [], ◌∷◌, ◌++◌, Bool, true, false, nat_le, Option, Some, None, unwrap_or, slice_get, Result, Ok, Err, if◌then◌else◌}
-use Rattle.std.specs.List.{fold, list_any, filter}
+use Rattle.std.specs.Prelude.{◌≡◌, ℕ, ◌+◌, ◌-◌, ◌/◌, ◌==◌, ◌&&◌, length, take, List, [], ◌∷◌, ◌++◌, Bool, true, false, nat_le, Option, Some, None, unwrap_or, slice_get, Result, Ok, Err, if◌then◌else◌}
+use Rattle.std.specs.List.{fold, find, list_any, filter, range_with_len}
 use Rattle.std.specs.Option.{option_map_or}
 use Rattle.sector_model.specs.Disk.{Write as Replacement}
 use Rattle.sector_model.specs.Run.{touches}
@@ -11,6 +11,7 @@ use Rattle.sector_model.specs.declared.run.TheConstants.{BLOCK_SECTORS}
 use Rattle.sector_model.specs.declared.sector.Sector.{Sector}
 use Rattle.log_model.specs.declared.entry.Entry.{Entry}
 use Rattle.log_model.specs.Entry.{write_to}
+use Rattle.log_model.specs.Marks.{epoch, number}
 use Rattle.log_model.specs.Link.{LinkState, is_by}
 
 -- a sector after a write, if it is one to the disk
@@ -34,6 +35,14 @@ entry_touches disk sector e =
 -- an entry of the log does
 abbrev pub is_touched : (disk sector : ℕ) → List Entry → Bool
 is_touched disk sector log = list_any (entry_touches disk sector) log
+
+-- the place whose entry gives the disk this number in the epoch that it has now: for an identifier
+-- that is accepted, the mark of the snapshot that has it
+abbrev pub numbered_place : (disk seq : ℕ) → List Entry → ℕ
+numbered_place disk seq log =
+    unwrap_or (find (λ k. epoch disk (take (k + 1) log) == epoch disk log
+    && number disk (take (k + 1) log) == seq)
+    (range_with_len 0 (length log))) (length log)
 
 -- the entry stands behind the others where the call is accepted; else all is as it was
 abbrev pub Appends : {T E : Type 0} → Result T E → Entry → (old new : List Entry) → Type 0

@@ -1,14 +1,13 @@
 -- What a query answers. An identifier is accepted only while its epoch lasts, since a reset forgets
 -- what changed before it.
-use Rattle.std.specs.Prelude.{ℕ, ◌+◌, ◌==◌, List, length, take, Bool, ◌&&◌, nat_le, Option, unwrap_or, Result, Ok, Err, if◌then◌else◌}
-use Rattle.std.specs.List.{find, range_with_len}
+use Rattle.std.specs.Prelude.{ℕ, ◌==◌, List, Bool, ◌&&◌, nat_le, Option, unwrap_or, Result, Ok, Err, if◌then◌else◌}
 use Rattle.sector_model.specs.declared.run.Run.{Run}
 use Rattle.change_id.specs.ChangeId.{packed}
 use Rattle.change_id.specs.declared.ChangeId.{ChangeId}
 use Rattle.change_id.specs.declared.Since.{Since}
 use Rattle.change_id.specs.declared.Since.TheVariants.{All, From}
 use Rattle.log_model.specs.declared.entry.Entry.{Entry}
-use Rattle.log_model.specs.Marks.{mark, before, through, epoch, number, in_force}
+use Rattle.log_model.specs.Marks.{mark, before, through, epoch, number, in_force, mark_of_id}
 use Rattle.log_model.specs.Touched.{touched_areas}
 
 -- a query of the snapshot accepts the identifier for the disk: its UUID is that of the epoch of the
@@ -19,13 +18,6 @@ accepts machine disk snapshot id log =
     && epoch disk (before snapshot log) == epoch disk log
     && nat_le 1 id.seq && nat_le id.seq (number disk (through snapshot log))
 
--- the place whose entry gives the disk this number in the epoch that it has now
-abbrev pub numbered_place : (disk seq : ℕ) → List Entry → ℕ
-numbered_place disk seq log =
-    unwrap_or (find (λ k. epoch disk (take (k + 1) log) == epoch disk log
-    && number disk (take (k + 1) log) == seq)
-    (range_with_len 0 (length log))) (length log)
-
 -- the areas of the disk that changed up to the snapshot since the identifier, or since the
 -- beginning; an identifier that isn't accepted is strange, which tells the one in force
 abbrev pub changed_areas : (machine capacity disk snapshot : ℕ) → Since → List Entry
@@ -34,5 +26,6 @@ changed_areas machine capacity disk snapshot All log =
     Ok (touched_areas capacity disk 0 (mark snapshot log) log)
 changed_areas machine capacity disk snapshot (From id) log =
     if accepts machine disk snapshot id log
-    then Ok (touched_areas capacity disk (numbered_place disk id.seq log) (mark snapshot log) log)
+    then Ok (touched_areas capacity disk (unwrap_or (mark_of_id machine disk id log) 0)
+    (mark snapshot log) log)
     else Err (in_force machine disk log)

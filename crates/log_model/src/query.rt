@@ -7,9 +7,9 @@ ghost use Rattle.log_model.specs.Entry.{writes_of};
 ghost use Rattle.log_model.specs.Legal.{capacity_of};
 ghost use Rattle.log_model.specs.Marks.{mark, before, through, in_force};
 ghost use Rattle.log_model.specs.Touched.{between, touched_areas};
-ghost use Rattle.log_model.specs.Query.{changed_areas, accepts, numbered_place};
+ghost use Rattle.log_model.specs.Query.{changed_areas, accepts};
 ghost use Rattle.log_model.specs.Refusals.{is_known, is_within};
-ghost use Rattle.log_model.specs.PlainMachine.{sector_after, sector_at, entry_touches, is_touched};
+ghost use Rattle.log_model.specs.PlainMachine.{numbered_place, sector_after, sector_at, entry_touches, is_touched};
 
 use crate::folds::{epoch, mark, number};
 use crate::{Act, Entry, LinkRefused};

@@ -1,4 +1,4 @@
-ghost use Rattle.std.specs.Prelude.{◌≡◌, ◌∷◌, [], Some, None, Ok, Err, true, false, take};
+ghost use Rattle.std.specs.Prelude.{◌≡◌, ◌∷◌, [], Some, None, Ok, Err, true, false, take, IfOk};
 ghost use Rattle.sector_model.specs.Sector.{filled, zero_sector};
 ghost use Rattle.log_model.specs.declared.entry.Owner.{Owner};
 ghost use Rattle.log_model.specs.declared.entry.Act.{Act};
@@ -69,7 +69,9 @@ fn id(resets: u64, seq: u64) -> ChangeId {
 }
 
 /// A machine with the number 1 and one disk, for a caller of this number.
-fn machine(alloc: Global, capacity: u64, caller: u32) -> Result<PlainMachine, Fail> {
+fn machine(alloc: Global, capacity: u64, caller: u32) -> Result<PlainMachine, Fail>
+    ensures { IfOk result (λ made. made.caller ≡ caller) }
+{
     Ok(PlainMachine::new(alloc, 1, &[capacity], caller)?)
 }
 
@@ -162,16 +164,18 @@ fn a_snapshot_keeps_what_it_froze_until_it_is_removed(rt: HostRuntime) -> Result
 fn each_refusal_comes_with_its_cause(rt: HostRuntime) -> Result<(), Fail> {
     let alloc = rt.alloc();
     let mut link = machine(alloc, 256, 1)?;
-    let owner = Owner::Migration(7);
-    assert_eq!(rt; link.snap(owner, true), Err(LinkRefused::Running));
+    assert_eq!(rt; link.snap(OPERATOR, true), Err(LinkRefused::Running));
     assert_eq!(rt; link.power_on(), Err(LinkRefused::AlreadyOn));
     assert_eq!(rt; link.power_off()?, 0);
     assert_eq!(rt; link.power_off(), Err(LinkRefused::AlreadyOff));
     let write_off = link.write(3, 0, 0, &[Sector::filled(1)]);
     assert_eq!(rt; write_off, Err(WriteRefused::Off));
-    let last = link.snap(owner, true)?;
+    let last = link.snap(OPERATOR, true)?;
     assert_eq!(rt; last.off_place, Some(0));
-    assert_eq!(rt; link.remove(OPERATOR, last.id), Err(LinkRefused::Owned));
+    assert_eq!(rt;
+        link.remove(Owner::Migration(7), last.id),
+        Err(LinkRefused::Owned)
+    );
     assert_eq!(rt; link.reset(1), Err(LinkRefused::Range));
     link.enable()?;
     assert_eq!(rt; link.enable(), Err(LinkRefused::AlreadyEnabled));
@@ -187,6 +191,15 @@ fn each_refusal_comes_with_its_cause(rt: HostRuntime) -> Result<(), Fail> {
 fn power_cycle<L: Link>(link: &mut L) -> Result<u64, LinkRefused> {
     link.power_off()?;
     link.power_on()
+}
+
+#[test]
+fn a_migration_s_snapshot_isn_t_the_operator_s(rt: HostRuntime) -> Result<(), Fail> {
+    let mut link = machine(rt.alloc(), 256, 1)?;
+    let snapped = link.snap(Owner::Migration(7), false)?;
+    assert_eq!(rt; link.remove(OPERATOR, snapped.id), Err(LinkRefused::Owned));
+    assert_eq!(rt; link.owned_from(Owner::Migration(7), 0), Some(1));
+    Ok(())
 }
 
 #[test]

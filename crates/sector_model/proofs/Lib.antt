@@ -7,6 +7,7 @@ pub mod Exact
 pub mod NextRun
 pub mod PageLaws
 pub mod PageWithin
+pub mod PageSectors
 pub mod PageFilled
 pub mod Touched
 pub mod Volumes

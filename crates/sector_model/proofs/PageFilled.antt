@@ -5,6 +5,7 @@ use Rattle.std.proofs.lemmas.List.{take_all, take-append-le, append-nil}
 use Rattle.std.proofs.Math.ListN.{get_or-append}
 use Rattle.sector_model.specs.Run.{end_of}
 use Rattle.sector_model.specs.Page.{PageContents, areas_from, page_of, page_end}
+use Rattle.sector_model.specs.declared.page.TheConstants.{PAGE_AREAS}
 use Rattle.sector_model.specs.declared.run.Run.{Run}
 
 pub get_or-pushed : (xs : List Run) (r d : Run) → get_or (xs ++ r ∷ []) (length xs) d ≡ r
@@ -21,29 +22,29 @@ page_is : (start covered other : ℕ) (areas others : List Run) → covered ≡ 
 page_is start covered other areas others same told = ap (λ n. record { start = start; covered = n; areas = areas }) same ∙ ap (λ xs. record { start = start; covered = other; areas = xs }) told
 
 -- 1,024 areas, behind which more follow
-pub full_page : (c start at : ℕ) (areas told more : List Run) (r : Run) → areas_from start areas ≡ told ++ r ∷ more → length told ≡ 1024
+pub full_page : (c start at : ℕ) (areas told more : List Run) (r : Run) → areas_from start areas ≡ told ++ r ∷ more → length told ≡ PAGE_AREAS
     → ((d : Run) → 0 < length told → end_of (get_or told (length told - 1) d) ≡ at)
     → record { start = start; covered = at - start; areas = told } ≡ page_of c areas start
 full_page c start at areas told more r all long ended =
     let rest : List Run = areas_from start areas in
-    let more_than : 1024 < length rest = omega (arith, ap length all, length-append told (r ∷ more)) in
+    let more_than : PAGE_AREAS < length rest = omega (arith, ap length all, length-append told (r ∷ more)) in
     let zero_run : Run = record { first = 0; count = 0 } in
-    let inside : 1023 < length told = omega arith in
-    let last : 1023 ≡ length told - 1 = omega arith in
-    let le : 1024 ≤ length told = omega arith in
+    let inside : (PAGE_AREAS - 1) < length told = omega arith in
+    let last : (PAGE_AREAS - 1) ≡ length told - 1 = omega arith in
+    let le : PAGE_AREAS ≤ length told = omega arith in
     let ends : page_end c rest ≡ at =
-    ap (λ b. cond b (end_of (get_or rest 1023 zero_run)) c) (lt-ltb 1024 (length rest) more_than)
-    ∙ ap (λ xs. end_of (get_or xs 1023 zero_run)) all ∙ ap end_of (get_or-append told (r ∷ more) zero_run 1023 inside) ∙ ap (λ i. end_of (get_or told i zero_run)) last ∙ ended zero_run (omega arith) in
-    let front : take 1024 rest ≡ told = ap (take 1024) all ∙ take-append-le 1024 told (r ∷ more) le ∙ take_all 1024 told (omega arith) in
-    page_is start (at - start) (page_end c rest - start) told (take 1024 rest) (ap (λ n. n - start) (sym ends)) (sym front)
+    ap (λ b. cond b (end_of (get_or rest (PAGE_AREAS - 1) zero_run)) c) (lt-ltb PAGE_AREAS (length rest) more_than)
+    ∙ ap (λ xs. end_of (get_or xs (PAGE_AREAS - 1) zero_run)) all ∙ ap end_of (get_or-append told (r ∷ more) zero_run (PAGE_AREAS - 1) inside) ∙ ap (λ i. end_of (get_or told i zero_run)) last ∙ ended zero_run (omega arith) in
+    let front : take PAGE_AREAS rest ≡ told = ap (take PAGE_AREAS) all ∙ take-append-le PAGE_AREAS told (r ∷ more) le ∙ take_all PAGE_AREAS told (omega arith) in
+    page_is start (at - start) (page_end c rest - start) told (take PAGE_AREAS rest) (ap (λ n. n - start) (sym ends)) (sym front)
 
 -- all areas that are left
-pub last_page : (c start : ℕ) (areas told : List Run) → areas_from start areas ≡ told ++ [] → length told ≤ 1024
+pub last_page : (c start : ℕ) (areas told : List Run) → areas_from start areas ≡ told ++ [] → length told ≤ PAGE_AREAS
     → record { start = start; covered = c - start; areas = told } ≡ page_of c areas start
 last_page c start areas told all few =
     let rest : List Run = areas_from start areas in
     let same : rest ≡ told = all ∙ append-nil told in
-    let short : length rest ≤ 1024 = omega (arith, ap length same) in
+    let short : length rest ≤ PAGE_AREAS = omega (arith, ap length same) in
     let zero_run : Run = record { first = 0; count = 0 } in
-    let ends : page_end c rest ≡ c = ap (λ b. cond b (end_of (get_or rest 1023 zero_run)) c) (le-ltb 1024 (length rest) short) in
-    page_is start (c - start) (page_end c rest - start) told (take 1024 rest) (ap (λ n. n - start) (sym ends)) (sym (take_all 1024 rest short ∙ same))
+    let ends : page_end c rest ≡ c = ap (λ b. cond b (end_of (get_or rest (PAGE_AREAS - 1) zero_run)) c) (le-ltb PAGE_AREAS (length rest) short) in
+    page_is start (c - start) (page_end c rest - start) told (take PAGE_AREAS rest) (ap (λ n. n - start) (sym ends)) (sym (take_all PAGE_AREAS rest short ∙ same))

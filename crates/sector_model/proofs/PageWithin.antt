@@ -1,13 +1,14 @@
 -- A page lies between its start and the capacity, and its areas in it.
-use Rattle.std.proofs.Common.{◌≡◌, ℕ, zero, suc, ◌+◌, ◌-◌, ◌^◌, ◌<◌, ◌≤◌, Bool, true, false, cond, ltb, List, [], ◌∷◌, length, get_or, take, refl, sym, ap, subst, arith, inl, inr, length-take}
+use Rattle.std.proofs.Common.{◌≡◌, ℕ, zero, suc, ◌+◌, ◌-◌, ◌^◌, ◌<◌, ◌≤◌, Bool, true, false, cond, ltb, List, [], ◌∷◌, length, get_or, take, refl, sym, subst, arith, inl, inr, length-take}
 use Rattle.std.specs.List.{AllByRecursion, All}
 use Rattle.std.proofs.lemmas.Bool.{ltb-true, ltb-false, cases_lt}
 use Rattle.std.proofs.lemmas.List.Elements.{recursion_from_All, All-from_recursion}
-use Rattle.sector_model.specs.Run.{end_of, from_sector, AreSpacedFrom, AreSpaced}
-use Rattle.sector_model.specs.Page.{PageContents, areas_from, page_of, LiesWithin}
+use Rattle.sector_model.specs.Run.{end_of, AreSpacedFrom, AreSpaced}
+use Rattle.sector_model.specs.Page.{areas_from, page_of, LiesWithin}
 use Rattle.sector_model.specs.declared.run.Run.{Run}
 use Rattle.sector_model.proofs.Spacing.{ends_rise}
-use Rattle.sector_model.proofs.PageLaws.{kept, dropped, clip, areas_from-spaced, ends_behind}
+use Rattle.sector_model.specs.declared.page.TheConstants.{PAGE_AREAS}
+use Rattle.sector_model.proofs.PageLaws.{kept, dropped, areas_from-spaced, ends_behind}
 
 spaced_fits : (m : ℕ) (rs : List Run) → AreSpacedFrom m rs → m ≤ 2 ^ 64
 spaced_fits m [] h = h
@@ -72,28 +73,28 @@ same_default (r ∷ rs) (suc k) x d within e h = same_default rs k x d (omega ar
 pub record Ends (start c e : ℕ) (rs : List Run) : Type 0 where
   pub above : start < e
   pub within : e ≤ c
-  pub areas : AllByRecursion (λ r. end_of r ≤ e) (take 1024 rs)
+  pub areas : AllByRecursion (λ r. end_of r ≤ e) (take PAGE_AREAS rs)
 
-ends_at : (b : Bool) (c start : ℕ) (areas : List Run) → ltb 1024 (length (areas_from start areas)) ≡ b → AreSpaced areas → AllByRecursion (λ r. end_of r ≤ c) areas → start < c
-    → Ends start c (cond b (end_of (get_or (areas_from start areas) 1023 (record { first = 0; count = 0 }))) c) (areas_from start areas)
+ends_at : (b : Bool) (c start : ℕ) (areas : List Run) → ltb PAGE_AREAS (length (areas_from start areas)) ≡ b → AreSpaced areas → AllByRecursion (λ r. end_of r ≤ c) areas → start < c
+    → Ends start c (cond b (end_of (get_or (areas_from start areas) (PAGE_AREAS - 1) (record { first = 0; count = 0 }))) c) (areas_from start areas)
 ends_at true c start areas more spaced ends before =
     let rest = areas_from start areas in
     let d : Run = record { first = 0; count = 0 } in
-    let long : 1024 < length rest = ltb-true 1024 (length rest) more in
+    let long : PAGE_AREAS < length rest = ltb-true PAGE_AREAS (length rest) more in
     let spaced_rest : AreSpaced rest = areas_from-spaced 0 start areas spaced in
     let inside = seconds (λ q. start ≤ q.first) (λ q. end_of q ≤ c) rest (areas_from-inside c start areas ends) in
     record {
-      above = ends_behind start areas 1023 d (omega arith);
-      within = all_at c rest 1023 d (omega arith) inside;
-      areas = ends-take 1024 rest (end_of (get_or rest 1023 d))
-          (λ k x less within. let rise = ends_rise 0 rest spaced_rest k 1023 d (omega arith) (omega arith) in same_default rest k x d within _ rise);
+      above = ends_behind start areas (PAGE_AREAS - 1) d (omega arith);
+      within = all_at c rest (PAGE_AREAS - 1) d (omega arith) inside;
+      areas = ends-take PAGE_AREAS rest (end_of (get_or rest (PAGE_AREAS - 1) d))
+          (λ k x less within. let rise = ends_rise 0 rest spaced_rest k (PAGE_AREAS - 1) d (omega arith) (omega arith) in same_default rest k x d within _ rise);
     }
 ends_at false c start areas few spaced ends before =
     let rest = areas_from start areas in
     record {
       above = before;
       within = omega arith;
-      areas = each-take (λ q. end_of q ≤ c) 1024 rest (seconds (λ q. start ≤ q.first) (λ q. end_of q ≤ c) rest (areas_from-inside c start areas ends));
+      areas = each-take (λ q. end_of q ≤ c) PAGE_AREAS rest (seconds (λ q. start ≤ q.first) (λ q. end_of q ≤ c) rest (areas_from-inside c start areas ends));
     }
 
 pub page_lies_within : (c : ℕ) (areas : List Run) (start : ℕ) → AreSpaced areas → All (λ r. end_of r ≤ c) areas → start < c → LiesWithin c (page_of c areas start)
@@ -101,12 +102,12 @@ page_lies_within c areas start spaced all before =
     let ends = recursion_from_All (λ r. end_of r ≤ c) areas all in
     let rest = areas_from start areas in
     let e : ℕ = start + (page_of c areas start).covered in
-    let h = ends_at (ltb 1024 (length rest)) c start areas refl spaced ends before in
+    let h = ends_at (ltb PAGE_AREAS (length rest)) c start areas refl spaced ends before in
     record {
       some = omega (arith, h.above);
       within = omega (arith, h.above, h.within);
-      few = omega (arith, length-take 1024 rest);
-      spaced = spaced-take 0 1024 rest (areas_from-spaced 0 start areas spaced);
-      begin_inside = All-from_recursion (λ r. start ≤ r.first) (take 1024 rest) (each-take (λ r. start ≤ r.first) 1024 rest (firsts (λ q. start ≤ q.first) (λ q. end_of q ≤ c) rest (areas_from-inside c start areas ends)));
-      end_inside = All-from_recursion (λ r. end_of r ≤ e) (take 1024 rest) (loosened _ e (take 1024 rest) (omega (arith, h.above)) h.areas);
+      few = omega (arith, length-take PAGE_AREAS rest);
+      spaced = spaced-take 0 PAGE_AREAS rest (areas_from-spaced 0 start areas spaced);
+      begin_inside = All-from_recursion (λ r. start ≤ r.first) (take PAGE_AREAS rest) (each-take (λ r. start ≤ r.first) PAGE_AREAS rest (firsts (λ q. start ≤ q.first) (λ q. end_of q ≤ c) rest (areas_from-inside c start areas ends)));
+      end_inside = All-from_recursion (λ r. end_of r ≤ e) (take PAGE_AREAS rest) (loosened _ e (take PAGE_AREAS rest) (omega (arith, h.above)) h.areas);
     }

@@ -1,10 +1,11 @@
 -- A list with a range replaced, item by item; and one sector of a disk after a write, and after several.
-use Rattle.std.proofs.Common.{◌≡◌, ℕ, zero, suc, ◌+◌, ◌-◌, ◌*◌, ◌/◌, ◌<◌, ◌≤◌, List, [], ◌∷◌, ◌++◌, length, take, drop, Bool, true, false, ◌||◌, min, max, ap, refl, ◌∙◌, arith, length-append, length-take, length-drop, ◌⊎◌, inl, inr}
+use Rattle.std.proofs.Common.{◌≡◌, ℕ, ◌+◌, ◌-◌, ◌*◌, ◌/◌, ◌<◌, ◌≤◌, List, [], ◌∷◌, ◌++◌, length, take, drop, Bool, true, false, ◌||◌, min, max, ap, refl, ◌∙◌, arith, length-append, length-take, length-drop, ◌⊎◌, inl, inr}
 use Rattle.std.specs.List.{fold, slice_get, list_any, AllByRecursion}
 use Rattle.std.proofs.lemmas.Bool.{ltb-false, cases_lt}
 use Rattle.sector_model.specs.Disk.{Write, Fits, replaced, after_write}
 use Rattle.sector_model.specs.Run.{touches}
 use Rattle.sector_model.specs.declared.sector.Sector.{Sector}
+use Rattle.sector_model.specs.declared.run.TheConstants.{BLOCK_SECTORS}
 use Rattle.sector_model.proofs.ItemAt.{slice_get-front, slice_get-back, slice_get-take, slice_get-drop}
 
 module _ {X : Type 0} (xs ys : List X) (first : ℕ) (fits : first + length ys ≤ length xs) where
@@ -41,9 +42,9 @@ module _ {X : Type 0} (xs ys : List X) (first : ℕ) (fits : first + length ys �
   replaced-outside s (inr past) = replaced-behind s past
 
 -- a write that touches nothing of a sector's block lies before or behind the sector
-pub misses : (s : ℕ) (w : Write) → touches (s / 128) w ≡ false → (s < w.first) ⊎ (w.first + length w.sectors ≤ s)
+pub misses : (s : ℕ) (w : Write) → touches (s / BLOCK_SECTORS) w ≡ false → (s < w.first) ⊎ (w.first + length w.sectors ≤ s)
 misses s w apart =
-    let bound : min (128 * (s / 128) + 128) (w.first + length w.sectors) ≤ max (128 * (s / 128)) w.first = ltb-false (max (128 * (s / 128)) w.first) (min (128 * (s / 128) + 128) (w.first + length w.sectors)) apart in
+    let bound : min (128 * (s / BLOCK_SECTORS) + 128) (w.first + length w.sectors) ≤ max (128 * (s / BLOCK_SECTORS)) w.first = ltb-false (max (128 * (s / BLOCK_SECTORS)) w.first) (min (128 * (s / BLOCK_SECTORS) + 128) (w.first + length w.sectors)) apart in
     elim (cases_lt s w.first) [ inl less ↦ inl less | inr from ↦ inr (omega arith) ]
 
 or_left : (a b : Bool) → (a || b) ≡ false → a ≡ false
@@ -60,10 +61,10 @@ length-after_writes c disk (w ∷ ws) long fit =
     length-after_writes c (after_write disk w) ws (length-replaced disk w.sectors w.first (omega (arith, long, fit.0)) ∙ long) fit.1
 
 -- writes that touch nothing of a sector's block leave the sector
-pub untouched : (c : ℕ) (disk : List Sector) (ws : List Write) (s : ℕ) → length disk ≡ c → AllByRecursion (Fits c) ws → list_any (touches (s / 128)) ws ≡ false
+pub untouched : (c : ℕ) (disk : List Sector) (ws : List Write) (s : ℕ) → length disk ≡ c → AllByRecursion (Fits c) ws → list_any (touches (s / BLOCK_SECTORS)) ws ≡ false
     → slice_get (fold after_write disk ws) s ≡ slice_get disk s
 untouched c disk [] s long fit none = refl
 untouched c disk (w ∷ ws) s long fit none =
     let within : w.first + length w.sectors ≤ length disk = omega (arith, long, fit.0) in
-    untouched c (after_write disk w) ws s (length-replaced disk w.sectors w.first within ∙ long) fit.1 (or_right (touches (s / 128) w) (list_any (touches (s / 128)) ws) none)
-    ∙ replaced-outside disk w.sectors w.first within s (misses s w (or_left (touches (s / 128) w) (list_any (touches (s / 128)) ws) none))
+    untouched c (after_write disk w) ws s (length-replaced disk w.sectors w.first within ∙ long) fit.1 (or_right (touches (s / BLOCK_SECTORS) w) (list_any (touches (s / BLOCK_SECTORS)) ws) none)
+    ∙ replaced-outside disk w.sectors w.first within s (misses s w (or_left (touches (s / BLOCK_SECTORS) w) (list_any (touches (s / BLOCK_SECTORS)) ws) none))

@@ -9,6 +9,7 @@ use Rattle.std.specs.List.{list_any}
 use Rattle.std.specs.List.Sorted.{IsStrictlyIncreasing}
 use Rattle.sector_model.specs.Run.{end_of, with_sector, with_run, runs_of, in_blocks, in_runs, areas_of, complement_of, AreSpacedFrom}
 use Rattle.sector_model.proofs.Spacing.{none_in_gap, in_first, past_first, from_earlier}
+use Rattle.sector_model.specs.declared.run.TheConstants.{BLOCK_SECTORS}
 use Rattle.sector_model.specs.declared.run.Run.{Run}
 
 pub runs_of-same : (test other : ℕ → Bool) (n : ℕ) → ((s : ℕ) → s < n → test s ≡ other s) → runs_of test n ≡ runs_of other n
@@ -124,8 +125,8 @@ none_of_front (y ∷ xs) (suc i) x below =
     let ne : x ≡ y → ⊥ = λ e. absurd (omega arith) in
     rw (ne_eqb x y ne) (none_of_front xs i x (λ k l w. below (suc k) (omega arith) (omega arith)))
 
-pub areas-more : (blocks : List ℕ) (i b c : ℕ) → IsStrictlyIncreasing blocks → i < length blocks → b ≡ get_or blocks i 0 → 128 * b < c
-    → with_run (areas_of c (take i blocks)) (128 * b) (min 128 (c - 128 * b)) ≡ areas_of c (take (i + 1) blocks)
+pub areas-more : (blocks : List ℕ) (i b c : ℕ) → IsStrictlyIncreasing blocks → i < length blocks → b ≡ get_or blocks i 0 → BLOCK_SECTORS * b < c
+    → with_run (areas_of c (take i blocks)) (BLOCK_SECTORS * b) (min BLOCK_SECTORS (c - BLOCK_SECTORS * b)) ≡ areas_of c (take (i + 1) blocks)
 areas-more blocks i b c rising within read below =
     let joined : (s : ℕ) → in_blocks (take (i + 1) blocks) s ≡ (in_blocks (take i blocks) s || eqb (s / 128) b) =
     λ s. list_any_more (eqb (s / 128)) blocks i 0 within ∙ ap (λ y. in_blocks (take i blocks) s || eqb (s / 128) y) (sym read) in

@@ -5,13 +5,14 @@ use Rattle.std.proofs.Math.Bool.{or-true}
 use Rattle.std.proofs.lemmas.Bool.{cases_eq, eqb-true, eq-eqb}
 use Rattle.std.proofs.lemmas.Map.Views.{any-filter_same}
 use Rattle.sector_model.specs.Disk.{Write, Fits}
+use Rattle.sector_model.specs.declared.run.TheConstants.{BLOCK_SECTORS}
 use Rattle.sector_model.specs.Run.{touches, touched_blocks, block_count, in_blocks}
 
 -- whether sector s is of a touched block: its block is one of the disk's, and a write touches it
-pub in_touched : (c s : ℕ) (ws : List Write) → in_blocks (touched_blocks c ws) s ≡ (list_any (touches (s / 128)) ws && list_any (nat_eq (s / 128)) (range_with_len 0 (block_count c)))
+pub in_touched : (c s : ℕ) (ws : List Write) → in_blocks (touched_blocks c ws) s ≡ (list_any (touches (s / BLOCK_SECTORS)) ws && list_any (nat_eq (s / BLOCK_SECTORS)) (range_with_len 0 (block_count c)))
 in_touched c s ws =
-    any-filter_same (nat_eq (s / 128)) (λ b. list_any (touches b) ws) (list_any (touches (s / 128)) ws)
-    (λ b same. ap (λ x. list_any (touches x) ws) (sym (eqb-true (s / 128) b same))) (range_with_len 0 (block_count c))
+    any-filter_same (nat_eq (s / BLOCK_SECTORS)) (λ b. list_any (touches b) ws) (list_any (touches (s / BLOCK_SECTORS)) ws)
+    (λ b same. ap (λ x. list_any (touches x) ws) (sym (eqb-true (s / BLOCK_SECTORS) b same))) (range_with_len 0 (block_count c))
 
 pub fits-push : (c : ℕ) (xs ys : List Write) → AllByRecursion (Fits c) xs → AllByRecursion (Fits c) ys → AllByRecursion (Fits c) (xs ++ ys)
 fits-push c [] ys h k = k
@@ -33,7 +34,7 @@ any_below b a (suc n) from less =
       | inr other ↦ ap (λ x. nat_eq b a || x) (any_below b (a + 1) n (omega arith) (omega arith)) ∙ or-true (nat_eq b a)
     ]
 
-pub not_touched : (c s : ℕ) (ws : List Write) → s < c → in_blocks (touched_blocks c ws) s ≡ false → list_any (touches (s / 128)) ws ≡ false
+pub not_touched : (c s : ℕ) (ws : List Write) → s < c → in_blocks (touched_blocks c ws) s ≡ false → list_any (touches (s / BLOCK_SECTORS)) ws ≡ false
 not_touched c s ws less none =
-    let inside : s / 128 < 0 + block_count c = omega arith in
-    and_true (list_any (touches (s / 128)) ws) (list_any (nat_eq (s / 128)) (range_with_len 0 (block_count c))) (any_below (s / 128) 0 (block_count c) (omega arith) inside) (sym (in_touched c s ws) ∙ none)
+    let inside : s / BLOCK_SECTORS < 0 + block_count c = omega arith in
+    and_true (list_any (touches (s / BLOCK_SECTORS)) ws) (list_any (nat_eq (s / BLOCK_SECTORS)) (range_with_len 0 (block_count c))) (any_below (s / BLOCK_SECTORS) 0 (block_count c) (omega arith) inside) (sym (in_touched c s ws) ∙ none)

@@ -1,15 +1,17 @@
 -- What a volume holds after a write, a flush, a filling and a failed write.
-use Rattle.std.proofs.Common.{◌≡◌, ℕ, zero, suc, ◌+◌, ◌-◌, ◌<◌, ◌≤◌, List, [], ◌∷◌, ◌++◌, length, take, drop, replicate, Bool, true, false, cond, Some, refl, sym, ap, ◌∙◌, arith, inl, inr, length-take, length-drop, length-append}
+use Rattle.std.proofs.Common.{◌≡◌, ℕ, zero, suc, ◌+◌, ◌-◌, ◌<◌, ◌≤◌, List, [], ◌∷◌, length, replicate, Bool, true, false, cond, leb, ltb, ◌&&◌, ◌||◌, get_or, ◌⊎◌, Option, unwrap_or, Some, refl, sym, ap, ◌∙◌, arith, inl, inr}
 use Rattle.std.specs.List.{slice_get, count_by}
-use Rattle.std.proofs.lemmas.Bool.{cases_lt}
+use Rattle.std.proofs.Math.Bool.{or-true, or-false}
+use Rattle.std.proofs.lemmas.Bool.{cases_lt, le-ltb, lt-ltb, le-leb, lt-leb, and_right}
+use Rattle.std.proofs.lemmas.Option.{unwrap_or-slice_get}
 use Rattle.std.proofs.lemmas.List.{length-replicate}
 use Rattle.std.proofs.lemmas.List.Sums.{sum_by-cons}
 use Rattle.sector_model.specs.Sector.{zero_sector}
 use Rattle.sector_model.specs.Disk.{replaced}
-use Rattle.sector_model.specs.VolumeContents.{VolumeContents, IsSized, IsFlushed, loose_count, volume_written, volume_zeroed, volume_flushed, IsBrokenAt, fill_loose, volume_filled, loose_of, loose_sectors, DiffersOnlyWhereLoose}
-use Rattle.sector_model.specs.Laws.{VolumesKeepTheirSize, IsFilling}
+use Rattle.sector_model.specs.VolumeContents.{VolumeContents, IsSized, IsFlushed, loose_count, volume_written, IsBrokenAt, fill_loose, volume_filled, loose_of, loose_sectors, DiffersOnlyWhereLoose}
+use Rattle.sector_model.specs.Laws.{VolumesKeepTheirSize, IsFilling, DiffersInARow, FlushedIsNoneLoose, LooseThen}
 use Rattle.sector_model.specs.declared.sector.Sector.{Sector}
-use Rattle.sector_model.proofs.ItemAt.{slice_get-front, slice_get-take, slice_get-drop, slice_get-replicate}
+use Rattle.sector_model.proofs.ItemAt.{slice_get-take, slice_get-drop, slice_get-replicate}
 use Rattle.sector_model.proofs.Replaced.{length-replaced, replaced-before, replaced-within, replaced-behind}
 
 -- ---- sizes
@@ -157,3 +159,93 @@ broken_is_written capacity first sectors old new sized fits broken =
       long = broken.long ∙ sized.0 ∙ sym wide.0;
       others = broken_others capacity first sectors old new sized fits broken;
     }
+
+-- ---- fillings in order and in a row
+
+pick : (loose : List Bool) (sectors filling : List Sector) → length loose ≡ length sectors → length filling ≡ count_by (λ loose. loose) loose → loose_of loose (fill_loose loose sectors filling) ≡ filling
+pick [] sectors [] sized long = refl
+pick [] sectors (f ∷ filling) sized long = absurd (omega arith)
+pick (b ∷ loose) [] filling sized long = absurd (omega arith)
+pick (false ∷ loose) (s ∷ sectors) filling sized long =
+    let none = sum_by-cons (λ (b : Bool). cond b 1 0) false loose in pick loose sectors filling (omega arith) (omega (arith, none, long))
+pick (true ∷ loose) (s ∷ sectors) [] sized long =
+    let one = sum_by-cons (λ (b : Bool). cond b 1 0) true loose in absurd (omega (arith, one, long))
+pick (true ∷ loose) (s ∷ sectors) (f ∷ filling) sized long =
+    let one = sum_by-cons (λ (b : Bool). cond b 1 0) true loose in
+    ap (λ (rest : List Sector). f ∷ rest) (pick loose sectors filling (omega arith) (omega (arith, one, long)))
+
+pub fillings_are_read : (capacity : ℕ) (v : VolumeContents) (filling : List Sector) → IsSized capacity v → length filling ≡ loose_count v → loose_sectors (volume_filled filling v) ≡ filling
+fillings_are_read capacity v filling sized long = pick v.loose v.sectors filling (sized.1 ∙ sym sized.0) long
+
+differs-flushed : (capacity : ℕ) (a b : VolumeContents) → IsSized capacity a → IsFlushed a → DiffersOnlyWhereLoose a b → b ≡ a
+differs-flushed capacity a b sized flushed differs = (each_is_a_filling capacity a b sized differs).same ∙ filling_nothing capacity a (loose_sectors b) sized flushed
+
+pub differs_in_a_row : (a b c : VolumeContents) → DiffersInARow a b c
+differs_in_a_row a b c = record {
+  none = record { same_loose = refl; long = refl; others = λ s tight. refl };
+  two = λ first second. record {
+    same_loose = second.same_loose ∙ first.same_loose;
+    long = second.long ∙ first.long;
+    others = λ s tight. second.others s (ap (λ (l : List Bool). slice_get l s) first.same_loose ∙ tight) ∙ first.others s tight;
+  };
+  flushed = λ capacity sized flushed differs. differs-flushed capacity a b sized flushed differs;
+}
+
+-- ---- which sectors are loose
+
+none-counted : (n : ℕ) → count_by (λ loose. loose) (replicate n false) ≡ 0
+none-counted zero = refl
+none-counted (suc n) = let more = none-counted n in let step = sum_by-cons (λ (b : Bool). cond b 1 0) false (replicate n false) in omega (arith, more, step)
+
+counted-none : (loose : List Bool) → count_by (λ loose. loose) loose ≡ 0 → loose ≡ replicate (length loose) false
+counted-none [] none = refl
+counted-none (true ∷ loose) none = let step = sum_by-cons (λ (b : Bool). cond b 1 0) true loose in absurd (omega (arith, step, none))
+counted-none (false ∷ loose) none =
+    let step = sum_by-cons (λ (b : Bool). cond b 1 0) false loose in
+    ap (λ (rest : List Bool). false ∷ rest) (counted-none loose (omega (arith, step, none)))
+
+pub flushed_is_none_loose : (capacity : ℕ) (v : VolumeContents) → IsSized capacity v → FlushedIsNoneLoose capacity v
+flushed_is_none_loose capacity v sized = record {
+  none = λ flushed. ap (λ (l : List Bool). count_by (λ loose. loose) l) flushed ∙ none-counted (length v.sectors);
+  flushed = λ none. counted-none v.loose none ∙ ap (λ n. replicate n false) (sized.1 ∙ sym sized.0);
+  by_flush = ap (λ n. replicate n false) (sized.1 ∙ sym sized.0);
+}
+
+at-default : (xs : List Bool) (s : ℕ) → get_or xs s false ≡ unwrap_or (slice_get xs s) false
+at-default xs s = sym (unwrap_or-slice_get xs s false)
+
+in-range : (first n s : ℕ) → (s < first) ⊎ (first + n ≤ s) → (leb first s && ltb s (first + n)) ≡ false
+in-range first n s (inl less) = ap (λ b. b && ltb s (first + n)) (lt-leb first s less)
+in-range first n s (inr past) = ap (λ b. leb first s && b) (le-ltb s (first + n) past) ∙ and_right (leb first s) false refl
+
+loose-at : (loose : List Bool) (first n s : ℕ) → first + n ≤ length loose → get_or (replaced loose first (replicate n true)) s false ≡ (get_or loose s false || leb first s && ltb s (first + n))
+loose-at loose first n s fits =
+    let k : length (replicate n true) ≡ n = length-replicate n true in
+    let within : first + length (replicate n true) ≤ length loose = omega (arith, k, fits) in
+    elim (cases_lt s first) [
+      | inl less ↦
+          at-default (replaced loose first (replicate n true)) s ∙ ap (λ (o : Option Bool). unwrap_or o false) (replaced-before loose (replicate n true) first within s less) ∙ sym (at-default loose s)
+          ∙ sym (ap (λ b. get_or loose s false || b) (in-range first n s (inl less)) ∙ or-false (get_or loose s false))
+      | inr from ↦ elim (cases_lt s (first + n)) [
+        | inl inside ↦
+            at-default (replaced loose first (replicate n true)) s
+            ∙ ap (λ (o : Option Bool). unwrap_or o false) (replaced-within loose (replicate n true) first within s from (omega (arith, k, inside)) ∙ slice_get-replicate n (s - first) true (omega arith))
+            ∙ sym (ap (λ b. get_or loose s false || b && ltb s (first + n)) (le-leb first s from) ∙ ap (λ b. get_or loose s false || b) (lt-ltb s (first + n) inside) ∙ or-true (get_or loose s false))
+        | inr past ↦
+            at-default (replaced loose first (replicate n true)) s ∙ ap (λ (o : Option Bool). unwrap_or o false) (replaced-behind loose (replicate n true) first within s (omega (arith, k, past))) ∙ sym (at-default loose s)
+            ∙ sym (ap (λ b. get_or loose s false || b) (in-range first n s (inr past)) ∙ or-false (get_or loose s false))
+      ]
+    ]
+
+get_or-none : (n s : ℕ) → get_or (replicate n false) s false ≡ false
+get_or-none zero s = refl
+get_or-none (suc n) zero = refl
+get_or-none (suc n) (suc s) = get_or-none n s
+
+pub loose_then : (capacity : ℕ) (v : VolumeContents) (s : ℕ) → IsSized capacity v → LooseThen capacity v s
+loose_then capacity v s sized = record {
+  written = λ first sectors fits. loose-at v.loose first (length sectors) s (omega (arith, sized.1, fits));
+  flushed = get_or-none (length v.loose) s;
+  filled = λ filling. refl;
+  broken = λ first count new fits broken. ap (λ (l : List Bool). get_or l s false) broken.loose ∙ loose-at v.loose first count s (omega (arith, sized.1, fits));
+}

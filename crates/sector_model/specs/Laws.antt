@@ -1,11 +1,11 @@
 -- What the definitions say together. Each is the contract of a public function of laws.rt whose
 -- body does nothing.
-use Rattle.std.specs.Prelude.{◌≡◌, ℕ, ◌+◌, ◌<◌, ◌≤◌, ◌^◌, List, ◌++◌, length, Bool, ◌&&◌, nat_lt}
+use Rattle.std.specs.Prelude.{◌≡◌, ℕ, ◌+◌, ◌<◌, ◌≤◌, ◌^◌, List, ◌++◌, length, Bool, false, ◌&&◌, ◌||◌, nat_lt, nat_le}
 use Rattle.std.specs.List.{fold, flat_map, All}
 use Rattle.sector_model.specs.Disk.{Write, after_write, fold_writes}
 use Rattle.sector_model.specs.Run.{end_of, in_runs, runs_of, AreSpaced}
 use Rattle.sector_model.specs.Page.{PageContents, areas_from, page_of, ArePages, LiesWithin}
-use Rattle.sector_model.specs.VolumeContents.{VolumeContents, IsSized, IsFlushed, loose_count, volume_written, volume_zeroed, volume_flushed, IsBrokenAt, volume_filled, loose_sectors, DiffersOnlyWhereLoose}
+use Rattle.sector_model.specs.VolumeContents.{VolumeContents, IsSized, IsFlushed, is_loose, loose_count, volume_written, volume_zeroed, volume_flushed, IsBrokenAt, volume_filled, loose_sectors, DiffersOnlyWhereLoose}
 use Rattle.sector_model.specs.declared.run.Run.{Run}
 use Rattle.sector_model.specs.declared.sector.Sector.{Sector}
 
@@ -24,6 +24,10 @@ abbrev pub RunsAreExact : Type 0
 RunsAreExact = (test : ℕ → Bool) (capacity s : ℕ)
     → in_runs (runs_of test capacity) s ≡ (nat_lt s capacity && test s)
 
+abbrev pub RunsEndWithin : Type 0
+RunsEndWithin = (test : ℕ → Bool) (capacity : ℕ)
+    → capacity < 2 ^ 64 → All (λ r. end_of r ≤ capacity) (runs_of test capacity)
+
 -- pages taken from each page's end on tell all areas from the start on, each sector once and in
 -- order
 abbrev pub PagesJoin : Type 0
@@ -37,6 +41,25 @@ abbrev pub PagesLieWithin : Type 0
 PagesLieWithin = (capacity : ℕ) (areas : List Run) (start : ℕ)
     → AreSpaced areas → All (λ r. end_of r ≤ capacity) areas
     → start < capacity → LiesWithin capacity (page_of capacity areas start)
+
+-- the areas from a start on have the areas' sectors from there on, and a page those up to its end
+abbrev pub AreasFromAreExact : Type 0
+AreasFromAreExact = (areas : List Run) (start s : ℕ)
+    → in_runs (areas_from start areas) s ≡ (nat_le start s && in_runs areas s)
+
+abbrev pub PagesAreExact : Type 0
+PagesAreExact = (capacity : ℕ) (areas : List Run) (start s : ℕ)
+    → AreSpaced areas → All (λ r. end_of r ≤ capacity) areas → start < capacity
+    → in_runs (page_of capacity areas start).areas s
+    ≡ (nat_le start s && nat_lt s (start + (page_of capacity areas start).covered)
+    && in_runs areas s)
+
+-- what follows a page are the areas from its end on
+abbrev pub PageThenRest : Type 0
+PageThenRest = (capacity : ℕ) (areas : List Run) (start : ℕ)
+    → AreSpaced areas → All (λ r. end_of r ≤ capacity) areas → start < capacity
+    → areas_from start areas ≡ (page_of capacity areas start).areas
+    ++ areas_from (start + (page_of capacity areas start).covered) areas
 
 -- what is done to a volume keeps its size
 pub record VolumesKeepTheirSize (capacity : ℕ) (v : VolumeContents) : Type 0 where
@@ -67,6 +90,37 @@ pub record IsFilling (old new : VolumeContents) : Type 0 where
 abbrev pub EachIsAFilling : Type 0
 EachIsAFilling = (capacity : ℕ) (old new : VolumeContents)
     → IsSized capacity old → DiffersOnlyWhereLoose old new → IsFilling old new
+
+-- a filling of as many sectors as are loose is what is read there then, so that two fillings leave
+-- two contents
+abbrev pub FillingsAreRead : Type 0
+FillingsAreRead = (capacity : ℕ) (v : VolumeContents) (filling : List Sector)
+    → IsSized capacity v → length filling ≡ loose_count v
+    → loose_sectors (volume_filled filling v) ≡ filling
+
+-- fillings one after another are one, and none where nothing is loose
+pub record DiffersInARow (a b c : VolumeContents) : Type 0 where
+  pub none : DiffersOnlyWhereLoose a a
+  pub two : DiffersOnlyWhereLoose a b → DiffersOnlyWhereLoose b c → DiffersOnlyWhereLoose a c
+  pub flushed : (capacity : ℕ) → IsSized capacity a → IsFlushed a → DiffersOnlyWhereLoose a b
+      → b ≡ a
+
+-- a volume is flushed exactly where no sector is loose
+pub record FlushedIsNoneLoose (capacity : ℕ) (v : VolumeContents) : Type 0 where
+  pub none : IsFlushed v → loose_count v ≡ 0
+  pub flushed : loose_count v ≡ 0 → IsFlushed v
+  pub by_flush : IsFlushed (volume_flushed v)
+
+-- which sectors are loose then
+pub record LooseThen (capacity : ℕ) (v : VolumeContents) (s : ℕ) : Type 0 where
+  pub written : (first : ℕ) (sectors : List Sector) → first + length sectors ≤ capacity
+      → is_loose s (volume_written first sectors v)
+      ≡ (is_loose s v || nat_le first s && nat_lt s (first + length sectors))
+  pub flushed : is_loose s (volume_flushed v) ≡ false
+  pub filled : (filling : List Sector) → is_loose s (volume_filled filling v) ≡ is_loose s v
+  pub broken : (first count : ℕ) (new : VolumeContents) → first + count ≤ capacity
+      → IsBrokenAt first count v new
+      → is_loose s new ≡ (is_loose s v || nat_le first s && nat_lt s (first + count))
 
 -- a write that failed leaves what the whole write would, but for loose sectors
 abbrev pub BrokenIsWritten : Type 0

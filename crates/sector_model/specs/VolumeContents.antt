@@ -2,7 +2,7 @@
 -- last flush that succeeded. A stop of the machine may leave anything in a loose sector, and
 -- nothing else in any other one, so this pair is all that has to be known of a volume across a
 -- stop. A failed flush leaves it as it was.
-use Rattle.std.specs.Prelude.{◌≡◌, ℕ, ◌+◌, List, [], ◌∷◌, length, take, drop, replicate, Bool, true, false, Some, slice_get, count_by}
+use Rattle.std.specs.Prelude.{◌≡◌, ℕ, ◌+◌, List, [], ◌∷◌, length, take, drop, replicate, Bool, true, false, Some, slice_get, slice_index_or, count_by}
 use Rattle.sector_model.specs.Sector.{zero_sector}
 use Rattle.sector_model.specs.Disk.{replaced}
 use Rattle.sector_model.specs.declared.sector.Sector.{Sector}
@@ -19,9 +19,13 @@ IsSized capacity v = (length v.sectors ≡ capacity) × (length v.loose ≡ capa
 abbrev pub IsFlushed : VolumeContents → Type 0
 IsFlushed v = v.loose ≡ replicate (length v.sectors) false
 
+-- the sector is loose
+abbrev pub is_loose : (sector : ℕ) → VolumeContents → Bool
+is_loose sector v = slice_index_or v.loose sector false
+
 -- how many sectors are loose
 abbrev pub loose_count : VolumeContents → ℕ
-loose_count v = count_by (λ is_loose. is_loose) v.loose
+loose_count v = count_by (λ loose. loose) v.loose
 
 -- what a write leaves: the sectors from `first` on are these, and loose
 abbrev pub volume_written : (first : ℕ) (sectors : List Sector) → VolumeContents → VolumeContents
@@ -49,7 +53,7 @@ pub record IsBrokenAt (first count : ℕ) (old new : VolumeContents) : Type 0 wh
 -- the sectors, where each loose one is the next of the filling while it reaches
 abbrev pub fill_loose : (loose : List Bool) (sectors filling : List Sector) → List Sector
 fill_loose [] sectors filling = sectors
-fill_loose (is_loose ∷ loose) [] filling = []
+fill_loose (first ∷ loose) [] filling = []
 fill_loose (false ∷ loose) (s ∷ sectors) filling = s ∷ fill_loose loose sectors filling
 fill_loose (true ∷ loose) (s ∷ sectors) [] = s ∷ sectors
 fill_loose (true ∷ loose) (s ∷ sectors) (f ∷ filling) = f ∷ fill_loose loose sectors filling
@@ -62,7 +66,7 @@ volume_filled filling v =
 -- those of the sectors that are loose, in order
 abbrev pub loose_of : (loose : List Bool) (sectors : List Sector) → List Sector
 loose_of [] sectors = []
-loose_of (is_loose ∷ loose) [] = []
+loose_of (first ∷ loose) [] = []
 loose_of (false ∷ loose) (s ∷ sectors) = loose_of loose sectors
 loose_of (true ∷ loose) (s ∷ sectors) = s ∷ loose_of loose sectors
 

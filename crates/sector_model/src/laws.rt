@@ -1,6 +1,6 @@
 //! Laws of the definitions. Each function's contract is the law, and its body does nothing.
 ghost use Rattle.std.specs.Prelude.{ℕ};
-ghost use Rattle.sector_model.specs.Laws.{FoldsJoin, RunsAreSpaced, RunsAreExact, PagesJoin, PagesLieWithin, VolumesKeepTheirSize, FillingNothing, FillingLeavesOthers, EachIsAFilling, BrokenIsWritten};
+ghost use Rattle.sector_model.specs.Laws.{FoldsJoin, RunsAreSpaced, RunsAreExact, RunsEndWithin, PagesJoin, PageThenRest, AreasFromAreExact, PagesAreExact, PagesLieWithin, VolumesKeepTheirSize, FillingNothing, FillingLeavesOthers, EachIsAFilling, FillingsAreRead, DiffersInARow, LooseThen, FlushedIsNoneLoose, BrokenIsWritten};
 ghost use Rattle.sector_model.specs.VolumeContents.{VolumeContents, IsSized};
 
 /// What a list of writes leaves is what its later part leaves of what its earlier part left.
@@ -12,11 +12,16 @@ pub fn folds_join()
 pub fn runs_are_exact()
     ensures spaced { RunsAreSpaced }
     ensures members { RunsAreExact }
+    ensures within { RunsEndWithin }
 {}
 
-/// The pages of a list of areas, each taken from the end of the one before, tell all of it.
+/// The pages of a list of areas, each taken from the end of the one before, tell all of it; and
+/// each has exactly the sectors of the areas that it speaks of.
 pub fn pages_join()
-    ensures { PagesJoin }
+    ensures all { PagesJoin }
+    ensures rest { PageThenRest }
+    ensures from_start { AreasFromAreExact }
+    ensures sectors { PagesAreExact }
 {}
 
 /// A page that starts below the capacity ends above its start and within the capacity, and its
@@ -36,6 +41,17 @@ pub fn volume_fillings()
     ensures nothing { FillingNothing }
     ensures others { FillingLeavesOthers }
     ensures each { EachIsAFilling }
+    ensures in_order { FillingsAreRead }
+    ensures in_a_row { (a b c : VolumeContents) → DiffersInARow a b c }
+{}
+
+/// Which sectors are loose after a write, a flush, a filling and a failed write, and that a volume
+/// is flushed exactly where none is.
+pub fn loose_sectors_after()
+    ensures each { (capacity : ℕ) (v : VolumeContents) (s : ℕ) → IsSized capacity v
+        → LooseThen capacity v s }
+    ensures none { (capacity : ℕ) (v : VolumeContents) → IsSized capacity v
+        → FlushedIsNoneLoose capacity v }
 {}
 
 /// A write that failed leaves what the whole write would, but for loose sectors.

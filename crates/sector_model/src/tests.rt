@@ -7,8 +7,9 @@ ghost use Rattle.sector_model.specs.Page.{page_of};
 ghost use Rattle.sector_model.specs.VolumeContents.{volume_written, volume_zeroed, volume_flushed, volume_filled};
 
 use crate::{
-    Page, Run, Runs, SECTOR_BYTES, Sector, SectorList, broken_volumes, folds_join, pages_join,
-    pages_lie_within, runs_are_exact, volume_fillings, volumes_keep_their_size,
+    Page, Run, Runs, SECTOR_BYTES, Sector, SectorList, broken_volumes, folds_join,
+    loose_sectors_after, pages_join, pages_lie_within, runs_are_exact, volume_fillings,
+    volumes_keep_their_size,
 };
 use std::process::Abort;
 use std::test::Fail;
@@ -42,7 +43,8 @@ fn definitions_on_small_disks()
         ≡ Some (record { first = 5; count = 3 }) }
     ensures behind { next_run 8 (record { first = 0; count = 8 } ∷ []) ≡ None }
     // A page whose start lies within an area.
-    ensures page { page_of 256 (record { first = 0; count = 128 } ∷ record { first = 200; count = 8 } ∷ []) 100
+    ensures page { page_of 256
+        (record { first = 0; count = 128 } ∷ record { first = 200; count = 8 } ∷ []) 100
         ≡ record {
           start = 100;
           covered = 156;
@@ -53,8 +55,14 @@ fn definitions_on_small_disks()
 /// What a volume of three sectors holds after a write, a flush, a zeroing and a filling.
 fn contents_of_a_small_volume()
     ensures written { volume_written 1 (filled 2 ∷ [])
-        (record { sectors = filled 1 ∷ filled 1 ∷ filled 1 ∷ []; loose = false ∷ false ∷ true ∷ [] })
-        ≡ record { sectors = filled 1 ∷ filled 2 ∷ filled 1 ∷ []; loose = false ∷ true ∷ true ∷ [] } }
+        (record {
+          sectors = filled 1 ∷ filled 1 ∷ filled 1 ∷ [];
+          loose = false ∷ false ∷ true ∷ [];
+        })
+        ≡ record {
+          sectors = filled 1 ∷ filled 2 ∷ filled 1 ∷ [];
+          loose = false ∷ true ∷ true ∷ [];
+        } }
     ensures zeroed { volume_zeroed 0 2
         (record { sectors = filled 1 ∷ filled 1 ∷ []; loose = false ∷ false ∷ [] })
         ≡ record { sectors = filled 0 ∷ filled 0 ∷ []; loose = true ∷ true ∷ [] } }
@@ -63,7 +71,10 @@ fn contents_of_a_small_volume()
         ≡ record { sectors = filled 1 ∷ filled 2 ∷ []; loose = false ∷ false ∷ [] } }
     ensures filled { volume_filled (filled 8 ∷ filled 9 ∷ [])
         (record { sectors = filled 1 ∷ filled 2 ∷ filled 3 ∷ []; loose = true ∷ false ∷ true ∷ [] })
-        ≡ record { sectors = filled 8 ∷ filled 2 ∷ filled 9 ∷ []; loose = true ∷ false ∷ true ∷ [] } }
+        ≡ record {
+          sectors = filled 8 ∷ filled 2 ∷ filled 9 ∷ [];
+          loose = true ∷ false ∷ true ∷ [];
+        } }
 {}
 
 fn run(first: u64, count: u64) -> Run
@@ -86,6 +97,7 @@ fn the_contents_of_a_volume_compute_on_three_sectors() {
     contents_of_a_small_volume();
     volumes_keep_their_size();
     volume_fillings();
+    loose_sectors_after();
     broken_volumes();
 }
 

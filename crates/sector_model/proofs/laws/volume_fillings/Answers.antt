@@ -1,4 +1,4 @@
-use Rattle.sector_model.proofs.Volumes.{filling_nothing, filling_leaves_others, each_is_a_filling}
+use Rattle.sector_model.proofs.Volumes.{filling_nothing, filling_leaves_others, each_is_a_filling, fillings_are_read, differs_in_a_row}
 use Rattle.sector_model.proofs.laws.volume_fillings.Goals as goal
 
 pub returns-clause-nothing : goal.returns-clause-nothing
@@ -9,3 +9,9 @@ returns-clause-others c = filling_leaves_others
 
 pub returns-clause-each : goal.returns-clause-each
 returns-clause-each c = each_is_a_filling
+
+pub returns-clause-in_order : goal.returns-clause-in_order
+returns-clause-in_order c = fillings_are_read
+
+pub returns-clause-in_a_row : goal.returns-clause-in_a_row
+returns-clause-in_a_row c = differs_in_a_row
