@@ -94,3 +94,24 @@ where_kept (Some r) = if fixed_rule r then Some r else None
 abbrev pub parse_fixed : Kind → List ℕ → Option Record
 parse_fixed kind bytes =
     if length bytes == fixed_size kind then where_kept (fixed_record kind bytes) else None
+
+-- how many bytes the spelling of a record takes
+abbrev pub spelled_size : Record → ℕ
+spelled_size (PlanMade plan name interval vms) = 14 + length name + 4 * length vms
+spelled_size (MigrationStarted mig plan vm disks) = 17
+spelled_size (Chosen mig way at) = 14
+spelled_size (SnapTaken mig snap mark) = 17
+spelled_size (IdsStored mig ids) = 9 + 24 * length ids
+spelled_size (VolumesMade mig) = 5
+spelled_size (CheckpointAdded mig previous current last) = 14
+spelled_size (StageBegun mig disk) = 9
+spelled_size (StageDone mig disk written) = 17
+spelled_size (Paused mig at) = 13
+spelled_size (SnapRemoved mig snap) = 9
+spelled_size (CutoverSet plan has at) = 14
+spelled_size (PowerStored mig on) = 6
+spelled_size (PoweredOff mig) = 5
+spelled_size (OffSeen mig off) = 6
+spelled_size (FinalSnapTaken mig snap mark place) = 25
+spelled_size (CancelAsked mig) = 5
+spelled_size (Ended mig how place) = 14

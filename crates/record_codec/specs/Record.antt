@@ -29,9 +29,11 @@ word_bytes n = to_be_bytes w32 n
 unfoldable pub long_bytes : ℕ → List ℕ
 long_bytes n = to_be_bytes w64 n
 
--- sixteen bytes of UUID and the number
-unfoldable pub id_bytes : ChangeId → List ℕ
-id_bytes id = to_be_bytes w128 id.uuid ++ to_be_bytes w64 id.seq
+unfoldable pub uuid_bytes : ℕ → List ℕ
+uuid_bytes uuid = to_be_bytes w128 uuid
+
+abbrev pub id_bytes : ChangeId → List ℕ
+id_bytes id = uuid_bytes id.uuid ++ long_bytes id.seq
 
 abbrev pub flag_byte : Bool → ℕ
 flag_byte flag = if flag then 1 else 0
