@@ -1,8 +1,12 @@
 -- How a body is read: a number where its bytes stand, and what is left behind it. The private functions
 -- of the decoder are tied to these words; that they read spellings and nothing else is proved of them.
-use Rattle.std.specs.Prelude.{◌≡◌, ℕ, ◌+◌, ◌*◌, ◌==◌, ◌&&◌, ◌||◌, nat_lt, nat_le, not, Bool, true, false, List, [], ◌∷◌, length, take, drop, slice_index, Option, Some, None, option_map, if◌then◌else◌}
+use Rattle.std.specs.Prelude.{◌≡◌, ℕ, zero, suc, ◌≤◌, ◌+◌, ◌*◌, ◌==◌, ◌&&◌, ◌||◌, nat_lt, nat_le, not, Bool, true, false, List, [], ◌∷◌, length, take, drop, slice_index, Option, Some, None, option_map, Result, Ok, Err, if◌then◌else◌}
 use Rattle.std.specs.Int.{w32, w64, w128, from_be_bytes}
+use Rattle.basics.specs.Spelled.{IsName}
 use Rattle.change_id.specs.declared.ChangeId.{ChangeId}
+use Rattle.record_codec.specs.declared.record.TheConstants.{MAX_INTERVAL}
+use Rattle.record_codec.specs.declared.parse.CodecRefused.{CodecRefused}
+use Rattle.record_codec.specs.declared.parse.CodecRefused.TheVariants.{Bad, NoMemory}
 use Rattle.record_codec.specs.declared.record.Record.{Record}
 use Rattle.record_codec.specs.declared.record.Record.TheVariants.{PlanMade, MigrationStarted, Chosen, SnapTaken, IdsStored, VolumesMade, CheckpointAdded, StageBegun, StageDone, Paused, SnapRemoved, CutoverSet, PowerStored, PoweredOff, OffSeen, FinalSnapTaken, CancelAsked, Ended}
 use Rattle.record_codec.specs.declared.record.Kind.{Kind}
@@ -115,3 +119,70 @@ spelled_size (OffSeen mig off) = 6
 spelled_size (FinalSnapTaken mig snap mark place) = 25
 spelled_size (CancelAsked mig) = 5
 spelled_size (Ended mig how place) = 14
+
+-- the first numbers, or identifiers, of a row
+abbrev pub words_in : (count : ℕ) → List ℕ → List ℕ
+words_in zero bytes = []
+words_in (suc count) bytes = word_at bytes ∷ words_in count (drop 4 bytes)
+
+abbrev pub id_at : List ℕ → ChangeId
+id_at bytes = record { uuid = uuid_at bytes; seq = long_at (drop 16 bytes) }
+
+abbrev pub ids_in : (count : ℕ) → List ℕ → List ChangeId
+ids_in zero bytes = []
+ids_in (suc count) bytes = id_at bytes ∷ ids_in count (drop 8 (drop 16 bytes))
+
+-- the parts of a plan's fields
+abbrev pub behind_name_len : List ℕ → List ℕ
+behind_name_len bytes = drop 1 (drop 4 bytes)
+
+abbrev pub name_len : List ℕ → ℕ
+name_len bytes = byte_at (drop 4 bytes)
+
+abbrev pub plan_name : List ℕ → List ℕ
+plan_name bytes = take (name_len bytes) (behind_name_len bytes)
+
+abbrev pub behind_name : List ℕ → List ℕ
+behind_name bytes = drop (name_len bytes) (behind_name_len bytes)
+
+abbrev pub plan_interval : List ℕ → ℕ
+plan_interval bytes = word_at (behind_name bytes)
+
+abbrev pub plan_count : List ℕ → ℕ
+plan_count bytes = word_at (drop 4 (behind_name bytes))
+
+abbrev pub plan_vms : List ℕ → List ℕ
+plan_vms bytes = drop 4 (drop 4 (behind_name bytes))
+
+-- what the fields of a plan need, so that they are those of `plan_at`
+pub record PlanNeeds (bytes : List ℕ) : Type 0 where
+  pub begun : 5 ≤ length bytes
+  pub whole : name_len bytes + 8 ≤ length (behind_name_len bytes)
+  pub named : IsName (plan_name bytes)
+  pub least : 1 ≤ plan_interval bytes
+  pub most : plan_interval bytes ≤ MAX_INTERVAL
+  pub counted : length (plan_vms bytes) ≡ 4 * plan_count bytes
+
+abbrev pub plan_at : List ℕ → Record
+plan_at bytes = PlanMade (word_at bytes) (plan_name bytes) (plan_interval bytes)
+    (words_in (plan_count bytes) (plan_vms bytes))
+
+-- the same for the identifiers of a snapshot
+abbrev pub ids_count : List ℕ → ℕ
+ids_count bytes = word_at (drop 4 bytes)
+
+abbrev pub ids_row : List ℕ → List ℕ
+ids_row bytes = drop 4 (drop 4 bytes)
+
+pub record IdsNeed (bytes : List ℕ) : Type 0 where
+  pub begun : 8 ≤ length bytes
+  pub counted : length (ids_row bytes) ≡ 24 * ids_count bytes
+
+abbrev pub ids_at : List ℕ → Record
+ids_at bytes = IdsStored (word_at bytes) (ids_in (ids_count bytes) (ids_row bytes))
+
+-- a record that is read, refused, or not read for want of memory
+abbrev pub Reads : (needs : Type 0) → Record → Result Record CodecRefused → Type 0
+Reads needs r (Ok read) = needs × (read ≡ r)
+Reads needs r (Err Bad) = ¬ needs
+Reads needs r (Err NoMemory) = needs

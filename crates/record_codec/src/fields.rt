@@ -1,7 +1,8 @@
 //! The fields of a body, read one after the other. What is left of the body is what callers see.
-ghost use Rattle.std.specs.Prelude.{◌≡◌, ◌≤◌, ◌+◌, length, drop};
-ghost use Rattle.record_codec.specs.Parse.{word_at, long_at, uuid_at, byte_at, flag_at};
+ghost use Rattle.std.specs.Prelude.{◌≡◌, ◌≤◌, ◌+◌, length, drop, take};
+ghost use Rattle.record_codec.specs.Parse.{word_at, long_at, uuid_at, byte_at, flag_at, id_at};
 
+use change_id::ChangeId;
 use std::marker::Model;
 
 /// What is left of a body.
@@ -88,5 +89,43 @@ impl<'a> Fields<'a> {
             b[0], b[1], b[2], b[3], b[4], b[5], b[6], b[7], b[8], b[9], b[10], b[11], b[12], b[13],
             b[14], b[15],
         ])
+    }
+
+    pub(crate) fn id(&mut self) -> ChangeId
+        requires { 24 ≤ length self.old }
+        ensures value { result ≡ id_at self.old }
+        ensures rest { self.new ≡ drop 8 (drop 16 self.old) }
+        ensures len { length self.new + 24 ≡ length self.old }
+    {
+        let uuid = self.uuid();
+        let seq = self.long();
+        ChangeId { uuid, seq }
+    }
+
+    /// How many bytes are left.
+    pub(crate) fn len(&self) -> usize
+        ensures { result ≡ length self.now }
+    {
+        self.rest.len()
+    }
+
+    /// The next bytes, so many.
+    pub(crate) fn bytes(&mut self, len: usize) -> &'a [u8]
+        requires { len ≤ length self.old }
+        ensures value { result.now ≡ take len self.old }
+        ensures rest { self.new ≡ drop len self.old }
+        ensures len { length self.new + len ≡ length self.old }
+    {
+        let (front, rest) = self.rest.split_at(len);
+        self.rest = rest;
+        front
+    }
+
+    /// All that is left.
+    pub(crate) fn rest(self) -> &'a [u8]
+        ensures { result.now ≡ self.entry }
+    {
+        let Fields { rest } = self;
+        rest
     }
 }
