@@ -1,8 +1,8 @@
 //! The reading of records. Everything that can be wrong with a body is looked at before memory is taken,
 //! so want of memory is answered of spellings alone.
-ghost use Rattle.std.specs.Prelude.{◌≡◌, ◌↔◌, Err};
+ghost use Rattle.std.specs.Prelude.{◌≡◌, ◌↔◌, ◌∷◌, Err};
 ghost use Rattle.record_codec.specs.declared.record.Record.{Record};
-ghost use Rattle.record_codec.specs.Record.{Spells};
+ghost use Rattle.record_codec.specs.Record.{kind_byte, Spells};
 ghost use Rattle.record_codec.specs.Decoded.{IsDecoded, refusal_number};
 
 use crate::fixed::fixed;
@@ -73,11 +73,22 @@ pub fn decode(alloc: Global, body: &[u8]) -> Result<Record, CodecRefused>
     ensures decoded { IsDecoded body.now result }
     ensures bad { (result ≡ Err CodecRefused.Bad) ↔ ((r : Record) → ¬ (Spells body.now r)) }
 {
-    let (byte, fields) = body.split_first().ok_or(CodecRefused::Bad)?;
-    let kind = Kind::of(*byte).ok_or(CodecRefused::Bad)?;
+    let Some((byte, fields)) = body.split_first() else {
+        return Err(CodecRefused::Bad);
+    };
+    let Some(kind) = Kind::of(*byte) else {
+        return Err(CodecRefused::Bad);
+    };
+    read_fields(alloc, kind, fields)
+}
+
+/// The record of this kind whose fields these bytes are.
+fn read_fields(alloc: Global, kind: Kind, bytes: &[u8]) -> Result<Record, CodecRefused>
+    ensures { IsDecoded (kind_byte kind ∷ bytes.now) result }
+{
     match kind {
-        Kind::PlanMade => plan_made(alloc, fields),
-        Kind::IdsStored => ids_stored(alloc, fields),
-        _ => fixed(kind, fields).ok_or(CodecRefused::Bad),
+        Kind::PlanMade => plan_made(alloc, bytes),
+        Kind::IdsStored => ids_stored(alloc, bytes),
+        _ => fixed(kind, bytes).ok_or(CodecRefused::Bad),
     }
 }

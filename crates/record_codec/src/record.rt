@@ -1,6 +1,6 @@
 //! What the journal keeps: the records of plans and of the steps of their migrations. The kind of a record
 //! is the first byte of its spelling.
-ghost use Rattle.std.specs.Prelude.{◌≡◌, ◌==◌, IfOk};
+ghost use Rattle.std.specs.Prelude.{◌≡◌, ◌==◌, IfOk, IfSome};
 ghost use Rattle.std.specs.List.{find};
 ghost use Rattle.record_codec.specs.Record.{kind_of, kind_byte, all_kinds};
 
@@ -215,7 +215,8 @@ impl Kind {
 
     /// The kind of this byte. None where no kind has it.
     pub fn of(byte: u8) -> Option<Kind>
-        ensures { result ≡ find (λ kind. kind_byte kind == byte) all_kinds }
+        ensures first { result ≡ find (λ kind. kind_byte kind == byte) all_kinds }
+        ensures found { IfSome result (λ kind. kind_byte kind ≡ byte) }
     {
         KINDS.iter().copied().find(|kind| kind.byte() == byte)
     }
