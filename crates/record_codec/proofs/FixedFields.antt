@@ -318,5 +318,5 @@ fixed_only kind bytes fixed none r spells =
     let fixed' : nat_lt 0 (fixed_size (kind_of r)) ≡ true = ap (λ (k : Kind). nat_lt 0 (fixed_size k)) (sym same) ∙ fixed in
     let read = fixed_forth r fixed' spells.record_has.ranges in
     let parsed : parse_fixed (kind_of r) (spelled_fields (fields_of r)) ≡ Some r =
-        parse_some (kind_of r) (spelled_fields (fields_of r)) r read.len read.read (rule_forth r fixed' spells.record_has.rule) in
+    parse_some (kind_of r) (spelled_fields (fields_of r)) r read.len read.read (rule_forth r fixed' spells.record_has.rule) in
     not_none r (sym none ∙ (λ i. parse_fixed (same i) (rest i)) ∙ parsed)

@@ -12,6 +12,6 @@ byte_is_ascii b h = elim h [ inl letter ↦ omega arith | inr (inl digit) ↦ om
 pub name_is_text : (text : List ℕ) → IsName text → IsUtf8 text
 name_is_text text h = IsUtf8-from_ascii text (λ i.
     elim (cases_lt i (length text)) [
-      inl within ↦ byte_is_ascii (get_or text i 0) (h.spelled i 0 within)
-    | inr past ↦ rw (get_or_past text i 0 past) (omega arith)
+      | inl within ↦ byte_is_ascii (get_or text i 0) (h.spelled i 0 within)
+      | inr past ↦ rw (get_or_past text i 0 past) (omega arith)
     ])

@@ -54,9 +54,9 @@ uuid_rest n rest = refl
 -- the first bytes of bytes are bytes
 take_bytes : (n : ℕ) (bytes : List ℕ) → IsBytes bytes → IsBytes (take n bytes)
 take_bytes n bytes h i = elim (cases_lt i n) [
-      inl under ↦ rw (get_or-take n bytes i 0 under) (h i)
-    | inr over ↦ rw (get_or_past (take n bytes) i 0 (omega (arith, length-take n bytes))) (omega arith)
-    ]
+  | inl under ↦ rw (get_or-take n bytes i 0 under) (h i)
+  | inr over ↦ rw (get_or_past (take n bytes) i 0 (omega (arith, length-take n bytes))) (omega arith)
+]
 
 pub drop_bytes : (n : ℕ) (bytes : List ℕ) → IsBytes bytes → IsBytes (drop n bytes)
 drop_bytes n bytes h i = rw (get_or-drop n bytes i 0) (h (n + i))
