@@ -4,6 +4,7 @@
 
 mod calls;
 mod name;
+mod number_list;
 mod refusal;
 mod spelled;
 #[cfg(test)]
@@ -11,5 +12,6 @@ mod tests;
 
 pub use calls::Calls;
 pub use name::{MAX_NAME_BYTES, Name};
+pub use number_list::NumberList;
 pub use refusal::{Failed, NoMemory};
 pub use spelled::is_name;

@@ -1,0 +1,4 @@
+pub mod Record
+pub mod Parse
+pub mod Decoded
+pub mod Laws
