@@ -1,0 +1,53 @@
+//! How a pass waits for its ticket to be served.
+ghost use Rattle.std.specs.Prelude.{◌≡◌, ◌≢◌, ℕ, ◌+◌, ◌%◌, ◌^◌, ◌<◌, [], Some};
+ghost use Rattle.turn_lock.specs.View.{Holds};
+
+use crate::rule::{History, Look};
+use crate::story::Storied;
+use crate::turn::SERVED;
+use crate::view::View;
+use atomic_table::{Seat, Shared};
+use std::hint::spin_loop;
+use std::snapshot::Snapshot;
+use std::sync::Wait;
+
+// How often a waiting thread looks before it sleeps.
+const MOST_LOOKS: u32 = 200;
+
+type Board<V> = Shared<
+    Option<V>,
+    View<<V as Storied>::Frame, <V as Storied>::Entry>,
+    Snapshot<V>,
+    History<V>,
+>;
+
+type Place<V> = Seat<Option<V>, View<<V as Storied>::Frame, <V as Storied>::Entry>>;
+
+/// Waits until the ticket is served, and takes the value out with the seat. It looks again at once for a
+/// while, and then sleeps until another ticket is served.
+pub(crate) fn wait_for<V: Storied, R: Wait>(
+    rt: &R,
+    board: &Board<V>,
+    seat: &mut Place<V>,
+    ticket: u64,
+)
+    requires table { (seat.old.table_id ≡ board.now.table_id) × (board.now.table_id.words ≡ 3) × (board.now.table_id.slots ≡ 1) }
+    requires queued { (t : ℕ) × (seat.old.me.0.ticket ≡ Some t) × (ticket ≡ t % 2 ^ 64) × (seat.old.me.1 ≡ []) }
+    ensures table { seat.new.table_id ≡ seat.old.table_id }
+    ensures holds { Holds V.frame V.story V.who seat.old.me seat.new.me }
+{
+    let mut looks = 0;
+    for _ in rt.forever() {
+        let served = board.load::<Look<V>>(seat, SERVED);
+        if served == ticket {
+            return;
+        }
+        if looks < MOST_LOOKS {
+            looks += 1;
+            spin_loop();
+        } else {
+            board.park(rt, SERVED, (served % (1 << 32)) as u32);
+        }
+    }
+    unreachable!()
+}
