@@ -55,9 +55,9 @@ module _ {E : Type 0} where
       elim (nat_lt (length a) (length b)) as P [ true ↦ λ e. absurd (grind arith) | false ↦ λ e. whole ] refl
 
 module _ {X F E : Type 0} (frame : X → F) (story_of : X → List E) (who : E → ℕ) where
-  pub compares : (b : Beginning F) (id : ℕ) (me : M frame story_of who) (j : Joined E) → is_live me.0 ≡ true → me.0.number ≡ 0 → me.0.chief.joined ≡ Some j → me.0.seen ≡ longer j.first j.other
-      → Allows (K frame story_of who b) 1 id me 2 (λ n. n) (Compares frame story_of who (step 1 2 0 0 none) me)
-  compares b id me j live zero_is joined seen s r wide at below =
+  pub compares : (b : Beginning F) (slots id : ℕ) (me : M frame story_of who) (j : Joined E) → is_live me.0 ≡ true → me.0.number ≡ 0 → me.0.chief.joined ≡ Some j → me.0.seen ≡ longer j.first j.other
+      → Allows (K frame story_of who b) slots id me 2 (λ n. n) (Compares frame story_of who (step slots 2 0 0 none) me)
+  compares b slots id me j live zero_is joined seen s r wide at below =
       let v : View F E = me.0 in
       let c : Chief E = v.chief in
       let is_first = first_is frame story_of who b s r id v at live zero_is in
@@ -67,7 +67,7 @@ module _ {X F E : Type 0} (frame : X → F) (story_of : X → List E) (who : E �
       let f = r.seats id v at live in
       let k = l.keeps j joined in
       let waits_same : count_by waits (set s.views id w) ≡ count_by waits s.views = count_same waits s.views id v w at refl in
-      subst (Goes frame story_of who b s 2 id me (λ z. z) (Compares frame story_of who (step 1 2 0 0 none) me)) (sym r.words)
+      subst (Goes frame story_of who b s 2 id me (λ z. z) (Compares frame story_of who (step slots 2 0 0 none) me)) (sym r.words)
         (w, keeps, tt,
           record {
             story = r.story; place = r.place; line = r.line; served = r.served; chief = w.chief;

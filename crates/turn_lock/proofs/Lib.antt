@@ -5,3 +5,4 @@ pub mod Tickets
 pub mod Numbers
 pub mod Joins
 pub mod Ends
+pub mod Passes

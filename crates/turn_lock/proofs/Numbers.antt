@@ -25,9 +25,9 @@ module _ {X F E : Type 0} (frame : X → F) (story_of : X → List E) (who : E �
   own_chief b s r id v at live zero_is =
       (r.heads v (subst (λ i. get_elem? s.views i ≡ some v) (first_is frame story_of who b s r id v at live zero_is) at)).2
 
-  pub draws_number : (b : Beginning F) (id : ℕ) (me : M frame story_of who) → is_live me.0 ≡ true → me.0.number ≡ 0 → me.0.chief.due ≡ None → me.0.chief.made + 1 < 2 ^ 32
-      → Allows (K frame story_of who b) 1 id me 0 (λ n. (n + 1) % 2 ^ 64) (DrawsNumber frame story_of who (step 1 0 1 0 none) me)
-  draws_number b id me live zero_is none_due small s r wide at below =
+  pub draws_number : (b : Beginning F) (slots id : ℕ) (me : M frame story_of who) → is_live me.0 ≡ true → me.0.number ≡ 0 → me.0.chief.due ≡ None → me.0.chief.made + 1 < 2 ^ 32
+      → Allows (K frame story_of who b) slots id me 0 (λ n. (n + 1) % 2 ^ 64) (DrawsNumber frame story_of who (step slots 0 1 0 none) me)
+  draws_number b slots id me live zero_is none_due small s r wide at below =
       let v : View F E = me.0 in
       let c : Chief E = v.chief in
       let is_first = first_is frame story_of who b s r id v at live zero_is in
@@ -46,7 +46,7 @@ module _ {X F E : Type 0} (frame : X → F) (story_of : X → List E) (who : E �
       let no_due : how_many c.due ≡ 0 = ap how_many none_due in
       let silent_d : added_by who d b.start r.story ≡ [] = l.silent d (inl was_free) in
       let waits_same : count_by waits (set s.views id w) ≡ count_by waits s.views = count_same waits s.views id v w at refl in
-      subst (Goes frame story_of who b s 0 id me (λ k. (k + 1) % 2 ^ 64) (DrawsNumber frame story_of who (step 1 0 1 0 none) me)) (sym r.words)
+      subst (Goes frame story_of who b s 0 id me (λ k. (k + 1) % 2 ^ 64) (DrawsNumber frame story_of who (step slots 0 1 0 none) me)) (sym r.words)
         (w, keeps, tt,
           record {
             story = r.story; place = place'; line = r.line; served = r.served; chief = w.chief;

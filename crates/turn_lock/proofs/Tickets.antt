@@ -20,9 +20,9 @@ use Rattle.turn_lock.proofs.Seats.{put, put_here, put_else, bit, at_within, one_
 use Rattle.turn_lock.proofs.Steps.{seat_number, kind, next_mod, heads_kept, taken_set, each_set, not_empty, St, M, K, slot_set, few_wait, fits_place, Goes, leads_set, spelled}
 
 module _ {X F E : Type 0} (frame : X → F) (story_of : X → List E) (who : E → ℕ) where
-  pub draws_ticket : (b : Beginning F) (id : ℕ) (me : M frame story_of who) → is_live me.0 ≡ true → me.0.holds ≡ false → me.0.ticket ≡ None
-      → Allows (K frame story_of who b) 1 id me 1 (λ n. (n + 1) % 2 ^ 64) (DrawsTicket frame story_of who (step 1 1 1 0 none) me)
-  draws_ticket b id me live free_hands no_ticket s r wide at below =
+  pub draws_ticket : (b : Beginning F) (slots id : ℕ) (me : M frame story_of who) → is_live me.0 ≡ true → me.0.holds ≡ false → me.0.ticket ≡ None
+      → Allows (K frame story_of who b) slots id me 1 (λ n. (n + 1) % 2 ^ 64) (DrawsTicket frame story_of who (step slots 1 1 0 none) me)
+  draws_ticket b slots id me live free_hands no_ticket s r wide at below =
       let v : View F E = me.0 in
       let n : ℕ = count_by waits s.views in
       let t : ℕ = r.served + n in
@@ -34,7 +34,7 @@ module _ {X F E : Type 0} (frame : X → F) (story_of : X → List E) (who : E �
       let more : n' ≡ n + 1 = omega (arith, count_set waits s.views id v w at, ap bit out, ap bit in_line) in
       let f = r.seats id v at live in
       let line' : ℕ → Place = put r.line t (seated id) in
-      subst (Goes frame story_of who b s 1 id me (λ k. (k + 1) % 2 ^ 64) (DrawsTicket frame story_of who (step 1 1 1 0 none) me)) (sym r.words)
+      subst (Goes frame story_of who b s 1 id me (λ k. (k + 1) % 2 ^ 64) (DrawsTicket frame story_of who (step slots 1 1 0 none) me)) (sym r.words)
         (w, keeps, tt,
           record {
             story = r.story; place = r.place; line = line'; served = r.served; chief = r.chief;
@@ -70,14 +70,14 @@ module _ {X F E : Type 0} (frame : X → F) (story_of : X → List E) (who : E �
           absurd (let c : true ≡ false = sym h.1.4 ∙ sym (ap (λ z. z.holds) same) ∙ free_hands in cc))
         r.slot
 
-  pub looks : (b : Beginning F) (id : ℕ) (me : M frame story_of who) (t : ℕ) → is_live me.0 ≡ true → me.0.holds ≡ false → me.0.ticket ≡ Some t
-      → Allows (K frame story_of who b) 1 id me 2 (λ n. n) (Looks frame story_of who (step 1 2 0 0 none) me)
-  looks b id me t live free_hands has s r wide at below =
+  pub looks : (b : Beginning F) (slots id : ℕ) (me : M frame story_of who) (t : ℕ) → is_live me.0 ≡ true → me.0.holds ≡ false → me.0.ticket ≡ Some t
+      → Allows (K frame story_of who b) slots id me 2 (λ n. n) (Looks frame story_of who (step slots 2 0 0 none) me)
+  looks b slots id me t live free_hands has s r wide at below =
       let v : View F E = me.0 in
       let n : ℕ = count_by waits s.views in
       let f = r.seats id v at live in
       let q = f.queues t has in
-      let told : ℕ → M frame story_of who → Type 0 = Looks frame story_of who (step 1 2 0 0 none) me in
+      let told : ℕ → M frame story_of who → Type 0 = Looks frame story_of who (step slots 2 0 0 none) me in
       let few = few_wait frame story_of who b s r in
       subst (Goes frame story_of who b s 2 id me (λ k. k) told) (sym r.words)
         (dite (ℕ_discrete (r.served % 2 ^ 64) (t % 2 ^ 64))
@@ -136,10 +136,10 @@ module _ {X F E : Type 0} (frame : X → F) (story_of : X → List E) (who : E �
       ap (put_back s.homes) carries
       ∙ ⊎_elim (λ h. ap (λ hs. set hs 0 (some (Some x))) h.1) (λ h. ap (λ hs. set hs 0 (some (Some x))) h.0) r.slot
 
-  pub serves : (b : Beginning F) (id : ℕ) (me : M frame story_of who) (x : X) → is_live me.0 ≡ true → me.0.holds ≡ true → me.1 ≡ (0, Some x) ∷ []
+  pub serves : (b : Beginning F) (slots id : ℕ) (me : M frame story_of who) (x : X) → is_live me.0 ≡ true → me.0.holds ≡ true → me.1 ≡ (0, Some x) ∷ []
       → frame x ≡ b.frame → Adds who me.0.number me.0.seen (story_of x)
-      → Allows (K frame story_of who b) 1 id me 2 (λ n. (n + 1) % 2 ^ 64) (Serves frame story_of who (step 1 2 1 0 none) me)
-  serves b id me x live holds carries framed adds s r wide at below =
+      → Allows (K frame story_of who b) slots id me 2 (λ n. (n + 1) % 2 ^ 64) (Serves frame story_of who (step slots 2 1 0 none) me)
+  serves b slots id me x live holds carries framed adds s r wide at below =
       let v : View F E = me.0 in
       let n : ℕ = count_by waits s.views in
       let f = r.seats id v at live in
@@ -164,7 +164,7 @@ module _ {X F E : Type 0} (frame : X → F) (story_of : X → List E) (who : E �
           by_parts who v.number b.start v.seen story' adds.0 f.reach ∙ ap₂ (λ y z. y ++ z) f.known adds.1 in
       let apart : (m : ℕ) → kind (r.place m) ≢ 0 → m ≢ v.number = λ m ne e. ne (ap (λ z. kind (r.place z)) e ∙ ap kind f.sits) in
       let l = r.leads in
-      let told : ℕ → M frame story_of who → Type 0 = Serves frame story_of who (step 1 2 1 0 none) me in
+      let told : ℕ → M frame story_of who → Type 0 = Serves frame story_of who (step slots 2 1 0 none) me in
       subst (Goes frame story_of who b s 2 id me (λ k. (k + 1) % 2 ^ 64) told) (sym r.words)
         (w, gives, tt,
           record {

@@ -1,5 +1,5 @@
 -- What a pass stands for, and what ties its fields to the view of its seat.
-use Rattle.std.specs.Prelude.{◌≡◌, ℕ, ◌+◌, ◌-◌, ◌<◌, ◌==◌, List, [], ◌∷◌, ◌++◌, length, drop, Bool, true, false, Option, Some, None, if◌then◌else◌}
+use Rattle.std.specs.Prelude.{◌≡◌, ℕ, ◌+◌, ◌-◌, ◌<◌, ◌≤◌, ◌==◌, List, [], ◌∷◌, ◌++◌, length, drop, Bool, true, false, Option, Some, None, if◌then◌else◌}
 use Rattle.atomic_table.specs.Seated.{TableId}
 use Rattle.atomic_table.specs.Table.{Me}
 use Rattle.turn_lock.specs.declared.view.Beginning.{Beginning}
@@ -40,7 +40,8 @@ module _ {F E : Type 0} where
     pub nothing_to_check : me.0.chief.joined ≡ None
     pub carries : me.1 ≡ (if holds then (0, None) ∷ [] else [])
     pub ticketless : holds ≡ false → me.0.ticket ≡ None
-    -- it has seen all that it added
+    -- it has seen all that it added, and what the story was at the start
+    pub reach : start_of me.0.beginning ≤ length me.0.seen
     pub known : added_by who number (start_of me.0.beginning) me.0.seen ≡ me.0.mine
 
   -- what each number has past the turn's start: pass 0 its own entries, a joined pass those that it had, and

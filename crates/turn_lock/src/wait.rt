@@ -1,6 +1,6 @@
 //! How a pass waits for its ticket to be served.
-ghost use Rattle.std.specs.Prelude.{◌≡◌, ◌≢◌, ℕ, ◌+◌, ◌%◌, ◌^◌, ◌<◌, [], Some};
-ghost use Rattle.turn_lock.specs.View.{Holds};
+ghost use Rattle.std.specs.Prelude.{◌≡◌, ◌≢◌, ℕ, ◌+◌, ◌%◌, ◌^◌, ◌<◌, [], Some, true, false};
+ghost use Rattle.turn_lock.specs.View.{Holds, is_live};
 
 use crate::rule::{History, Look};
 use crate::story::Storied;
@@ -32,7 +32,8 @@ pub(crate) fn wait_for<V: Storied, R: Wait>(
     ticket: u64,
 )
     requires table { (seat.old.table_id ≡ board.now.table_id) × (board.now.table_id.words ≡ 3) × (board.now.table_id.slots ≡ 1) }
-    requires queued { (t : ℕ) × (seat.old.me.0.ticket ≡ Some t) × (ticket ≡ t % 2 ^ 64) × (seat.old.me.1 ≡ []) }
+    requires free { (is_live seat.old.me.0 ≡ true) × (seat.old.me.0.holds ≡ false) × (seat.old.me.1 ≡ []) }
+    requires queued { (t : ℕ) × (seat.old.me.0.ticket ≡ Some t) × (ticket ≡ t % 2 ^ 64) }
     ensures table { seat.new.table_id ≡ seat.old.table_id }
     ensures holds { Holds V.frame V.story V.who seat.old.me seat.new.me }
 {
