@@ -1,5 +1,5 @@
 -- The rule holds where a turn begins, and what it says where it ends.
-use Rattle.std.proofs.Common.{◌≡◌, ◌≢◌, ◌⊎◌, ℕ, zero, suc, ◌+◌, ◌%◌, ◌^◌, ◌<◌, ◌≤◌, eqb, List, [], ◌∷◌, length, drop, Bool, true, false, cond, refl, sym, ap, ◌∙◌, subst, arith, inl, inr, ⊎_elim, count_by, Option, Some, None, is_some, eq-eqb, ne_eqb, lit<}
+use Rattle.std.proofs.Common.{◌≡◌, ◌≢◌, ◌⊎◌, ℕ, zero, suc, ◌+◌, ◌%◌, ◌^◌, ◌<◌, ◌≤◌, eqb, List, [], ◌∷◌, length, drop, get_or, All, Bool, true, false, cond, refl, sym, ap, ◌∙◌, subst, arith, inl, inr, ⊎_elim, count_by, Option, Some, None, is_some, eq-eqb, ne_eqb, lit<}
 use Rattle.std.specs.List.{filter}
 use lib.Seq.{drop-length}
 use mathlib.Core.Option.{some, none, some-injective, some-ne-none}
@@ -10,10 +10,11 @@ use lib.ListN.{get_elem?}
 use Rattle.atomic_table.specs.Table.{State, opening, Final, Seen}
 use Rattle.turn_lock.specs.declared.view.Beginning.{Beginning}
 use Rattle.turn_lock.specs.declared.view.Chief.{Chief}
+use Rattle.turn_lock.specs.declared.view.EndedPass.{EndedPass}
 use Rattle.turn_lock.specs.declared.view.View.{View}
 use Rattle.turn_lock.specs.Story.{GoesOn, added_by, is_by}
-use Rattle.turn_lock.specs.View.{is_live, waits, spent}
-use Rattle.turn_lock.specs.Rule.{Place, seated, ended, due, free, beginning_of, first_view, is_among, left_by, Fits, Leads, Kept}
+use Rattle.turn_lock.specs.View.{is_among, left_by, is_live, waits, spent}
+use Rattle.turn_lock.specs.Rule.{Whereabouts, seated, ended, due, free, beginning_of, first_view, Fits, Leads, Kept}
 use Rattle.turn_lock.proofs.Stories.{goes_self}
 use Rattle.turn_lock.proofs.Seats.{put, put_here, put_else, one_place, two_of_them}
 use Rattle.turn_lock.proofs.Steps.{seat_number, kind, St, K, first_is}
@@ -31,17 +32,17 @@ module _ {X F E : Type 0} (frame : X → F) (story_of : X → List E) (who : E �
 
   pub opens : (x : X) → K frame story_of who (beginning_of frame story_of x) (opening (1 ∷ 0 ∷ 0 ∷ []) (Some x ∷ []) (first_view frame story_of x))
   opens x =
-      let place : ℕ → Place = put (λ _. free) 0 (seated 0) in
+      let place : ℕ → Whereabouts = put (λ _. free) 0 (seated 0) in
       let v : View F E = first_view frame story_of x in
       let b : Beginning F = beginning_of frame story_of x in
       record {
-        story = story_of x; place = place; line = (λ _. free); served = 0; chief = v.chief;
+        story = story_of x; place = place; line = (λ _. None); served = 0; chief = v.chief;
         words = refl;
         slot = inl (x, refl, refl, refl);
         reaches = omega arith;
         some_seat = omega arith;
         heads = λ u at. subst (λ z. (is_live z ≡ true) × (z.number ≡ 0) × (z.chief ≡ v.chief)) (some-injective v u at) (refl, refl, refl);
-        seats = λ id u at live. only_first x (λ i z. Fits frame story_of who b (story_of x) place (λ _. free) 0 (count_by waits (v ∷ [])) i z)
+        seats = λ id u at live. only_first x (λ i z. Fits frame story_of who b (story_of x) place (λ _. None) 0 (count_by waits (v ∷ [])) i z)
           record {
             begun = refl; begins = goes_self (story_of x); reach = omega arith; own = nothing_yet x 0; known = nothing_yet x 0; sits = refl;
             queues = λ t is. absurd (let e : false ≡ true = ap is_some is in cc);
@@ -70,9 +71,34 @@ module _ {X F E : Type 0} (frame : X → F) (story_of : X → List E) (who : E �
             (λ is. dite (ℕ_discrete n 0)
               (λ e. absurd (let z : 0 ≡ 1 = sym (ap kind (put_here (λ _. free) 0 (seated 0) n e)) ∙ ap kind is in omega arith))
               (λ ne. absurd (let z : 3 ≡ 1 = sym (ap kind (put_else (λ _. free) 0 (seated 0) n ne)) ∙ ap kind is in omega arith))));
+          once = refl;
           left = λ n is. nothing_yet x n ∙ refl;
           keeps = λ j is. absurd (let e : false ≡ true = ap is_some is in cc) } }
 
+  in_filter : (p : E → Bool) (xs : List E) (k : ℕ) (d : E) → k < length xs → p (get_or xs k d) ≡ true → 0 < length (filter p xs)
+  in_filter p [] k d lt is = absurd (omega arith)
+  in_filter p (x ∷ xs) zero d lt is = subst (λ t. 0 < length (cond t (x ∷ filter p xs) (filter p xs))) (sym is) (omega arith)
+  in_filter p (x ∷ xs) (suc k) d lt is =
+      let h = in_filter p xs k d (omega arith) is in
+      elim (p x) as (λ t. 0 < length (cond t (x ∷ filter p xs) (filter p xs))) [ true ↦ omega arith | false ↦ h ]
+
+  -- each entry is under the number 0 or under an ended one
+  pub whose : (xs mine : List E) (ls : List (EndedPass E)) → ((n : ℕ) → filter (is_by who n) xs ≡ cond (eqb n 0) mine (left_by n ls))
+      → All (λ e. (who e ≡ 0) ⊎ (is_among (who e) ls ≡ true)) xs
+  whose xs mine ls each k d lt =
+      let n : ℕ = who (get_or xs k d) in
+      let stands = in_filter (is_by who n) xs k d lt (eq-eqb n n refl) in
+      dite (ℕ_discrete n 0) (λ e. inl e)
+        (λ ne.
+          let P : Bool → Type 0 = λ t. is_among n ls ≡ t → (n ≡ 0) ⊎ (t ≡ true) in
+          (elim (is_among n ls) as P [
+            true ↦ λ _. inr refl
+            | false ↦ λ out.
+              let none : filter (is_by who n) xs ≡ [] = each n ∙ ap (λ t. cond t mine (left_by n ls)) (ne_eqb n 0 ne) ∙ left_none n ls out in
+              absurd (let z : length (filter (is_by who n) xs) ≡ 0 = ap length none in omega arith)
+          ]) refl)
+
+  -- the value that is left in the slot
   -- the value that is left in the slot where pass 0 is the only one and doesn't hold the turn
   pub record Closes (b : Beginning F) (v : View F E) (xs : List (Option X)) : Type 0 where
     pub value : X
@@ -109,7 +135,7 @@ module _ {X F E : Type 0} (frame : X → F) (story_of : X → List E) (who : E �
       let other : (n : ℕ) → n ≢ 0 → cond (eqb n 0) v.mine (left_by n c.ended) ≡ left_by n c.ended = λ n ne. ap (λ t. cond t v.mine (left_by n c.ended)) (ne_eqb n 0 ne) in
       let absent : (n : ℕ) → kind (r.place n) ≢ 1 → left_by n c.ended ≡ [] =
           λ n ne. left_none n c.ended (not_true (is_among n c.ended) (λ h. ne (ap kind ((l.gone n).0 h)))) in
-      let P : ℕ → Place → Type 0 = λ n p. r.place n ≡ p → added_by who n b.start r.story ≡ cond (eqb n 0) v.mine (left_by n c.ended) in
+      let P : ℕ → Whereabouts → Type 0 = λ n p. r.place n ≡ p → added_by who n b.start r.story ≡ cond (eqb n 0) v.mine (left_by n c.ended) in
       record {
         value = x;
         stands = end.4 0 (Some x) (ap (λ hs. get_elem? hs 0) home.1);

@@ -1,5 +1,5 @@
 -- The steps by which pass 0 ends another keep the rule: it joins, and compares what both had seen.
-use Rattle.std.proofs.Common.{◌≡◌, ◌≢◌, ◌⊎◌, ℕ, zero, suc, ◌+◌, ◌-◌, ◌%◌, ◌^◌, ◌<◌, ◌≤◌, eqb, nat_lt, List, [], ◌∷◌, ◌++◌, length, take, drop, set, slice_index, slice_set, Bool, true, false, cond, ◌&&◌, ◌||◌, refl, sym, ap, ap₂, ◌∙◌, subst, arith, inl, inr, ⊎_elim, count_by, Option, Some, None, is_some, unwrap_or, eq-eqb, ne_eqb, eqb-true}
+use Rattle.std.proofs.Common.{◌≡◌, ◌≢◌, ◌⊎◌, ℕ, zero, suc, ◌+◌, ◌-◌, ◌%◌, ◌^◌, ◌<◌, ◌≤◌, eqb, nat_lt, List, [], ◌∷◌, ◌++◌, length, take, drop, set, slice_index, slice_set, Bool, true, false, cond, ◌&&◌, ◌||◌, not, refl, sym, ap, ap₂, ◌∙◌, subst, arith, inl, inr, ⊎_elim, count_by, Option, Some, None, is_some, unwrap_or, eq-eqb, ne_eqb, eqb-true}
 use mathlib.Core.Option.{some, none}
 use mathlib.Core.Option as maybe
 use mathlib.Core.Logic.{dite}
@@ -9,12 +9,12 @@ use Rattle.atomic_table.specs.Table.{State, Me, Step, step, Act, keeps, Allows, 
 use Rattle.atomic_table.proofs.Lists.{at_set, set_here, set_else}
 use Rattle.turn_lock.specs.declared.view.Beginning.{Beginning}
 use Rattle.turn_lock.specs.declared.view.Chief.{Chief}
-use Rattle.turn_lock.specs.declared.view.Joined.{Joined}
-use Rattle.turn_lock.specs.declared.view.Leaver.{Leaver}
+use Rattle.turn_lock.specs.declared.view.JoinCheck.{JoinCheck}
+use Rattle.turn_lock.specs.declared.view.EndedPass.{EndedPass}
 use Rattle.turn_lock.specs.declared.view.View.{View}
 use Rattle.turn_lock.specs.Story.{GoesOn, longer, is_by, added_by}
-use Rattle.turn_lock.specs.View.{is_live, waits, start_of, spent, united, checked, Compares}
-use Rattle.turn_lock.specs.Rule.{Place, seated, ended, due, free, how_many, is_among, left_by, Fits, Leads, InSlot, Kept}
+use Rattle.turn_lock.specs.View.{is_among, left_by, united_seen, is_live, waits, start_of, spent, united, checked, Compares}
+use Rattle.turn_lock.specs.Rule.{Whereabouts, seated, ended, due, free, how_many, are_different, Fits, Leads, InSlot, Kept}
 use Rattle.turn_lock.proofs.Stories.{goes_short, goes_self, known_between, longer_first, longer_other, longer_both}
 use Rattle.turn_lock.proofs.Seats.{put, put_here, put_else, bit, at_within, one_place, count_set, count_same, two_of_them}
 use Rattle.turn_lock.proofs.Steps.{seat_number, kind, heads_lead, taken_set, each_set, not_empty, St, M, K, first_is, slot_set, fits_place, Goes, leads_set}
@@ -25,37 +25,67 @@ not_true true h = absurd (h refl)
 not_true false h = refl
 
 module _ {E : Type 0} where
-  among_added : (n : ℕ) (ls : List (Leaver E)) (l : Leaver E) → is_among n (ls ++ l ∷ []) ≡ (is_among n ls || eqb l.number n)
+  among_added : (n : ℕ) (ls : List (EndedPass E)) (l : EndedPass E) → is_among n (ls ++ l ∷ []) ≡ (is_among n ls || eqb l.number n)
   among_added n [] l = elim (eqb l.number n) as (λ t. (t || false) ≡ (false || t)) [ true ↦ refl | false ↦ refl ]
   among_added n (x ∷ ls) l = elim (eqb x.number n) as (λ t. (t || is_among n (ls ++ l ∷ [])) ≡ ((t || is_among n ls) || eqb l.number n)) [ true ↦ refl | false ↦ among_added n ls l ]
 
-  left_before : (n : ℕ) (ls : List (Leaver E)) (l : Leaver E) → is_among n ls ≡ true → left_by n (ls ++ l ∷ []) ≡ left_by n ls
+  left_before : (n : ℕ) (ls : List (EndedPass E)) (l : EndedPass E) → is_among n ls ≡ true → left_by n (ls ++ l ∷ []) ≡ left_by n ls
   left_before n [] l e = absurd (let c : false ≡ true = e in cc)
   left_before n (x ∷ ls) l e =
       let P : Bool → Type 0 = λ t. (t || is_among n ls) ≡ true → cond t x.mine (left_by n (ls ++ l ∷ [])) ≡ cond t x.mine (left_by n ls) in
       elim (eqb x.number n) as P [ true ↦ λ _. refl | false ↦ λ h. left_before n ls l h ] e
 
-  left_last : (n : ℕ) (ls : List (Leaver E)) (l : Leaver E) → is_among n ls ≡ false → n ≡ l.number → left_by n (ls ++ l ∷ []) ≡ l.mine
+  left_last : (n : ℕ) (ls : List (EndedPass E)) (l : EndedPass E) → is_among n ls ≡ false → n ≡ l.number → left_by n (ls ++ l ∷ []) ≡ l.mine
   left_last n [] l e same = ap (λ t. cond t l.mine []) (eq-eqb l.number n (sym same))
   left_last n (x ∷ ls) l e same =
       let P : Bool → Type 0 = λ t. (t || is_among n ls) ≡ false → cond t x.mine (left_by n (ls ++ l ∷ [])) ≡ l.mine in
       elim (eqb x.number n) as P [ true ↦ λ h. absurd (let c : true ≡ false = h in cc) | false ↦ λ h. left_last n ls l h same ] e
 
-  pub left_none : (n : ℕ) (ls : List (Leaver E)) → is_among n ls ≡ false → left_by n ls ≡ []
+  pub left_none : (n : ℕ) (ls : List (EndedPass E)) → is_among n ls ≡ false → left_by n ls ≡ []
   left_none n [] e = refl
   left_none n (x ∷ ls) e =
       let P : Bool → Type 0 = λ t. (t || is_among n ls) ≡ false → cond t x.mine (left_by n ls) ≡ [] in
       elim (eqb x.number n) as P [ true ↦ λ h. absurd (let c : true ≡ false = h in cc) | false ↦ λ h. left_none n ls h ] e
 
-  longer_whole : (a b story : List E) → a ≡ story → GoesOn b story → longer a b ≡ story
-  longer_whole a b story whole hb =
-      let P : Bool → Type 0 = λ t. nat_lt (length a) (length b) ≡ t → cond t b a ≡ story in
-      let short = goes_short b story hb in
-      let l : length a ≡ length story = ap length whole in
-      elim (nat_lt (length a) (length b)) as P [ true ↦ λ e. absurd (grind arith) | false ↦ λ e. whole ] refl
+  -- a story that the other begins is the longer one
+  pub longer_is : (a b : List E) → GoesOn b a → longer a b ≡ a
+  longer_is a b h =
+      let P : Bool → Type 0 = λ t. nat_lt (length a) (length b) ≡ t → cond t b a ≡ a in
+      let short = goes_short b a h in
+      elim (nat_lt (length a) (length b)) as P [ true ↦ λ e. absurd (grind arith) | false ↦ λ e. refl ] refl
+
+  different_added : (ls : List (EndedPass E)) (l : EndedPass E) → are_different ls ≡ true → is_among l.number ls ≡ false → are_different (ls ++ l ∷ []) ≡ true
+  different_added [] l h new = refl
+  different_added (x ∷ ls) l h new =
+      let P : Bool → Type 0 = λ t. (not t && are_different ls) ≡ true → is_among x.number ls ≡ t → are_different ((x ∷ ls) ++ l ∷ []) ≡ true in
+      let Q : Bool → Type 0 = λ t. eqb x.number l.number ≡ t → (t || is_among l.number ls) ≡ false → (eqb l.number x.number ≡ false) × (is_among l.number ls ≡ false) in
+      let apart = (elim (eqb x.number l.number) as Q [
+        true ↦ λ e f. absurd (let z : true ≡ false = f in cc)
+        | false ↦ λ e f. (ne_eqb l.number x.number (λ same. let z : true ≡ false = sym (eq-eqb x.number l.number (sym same)) ∙ e in absurd (cc)), f)
+      ]) refl new in
+      (elim (is_among x.number ls) as P [
+        true ↦ λ f e. absurd (let z : false ≡ true = f in cc)
+        | false ↦ λ f e.
+          let out : is_among x.number (ls ++ l ∷ []) ≡ false = among_added x.number ls l ∙ ap₂ (λ y z. y || z) e apart.0 in
+          ap₂ (λ y z. not y && z) out (different_added ls l f apart.1)
+      ]) h refl
+
+module _ {F E : Type 0} where
+  seen_both : (P : List E → Type 0) (v w : View F E) → P v.seen → P w.seen → P (united_seen v w)
+  seen_both P v w pv pw = elim v.holds as (λ h. P (cond h v.seen (longer v.seen w.seen))) [ true ↦ pv | false ↦ longer_both P v.seen w.seen pv pw ]
+
+  seen_first : (v w : View F E) (story : List E) → GoesOn v.seen story → GoesOn w.seen story → GoesOn v.seen (united_seen v w)
+  seen_first v w story hv hw =
+      elim v.holds as (λ h. GoesOn v.seen (cond h v.seen (longer v.seen w.seen))) [ true ↦ goes_self v.seen | false ↦ longer_first v.seen w.seen story hv hw ]
+
+  -- where the other's story begins it, what a join leaves as seen is the longer of both
+  pub seen_is : (v w : View F E) → GoesOn w.seen (united_seen v w) → united_seen v w ≡ longer v.seen w.seen
+  seen_is v w =
+      elim v.holds as (λ h. GoesOn w.seen (cond h v.seen (longer v.seen w.seen)) → cond h v.seen (longer v.seen w.seen) ≡ longer v.seen w.seen) [
+        true ↦ λ h. sym (longer_is v.seen w.seen h) | false ↦ λ h. refl ]
 
 module _ {X F E : Type 0} (frame : X → F) (story_of : X → List E) (who : E → ℕ) where
-  pub compares : (b : Beginning F) (slots id : ℕ) (me : M frame story_of who) (j : Joined E) → is_live me.0 ≡ true → me.0.number ≡ 0 → me.0.chief.joined ≡ Some j → me.0.seen ≡ longer j.first j.other
+  pub compares : (b : Beginning F) (slots id : ℕ) (me : M frame story_of who) (j : JoinCheck E) → is_live me.0 ≡ true → me.0.number ≡ 0 → me.0.chief.joined ≡ Some j → me.0.seen ≡ cond me.0.holds j.first (longer j.first j.other)
       → Allows (K frame story_of who b) slots id me 2 (λ n. n) (Compares frame story_of who (step slots 2 0 0 none) me)
   compares b slots id me j live zero_is joined seen s r wide at below =
       let v : View F E = me.0 in
@@ -66,6 +96,16 @@ module _ {X F E : Type 0} (frame : X → F) (story_of : X → List E) (who : E �
       let w : View F E = checked v in
       let f = r.seats id v at live in
       let k = l.keeps j joined in
+      let both : List E = longer j.first j.other in
+      let first_on : GoesOn j.first v.seen =
+          subst (λ z. GoesOn j.first z) (sym seen)
+            (elim v.holds as (λ h. GoesOn j.first (cond h j.first both)) [ true ↦ goes_self j.first | false ↦ longer_first j.first j.other r.story k.0 k.1 ]) in
+      let Q : Bool → Type 0 = λ h. v.holds ≡ h → GoesOn j.other v.seen in
+      let other_on : GoesOn j.other v.seen =
+          (elim v.holds as Q [
+            true ↦ λ e. subst (λ z. GoesOn j.other z) (sym (f.holding e).1) k.1
+            | false ↦ λ e. subst (λ z. GoesOn j.other z) (sym (seen ∙ ap (λ h. cond h j.first both) e)) (longer_other j.first j.other r.story k.0 k.1)
+          ]) refl in
       let waits_same : count_by waits (set s.views id w) ≡ count_by waits s.views = count_same waits s.views id v w at refl in
       subst (Goes frame story_of who b s 2 id me (λ z. z) (Compares frame story_of who (step slots 2 0 0 none) me)) (sym r.words)
         (w, keeps, tt,
@@ -86,13 +126,15 @@ module _ {X F E : Type 0} (frame : X → F) (story_of : X → List E) (who : E �
             taken = taken_set s.views id v w r.place r.place at live refl (λ _ _ e. e) r.taken;
             leads = record {
               limit = l.limit; room = l.room; others = count_same is_live s.views id v w at refl ∙ l.others; undrawn = l.undrawn; next = l.next;
-              silent = l.silent; gone = l.gone; left = l.left;
+              silent = l.silent; gone = l.gone; once = l.once; left = l.left;
               keeps = λ i is. absurd (let z : false ≡ true = ap is_some is in cc) } },
           (refl, λ i is.
             let e : j ≡ i = ap (λ o. unwrap_or o j) (sym joined ∙ is) in
-            (subst (λ z. GoesOn z.first v.seen) e (subst (λ z. GoesOn j.first z) (sym seen) (longer_first j.first j.other r.story k.0 k.1)),
-              subst (λ z. GoesOn z.other v.seen) e (subst (λ z. GoesOn j.other z) (sym seen) (longer_other j.first j.other r.story k.0 k.1)),
+            (subst (λ z. GoesOn z.first v.seen) e first_on,
+              subst (λ z. GoesOn z.other v.seen) e other_on,
               subst (λ z. z.out ≡ c.out + 1) e k.2,
+              subst (λ z. z.number ≢ 0) e k.3,
+              subst (λ z. is_among z.number z.ended ≡ false) e k.4,
               ap (λ z. added_by who v.number z v.seen) (ap start_of f.begun) ∙ f.known)))
 
   pub joins : (b : Beginning F) (id : ℕ) (v : View F E) (other : ℕ) (w : View F E) → is_live v ≡ true → v.number ≡ 0 → is_live w ≡ true → w.holds ≡ false → w.ticket ≡ None
@@ -109,7 +151,7 @@ module _ {X F E : Type 0} (frame : X → F) (story_of : X → List E) (who : E �
       let f = r.seats id v at live in
       let g = r.seats other w at_w live' in
       let d : ℕ = w.number in
-      let place' : ℕ → Place = put r.place d ended in
+      let place' : ℕ → Whereabouts = put r.place d ended in
       let views' : List (View F E) = set vs other none_left in
       let n : ℕ = count_by waits s.views in
       let n' : ℕ = count_by waits views' in
@@ -122,20 +164,22 @@ module _ {X F E : Type 0} (frame : X → F) (story_of : X → List E) (who : E �
       let apart : (m : ℕ) → kind (r.place m) ≢ 0 → m ≢ d = λ m ne e. ne (ap (λ z. kind (r.place z)) e ∙ ap kind g.sits) in
       let lives : (m i : ℕ) → i ≢ other → r.place m ≡ seated i → place' m ≡ r.place m =
           λ m i ne is. put_else r.place d ended m (λ e. ne (ap seat_number (sym is ∙ ap r.place e ∙ g.sits))) in
-      let long : List E = longer v.seen w.seen in
-      let long_on : GoesOn long r.story = longer_both (λ z. GoesOn z r.story) v.seen w.seen f.begins g.begins in
+      let long : List E = united_seen v w in
+      let long_on : GoesOn long r.story = seen_both (λ z. GoesOn z r.story) v w f.begins g.begins in
       let P : ℕ → View F E → Type 0 = Fits frame story_of who b r.story r.place r.line r.served n in
       let Q : ℕ → View F E → Type 0 = Fits frame story_of who b r.story place' r.line r.served n' in
       let id_apart : id ≢ other = λ e. apart_seats (sym e) in
       let fits_first : Q id u = record {
             begun = f.begun; begins = long_on;
-            reach = longer_both (λ z. b.start ≤ length z) v.seen w.seen f.reach g.reach;
+            reach = seen_both (λ z. b.start ≤ length z) v w f.reach g.reach;
             own = f.own;
-            known = known_between who v.number b.start v.seen long r.story v.mine (longer_first v.seen w.seen r.story f.begins g.begins) long_on f.reach f.known f.own;
+            known = known_between who v.number b.start v.seen long r.story v.mine (seen_first v w r.story f.begins g.begins) long_on f.reach f.known f.own;
             sits = lives v.number id id_apart f.sits ∙ f.sits;
             queues = λ t is. let q = f.queues t is in (q.0, (let h : t < r.served + n = q.1 in omega arith), q.2);
-            holding = λ h. let has = f.holding h in (has.0, longer_whole v.seen w.seen r.story has.1 g.begins) } in
-      let leaver : Leaver E = record { number = d; mine = w.mine } in
+            holding = λ h. let has = f.holding h in (has.0, ap (λ z. cond z v.seen (longer v.seen w.seen)) h ∙ has.1) } in
+      let absent : is_among d c.ended ≡ false = not_true (is_among d c.ended) (λ h. let z : 0 ≡ 1 = sym (ap kind g.sits) ∙ ap kind ((l.gone d).0 h) in omega arith) in
+      let not_zero : d ≢ 0 = λ e. id_apart (ap seat_number (sym f.sits ∙ ap r.place (zero_is ∙ sym e) ∙ g.sits)) in
+      let leaver : EndedPass E = record { number = d; mine = w.mine } in
       let here : (m : ℕ) → m ≡ d → place' m ≡ ended = put_here r.place d ended in
       let else' : (m : ℕ) → m ≢ d → place' m ≡ r.place m = put_else r.place d ended in
       record {
@@ -198,14 +242,14 @@ module _ {X F E : Type 0} (frame : X → F) (story_of : X → List E) (who : E �
                 let on : eqb d m ≡ true = eq-eqb d m (sym e) in
                 among_added m c.ended leaver ∙ ap (λ t. is_among m c.ended || t) on ∙ elim (is_among m c.ended) as (λ t. (t || true) ≡ true) [ true ↦ refl | false ↦ refl ])
               (λ ne. let old = (l.gone m).1 (sym (else' m ne) ∙ is) in among_added m c.ended leaver ∙ ap (λ t. t || eqb d m) old)));
+          once = different_added c.ended leaver l.once absent;
           left = λ m is. dite (ℕ_discrete m d)
             (λ e.
-              let absent : is_among m c.ended ≡ false = not_true (is_among m c.ended)
-                (λ h. let z : 0 ≡ 1 = sym (ap kind g.sits) ∙ ap (λ y. kind (r.place y)) (sym e) ∙ ap kind ((l.gone m).0 h) in omega arith) in
-              ap (λ y. added_by who y b.start r.story) e ∙ g.own ∙ sym (left_last m c.ended leaver absent e))
+              ap (λ y. added_by who y b.start r.story) e ∙ g.own ∙ sym (left_last m c.ended leaver (ap (λ y. is_among y c.ended) e ∙ absent) e))
             (λ ne. let old = sym (else' m ne) ∙ is in l.left m old ∙ sym (left_before m c.ended leaver ((l.gone m).1 old)));
           keeps = λ j is.
-            let kept : Joined E = record { first = v.seen; other = w.seen; out = c.out } in
+            let kept : JoinCheck E = record { first = v.seen; other = w.seen; number = d; out = c.out; ended = c.ended } in
             let e : kept ≡ j = ap (λ o. unwrap_or o kept) is in
             (subst (λ y. GoesOn y.first r.story) e f.begins, subst (λ y. GoesOn y.other r.story) e g.begins,
-              subst (λ y. y.out ≡ (c.out - 1) + 1) e (let h : c.out ≡ (c.out - 1) + 1 = omega arith in h)) } }
+              subst (λ y. y.out ≡ (c.out - 1) + 1) e (let h : c.out ≡ (c.out - 1) + 1 = omega arith in h),
+              subst (λ y. y.number ≢ 0) e not_zero, subst (λ y. is_among y.number y.ended ≡ false) e absent) } }

@@ -13,8 +13,8 @@ use Rattle.turn_lock.specs.declared.view.Beginning.{Beginning}
 use Rattle.turn_lock.specs.declared.view.Chief.{Chief}
 use Rattle.turn_lock.specs.declared.view.View.{View}
 use Rattle.turn_lock.specs.Story.{GoesOn, is_by, added_by}
-use Rattle.turn_lock.specs.View.{is_live, waits, start_of, drawn, parted, given, DrawsNumber}
-use Rattle.turn_lock.specs.Rule.{Place, seated, ended, due, free, how_many, is_among, left_by, Fits, Leads, InSlot, Kept}
+use Rattle.turn_lock.specs.View.{is_among, left_by, is_live, waits, start_of, drawn, parted, split_view, DrawsNumber}
+use Rattle.turn_lock.specs.Rule.{Whereabouts, seated, ended, due, free, how_many, Fits, Leads, InSlot, Kept}
 use Rattle.turn_lock.proofs.Stories.{nothing_before}
 use Rattle.turn_lock.proofs.Seats.{put, put_here, put_else, bit, at_within, at_added, count_set, count_same, count_added}
 use Rattle.turn_lock.proofs.Steps.{seat_number, kind, heads_lead, taken_set, each_set, not_empty, St, M, K, first_is, slot_set, fits_place, Goes, leads_set}
@@ -36,7 +36,7 @@ module _ {X F E : Type 0} (frame : X → F) (story_of : X → List E) (who : E �
       let d : ℕ = r.chief.made in
       let d_is : c.made ≡ d = ap (λ z. z.made) same in
       let w : View F E = drawn d v in
-      let place' : ℕ → Place = put r.place d due in
+      let place' : ℕ → Whereabouts = put r.place d due in
       let f = r.seats id v at live in
       let was_free : r.place d ≡ free = (l.undrawn d).0 (omega arith) in
       let apart : (m : ℕ) → kind (r.place m) ≢ 3 → m ≢ d = λ m ne e. ne (ap (λ z. kind (r.place z)) e ∙ ap kind was_free) in
@@ -92,6 +92,7 @@ module _ {X F E : Type 0} (frame : X → F) (story_of : X → List E) (who : E �
                 (λ is. dite (ℕ_discrete n d)
                   (λ e. absurd (let z : 2 ≡ 1 = sym (ap kind (put_here r.place d due n e)) ∙ ap kind is in omega arith))
                   (λ ne. (l.gone n).1 (sym (put_else r.place d due n ne) ∙ is))));
+              once = l.once;
               left = λ n is. dite (ℕ_discrete n d)
                 (λ e. absurd (let z : 2 ≡ 1 = sym (ap kind (put_here r.place d due n e)) ∙ ap kind is in omega arith))
                 (λ ne. l.left n (sym (put_else r.place d due n ne) ∙ is));
@@ -105,16 +106,16 @@ module _ {X F E : Type 0} (frame : X → F) (story_of : X → List E) (who : E �
       ⊎_elim (λ h. inl h) (λ h. inr (h.0, (h.1.0, h.1.1, at_longer views (w ∷ []) h.1.0 h.1.1 h.1.2, h.1.3, h.1.4))) slot
 
   pub splits : (b : Beginning F) (id : ℕ) (v : View F E) (d : ℕ) → is_live v ≡ true → v.number ≡ 0 → v.chief.due ≡ Some d → v.chief.joined ≡ None
-      → Splits (K frame story_of who b) id v (parted v) (given v)
+      → Splits (K frame story_of who b) id v (parted v) (split_view v)
   splits b id v d live zero_is due_is no_join s r at =
       let c : Chief E = v.chief in
       let is_first = first_is frame story_of who b s r id v at live zero_is in
       let same = own_chief b s r id v at live zero_is in
       let l = subst (Leads frame story_of who b r.story r.place s.views) (sym same) r.leads in
       let w : View F E = parted v in
-      let new : View F E = given v in
+      let new : View F E = split_view v in
       let vs : List (View F E) = set s.views id w in
-      let place' : ℕ → Place = put r.place d (seated (length vs)) in
+      let place' : ℕ → Whereabouts = put r.place d (seated (length vs)) in
       let f = r.seats id v at live in
       let was_due : r.place d ≡ due = (l.next d).0 due_is in
       let number_is : new.number ≡ d = ap (λ o. unwrap_or o 0) due_is in
@@ -185,6 +186,7 @@ module _ {X F E : Type 0} (frame : X → F) (story_of : X → List E) (who : E �
             (λ is. dite (ℕ_discrete m d)
               (λ e. absurd (let z : 0 ≡ 1 = sym (ap kind (put_here r.place d (seated (length vs)) m e)) ∙ ap kind is in omega arith))
               (λ ne. (l.gone m).1 (sym (put_else r.place d (seated (length vs)) m ne) ∙ is))));
+          once = l.once;
           left = λ m is. dite (ℕ_discrete m d)
             (λ e. absurd (let z : 0 ≡ 1 = sym (ap kind (put_here r.place d (seated (length vs)) m e)) ∙ ap kind is in omega arith))
             (λ ne. l.left m (sym (put_else r.place d (seated (length vs)) m ne) ∙ is));

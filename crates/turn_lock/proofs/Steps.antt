@@ -10,23 +10,23 @@ use lib.ListN.{get_elem?}
 use Rattle.atomic_table.specs.Table.{State, Me, Step, step, keeps, takes, gives, Allows, Splits, Joins, Act, Valid, homes_after, carried_after}
 use Rattle.atomic_table.proofs.Lists.{at_set, set_here, set_else, at_longer, at_last, one_turn}
 use Rattle.turn_lock.specs.declared.view.Beginning.{Beginning}
-use Rattle.turn_lock.specs.declared.view.Joined.{Joined}
-use Rattle.turn_lock.specs.declared.view.Leaver.{Leaver}
+use Rattle.turn_lock.specs.declared.view.JoinCheck.{JoinCheck}
+use Rattle.turn_lock.specs.declared.view.EndedPass.{EndedPass}
 use Rattle.turn_lock.specs.declared.view.Chief.{Chief}
 use Rattle.turn_lock.specs.declared.view.View.{View}
-use Rattle.turn_lock.specs.Story.{GoesOn, longer, is_by, added_by, Adds}
-use Rattle.turn_lock.specs.View.{newcomer, no_chief, spent, is_live, waits, start_of, drawn, parted, given, united, checked, queued, took, gave, DrawsNumber, Compares, DrawsTicket, Holds, Looks, Serves}
-use Rattle.turn_lock.specs.Rule.{Place, seated, ended, due, free, is_among, left_by, how_many, beginning_of, first_view, Fits, Leads, InSlot, Kept}
+use Rattle.turn_lock.specs.Story.{GoesOn, longer, is_by, added_by, AddsUnder}
+use Rattle.turn_lock.specs.View.{is_live, waits}
+use Rattle.turn_lock.specs.Rule.{Whereabouts, seated, ended, due, free, how_many, beginning_of, first_view, Fits, Leads, InSlot, Kept}
 use Rattle.turn_lock.proofs.Stories.{goes_short, goes_append, goes_self, goes_between, goes_parts, by_append, by_parts, others_add_none, none_new, known_between, nothing_before, longer_first, longer_other, longer_both}
 use Rattle.turn_lock.proofs.Seats.{put, put_here, put_else, bit, at_within, there, at_added, one_place, count_set, count_same, count_added, count_within, two_of_them}
 
-abbrev pub seat_number : Place → ℕ
+abbrev pub seat_number : Whereabouts → ℕ
 seat_number (seated i) = i
 seat_number ended = 0
 seat_number due = 0
 seat_number free = 0
 
-abbrev pub kind : Place → ℕ
+abbrev pub kind : Whereabouts → ℕ
 kind (seated i) = 0
 kind ended = 1
 kind due = 2
@@ -43,7 +43,7 @@ module _ {F E : Type 0} where
   abbrev pub Heads : List (View F E) → Chief E → Type 0
   Heads views c = (v : View F E) → get_elem? views 0 ≡ some v → (is_live v ≡ true) × (v.number ≡ 0) × (v.chief ≡ c)
 
-  abbrev pub Taken : List (View F E) → (ℕ → Place) → Type 0
+  abbrev pub Taken : List (View F E) → (ℕ → Whereabouts) → Type 0
   Taken views place = (n id : ℕ) → place n ≡ seated id → (v : View F E) × (get_elem? views id ≡ some v) × (is_live v ≡ true) × (v.number ≡ n)
 
   abbrev pub Each : List (View F E) → (ℕ → View F E → Type 0) → Type 0
@@ -66,7 +66,7 @@ module _ {F E : Type 0} where
         (λ e. absurd (e.0 (sym zero_is)))
         (at_set views id 0 w u at')
 
-  pub taken_set : (views : List (View F E)) (id : ℕ) (v w : View F E) (place place' : ℕ → Place) → get_elem? views id ≡ some v → is_live w ≡ true → w.number ≡ v.number
+  pub taken_set : (views : List (View F E)) (id : ℕ) (v w : View F E) (place place' : ℕ → Whereabouts) → get_elem? views id ≡ some v → is_live w ≡ true → w.number ≡ v.number
       → ((n i : ℕ) → place' n ≡ seated i → place n ≡ seated i) → Taken views place → Taken (set views id w) place'
   taken_set views id v w place place' at live number back taken n i is =
       let t = taken n i (back n i is) in
@@ -127,7 +127,7 @@ module _ {X F E : Type 0} (frame : X → F) (story_of : X → List E) (who : E �
       let o = l.others in let m = l.room in let k = l.limit in omega arith
 
   -- a fact of the story that stays, of the other seats, where nothing but the places of other numbers changes
-  pub fits_place : (b : Beginning F) (story : List E) (place place' line line' : ℕ → Place) (served waiting waiting' i : ℕ) (u : View F E)
+  pub fits_place : (b : Beginning F) (story : List E) (place place' : ℕ → Whereabouts) (line line' : ℕ → Option ℕ) (served waiting waiting' i : ℕ) (u : View F E)
       → (place' u.number ≡ place u.number) → ((t : ℕ) → t < served + waiting → line' t ≡ line t) → waiting ≤ waiting'
       → Fits frame story_of who b story place line served waiting i u → Fits frame story_of who b story place' line' served waiting' i u
   fits_place b story place place' line line' served waiting waiting' i u same lines more f = record {
@@ -143,11 +143,11 @@ module _ {X F E : Type 0} (frame : X → F) (story_of : X → List E) (who : E �
       × then (slice_index ws i) (w, carried_after me.1 a)
 
   -- what pass 0 keeps, where a view changes that stays live
-  pub leads_set : (b : Beginning F) (story : List E) (place : ℕ → Place) (views : List (View F E)) (c : Chief E) (id : ℕ) (v w : View F E) → get_elem? views id ≡ some v → is_live w ≡ is_live v
+  pub leads_set : (b : Beginning F) (story : List E) (place : ℕ → Whereabouts) (views : List (View F E)) (c : Chief E) (id : ℕ) (v w : View F E) → get_elem? views id ≡ some v → is_live w ≡ is_live v
       → Leads frame story_of who b story place views c → Leads frame story_of who b story place (set views id w) c
   leads_set b story place views c id v w at live l = record {
     limit = l.limit; room = l.room; others = count_same is_live views id v w at live ∙ l.others; undrawn = l.undrawn; next = l.next;
-    silent = l.silent; gone = l.gone; left = l.left; keeps = l.keeps }
+    silent = l.silent; gone = l.gone; once = l.once; left = l.left; keeps = l.keeps }
 
   -- the rule over the words as they are
   pub spelled : (b : Beginning F) (s : St) (r : K b s) → K b (record { words = r.chief.made ∷ (r.served + count_by waits s.views) % 2 ^ 64 ∷ r.served % 2 ^ 64 ∷ []; homes = s.homes; views = s.views })

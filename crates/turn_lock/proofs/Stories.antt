@@ -4,7 +4,7 @@ use Rattle.std.specs.List.{filter}
 use Rattle.std.proofs.lemmas.List.{append-nil, take-append-drop, drop-append-le, take-append-le, length-take}
 use Rattle.std.proofs.lemmas.List.Elements.{filter-append}
 use lib.Seq.{take-length, drop-length, take-take}
-use Rattle.turn_lock.specs.Story.{GoesOn, longer, is_by, added_by, Adds}
+use Rattle.turn_lock.specs.Story.{GoesOn, longer, is_by, added_by, AddsUnder}
 
 module _ {E : Type 0} where
   pub goes_short : (seen story : List E) → GoesOn seen story → length seen ≤ length story

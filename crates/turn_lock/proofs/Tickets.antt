@@ -10,11 +10,11 @@ use lib.ListN.{get_elem?}
 use Rattle.atomic_table.specs.Table.{State, Me, Step, step, Act, keeps, takes, gives, Allows, Valid, homes_after, carried_after, put_back, rest}
 use Rattle.atomic_table.proofs.Lists.{at_set, set_here, set_else, set_again, one_turn}
 use Rattle.turn_lock.specs.declared.view.Beginning.{Beginning}
-use Rattle.turn_lock.specs.declared.view.Joined.{Joined}
+use Rattle.turn_lock.specs.declared.view.JoinCheck.{JoinCheck}
 use Rattle.turn_lock.specs.declared.view.View.{View}
-use Rattle.turn_lock.specs.Story.{GoesOn, is_by, added_by, Adds}
-use Rattle.turn_lock.specs.View.{is_live, waits, queued, took, gave, DrawsTicket, Holds, Looks, Serves}
-use Rattle.turn_lock.specs.Rule.{Place, seated, ended, due, free, Fits, Leads, InSlot, Kept}
+use Rattle.turn_lock.specs.Story.{GoesOn, is_by, added_by, AddsUnder}
+use Rattle.turn_lock.specs.View.{is_live, waits, queued, took, gave, DrawsTicket, Holds, LooksAtServed, Serves}
+use Rattle.turn_lock.specs.Rule.{Whereabouts, seated, ended, due, free, Fits, Leads, InSlot, Kept}
 use Rattle.turn_lock.proofs.Stories.{goes_short, goes_self, goes_trans, goes_parts, by_parts, others_add_none}
 use Rattle.turn_lock.proofs.Seats.{put, put_here, put_else, bit, at_within, one_place, count_set, count_same}
 use Rattle.turn_lock.proofs.Steps.{seat_number, kind, next_mod, heads_kept, taken_set, each_set, not_empty, St, M, K, slot_set, few_wait, fits_place, Goes, leads_set, spelled}
@@ -33,7 +33,7 @@ module _ {X F E : Type 0} (frame : X → F) (story_of : X → List E) (who : E �
       let in_line : waits w ≡ true = ap (λ z. z && true) live in
       let more : n' ≡ n + 1 = omega (arith, count_set waits s.views id v w at, ap bit out, ap bit in_line) in
       let f = r.seats id v at live in
-      let line' : ℕ → Place = put r.line t (seated id) in
+      let line' : ℕ → Option ℕ = put r.line t (Some id) in
       subst (Goes frame story_of who b s 1 id me (λ k. (k + 1) % 2 ^ 64) (DrawsTicket frame story_of who (step slots 1 1 0 none) me)) (sym r.words)
         (w, keeps, tt,
           record {
@@ -47,17 +47,17 @@ module _ {X F E : Type 0} (frame : X → F) (story_of : X → List E) (who : E �
             seats = each_set s.views id w (Fits frame story_of who b r.story r.place r.line r.served n) (Fits frame story_of who b r.story r.place line' r.served n')
               record {
                 begun = f.begun; begins = f.begins; reach = f.reach; own = f.own; known = f.known; sits = f.sits;
-                queues = λ u is. let e : t ≡ u = ap (λ o. unwrap_or o 0) is in (omega arith, omega arith, put_here r.line t (seated id) u (sym e));
+                queues = λ u is. let e : t ≡ u = ap (λ o. unwrap_or o 0) is in (omega arith, omega arith, put_here r.line t (Some id) u (sym e));
                 holding = λ h. absurd (let e : true ≡ false = sym h ∙ free_hands in cc) }
               (λ i u ne g. fits_place frame story_of who b r.story r.place r.place r.line line' r.served n n' i u refl
-                (λ x lt. put_else r.line t (seated id) x (λ e. omega arith)) (omega arith) g)
+                (λ x lt. put_else r.line t (Some id) x (λ e. omega arith)) (omega arith) g)
               r.seats;
             taken = taken_set s.views id v w r.place r.place at live refl (λ _ _ e. e) r.taken;
             leads = leads_set frame story_of who b r.story r.place s.views r.chief id v w at refl r.leads },
           (t, refl, refl))
 
   -- where the ticket is served, nobody has the value out
-  at_home : (b : Beginning F) (s : St frame story_of who) (r : K frame story_of who b s) (id : ℕ) (v : View F E) → get_elem? s.views id ≡ some v → v.holds ≡ false → r.line r.served ≡ seated id
+  at_home : (b : Beginning F) (s : St frame story_of who) (r : K frame story_of who b s) (id : ℕ) (v : View F E) → get_elem? s.views id ≡ some v → v.holds ≡ false → r.line r.served ≡ Some id
       → (x : X) × (s.homes ≡ some (Some x) ∷ []) × (frame x ≡ b.frame) × (story_of x ≡ r.story)
   at_home b s r id v at free_hands mine =
       ⊎_elim (λ h. h)
@@ -65,19 +65,19 @@ module _ {X F E : Type 0} (frame : X → F) (story_of : X → List E) (who : E �
           let f = r.seats h.1.0 h.1.1 h.1.2 h.1.3 in
           let has = f.holding h.1.4 in
           let its = (f.queues r.served has.0).2 in
-          let e : h.1.0 ≡ id = ap seat_number (sym its ∙ mine) in
+          let e : h.1.0 ≡ id = ap (λ o. unwrap_or o 0) (sym its ∙ mine) in
           let same : v ≡ h.1.1 = one_place s.views id v h.1.1 at (subst (λ j. get_elem? s.views j ≡ some h.1.1) e h.1.2) in
           absurd (let c : true ≡ false = sym h.1.4 ∙ sym (ap (λ z. z.holds) same) ∙ free_hands in cc))
         r.slot
 
   pub looks : (b : Beginning F) (slots id : ℕ) (me : M frame story_of who) (t : ℕ) → is_live me.0 ≡ true → me.0.holds ≡ false → me.0.ticket ≡ Some t
-      → Allows (K frame story_of who b) slots id me 2 (λ n. n) (Looks frame story_of who (step slots 2 0 0 none) me)
+      → Allows (K frame story_of who b) slots id me 2 (λ n. n) (LooksAtServed frame story_of who (step slots 2 0 0 none) me)
   looks b slots id me t live free_hands has s r wide at below =
       let v : View F E = me.0 in
       let n : ℕ = count_by waits s.views in
       let f = r.seats id v at live in
       let q = f.queues t has in
-      let told : ℕ → M frame story_of who → Type 0 = Looks frame story_of who (step slots 2 0 0 none) me in
+      let told : ℕ → M frame story_of who → Type 0 = LooksAtServed frame story_of who (step slots 2 0 0 none) me in
       let few = few_wait frame story_of who b s r in
       subst (Goes frame story_of who b s 2 id me (λ k. k) told) (sym r.words)
         (dite (ℕ_discrete (r.served % 2 ^ 64) (t % 2 ^ 64))
@@ -137,7 +137,7 @@ module _ {X F E : Type 0} (frame : X → F) (story_of : X → List E) (who : E �
       ∙ ⊎_elim (λ h. ap (λ hs. set hs 0 (some (Some x))) h.1) (λ h. ap (λ hs. set hs 0 (some (Some x))) h.0) r.slot
 
   pub serves : (b : Beginning F) (slots id : ℕ) (me : M frame story_of who) (x : X) → is_live me.0 ≡ true → me.0.holds ≡ true → me.1 ≡ (0, Some x) ∷ []
-      → frame x ≡ b.frame → Adds who me.0.number me.0.seen (story_of x)
+      → frame x ≡ b.frame → AddsUnder who me.0.number me.0.seen (story_of x)
       → Allows (K frame story_of who b) slots id me 2 (λ n. (n + 1) % 2 ^ 64) (Serves frame story_of who (step slots 2 1 0 none) me)
   serves b slots id me x live holds carries framed adds s r wide at below =
       let v : View F E = me.0 in
@@ -181,7 +181,7 @@ module _ {X F E : Type 0} (frame : X → F) (story_of : X → List E) (who : E �
                 holding = λ h. absurd (let e : false ≡ true = h in cc) }
               (λ i u ne g.
                 let other : u.number ≢ v.number = λ e. ne (ap seat_number (sym g.sits ∙ ap r.place e ∙ f.sits)) in
-                let not_mine : (k : ℕ) → r.line k ≡ seated i → k ≢ r.served = λ k is e. ne (ap seat_number (sym is ∙ ap r.line e ∙ mine)) in
+                let not_mine : (k : ℕ) → r.line k ≡ Some i → k ≢ r.served = λ k is e. ne (ap (λ o. unwrap_or o 0) (sym is ∙ ap r.line e ∙ mine)) in
                 record {
                   begun = g.begun; begins = goes_trans u.seen r.story story' g.begins on; reach = g.reach;
                   own = still u.number other ∙ g.own; known = g.known; sits = g.sits;
@@ -195,9 +195,9 @@ module _ {X F E : Type 0} (frame : X → F) (story_of : X → List E) (who : E �
               limit = l.limit; room = l.room; others = count_same is_live s.views id v w at refl ∙ l.others;
               undrawn = l.undrawn; next = l.next;
               silent = λ m is. still m (apart m (⊎_elim (λ e z. let c : 0 ≡ 3 = sym z ∙ ap kind e in omega arith) (λ e z. let c : 0 ≡ 2 = sym z ∙ ap kind e in omega arith) is)) ∙ l.silent m is;
-              gone = l.gone;
+              gone = l.gone; once = l.once;
               left = λ m is. still m (apart m (λ z. let c : 0 ≡ 1 = sym z ∙ ap kind is in omega arith)) ∙ l.left m is;
-              keeps = λ j is. let k = l.keeps j is in (goes_trans j.first r.story story' k.0 on, goes_trans j.other r.story story' k.1 on, k.2) } },
+              keeps = λ j is. let k = l.keeps j is in (goes_trans j.first r.story story' k.0 on, goes_trans j.other r.story story' k.1 on, k.2, k.3, k.4) } },
           λ x' carries'.
             let same : x ≡ x' = ap (value_in x) (sym carries ∙ carries') in
             ap₂ (λ y z. (gave (story_of y) v, z)) same (ap rest carries))

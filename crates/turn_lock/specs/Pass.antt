@@ -1,5 +1,5 @@
 -- What a pass stands for, and what ties its fields to the view of its seat.
-use Rattle.std.specs.Prelude.{◌≡◌, ℕ, ◌+◌, ◌-◌, ◌<◌, ◌≤◌, ◌==◌, List, [], ◌∷◌, ◌++◌, length, drop, Bool, true, false, Option, Some, None, if◌then◌else◌}
+use Rattle.std.specs.Prelude.{◌≡◌, ◌⊎◌, ℕ, ◌+◌, ◌-◌, ◌<◌, ◌≤◌, ◌==◌, List, [], ◌∷◌, ◌++◌, length, drop, Bool, true, false, Option, Some, None, if◌then◌else◌}
 use Rattle.atomic_table.specs.Seated.{TableId}
 use Rattle.atomic_table.specs.Table.{Me}
 use Rattle.turn_lock.specs.declared.view.Beginning.{Beginning}
@@ -7,8 +7,7 @@ use Rattle.turn_lock.specs.declared.view.View.{View}
 use Rattle.turn_lock.specs.declared.view.TurnState.{TurnState}
 use Rattle.turn_lock.specs.declared.view.PassState.{PassState}
 use Rattle.turn_lock.specs.Story.{longer, added_by}
-use Rattle.turn_lock.specs.Rule.{left_by}
-use Rattle.turn_lock.specs.View.{start_of}
+use Rattle.turn_lock.specs.View.{start_of, is_among, left_by}
 use Rattle.turn_lock.specs.Turn.{name_of}
 
 -- the turn whose table has this identity; a seat whose pass was joined has none
@@ -44,10 +43,18 @@ module _ {F E : Type 0} where
     pub reach : start_of me.0.beginning ≤ length me.0.seen
     pub known : added_by who number (start_of me.0.beginning) me.0.seen ≡ me.0.mine
 
+  -- the turn of the pass has this name
+  abbrev pub IsPassOf : PassState F E → (name : List ℕ) → Type 0
+  IsPassOf pass name = (turn : TurnState F) × (pass.turn ≡ Some turn) × (turn.name ≡ name)
+
+  -- the number is that of pass 0 or of a pass that was joined
+  abbrev pub IsOneOf : (number : ℕ) → PassState F E → Type 0
+  IsOneOf number first = (number ≡ 0) ⊎ (is_among number first.ended ≡ true)
+
   -- what each number has past the turn's start: pass 0 its own entries, a joined pass those that it had, and
   -- any other none
-  abbrev pub given_by : (number : ℕ) → PassState F E → List E
-  given_by number first = if number == 0 then first.mine else left_by number first.ended
+  abbrev pub entries_of : (number : ℕ) → PassState F E → List E
+  entries_of number first = if number == 0 then first.mine else left_by number first.ended
 
   -- the first pass of a turn whose value had this story
   abbrev pub first_pass : TurnState F → (story : List E) → PassState F E
@@ -91,8 +98,8 @@ module _ {F E : Type 0} where
   holding story pass = record pass { holds = true; seen = story }
 
   -- a pass that gave the turn back with this story
-  abbrev pub given_back : (story : List E) → PassState F E → PassState F E
-  given_back story pass = record pass {
+  abbrev pub gave_back : (story : List E) → PassState F E → PassState F E
+  gave_back story pass = record pass {
     holds = false;
     seen = story;
     mine = pass.mine ++ drop (length pass.seen) story;

@@ -1,36 +1,32 @@
 -- What holds of a lock between any two steps: one story, from which every pass has seen a beginning, and in which
 -- each number has the entries of its own pass.
 -- Word 0 counts the numbers drawn, word 1 the tickets drawn and word 2 the tickets served, both modulo 2^64.
-use Rattle.std.specs.Prelude.{◌≡◌, ◌≢◌, ◌⊎◌, ◌↔◌, ℕ, ◌+◌, ◌%◌, ◌^◌, ◌<◌, ◌≤◌, ◌==◌, List, [], ◌∷◌, length, Bool, true, false, ◌||◌, Option, Some, None, if◌then◌else◌}
+use Rattle.std.specs.Prelude.{◌≡◌, ◌≢◌, ◌⊎◌, ◌↔◌, ℕ, ◌+◌, ◌%◌, ◌^◌, ◌<◌, ◌≤◌, ◌==◌, List, [], ◌∷◌, length, Bool, true, false, ◌||◌, ◌&&◌, not, Option, Some, None, if◌then◌else◌}
 use Rattle.std.specs.List.{count_by}
 use mathlib.Core.Option.{some, none}
 use mathlib.Core.Option as maybe
 use lib.ListN.{get_elem?}
 use Rattle.atomic_table.specs.Table.{State}
 use Rattle.turn_lock.specs.declared.view.Beginning.{Beginning}
-use Rattle.turn_lock.specs.declared.view.Leaver.{Leaver}
-use Rattle.turn_lock.specs.declared.view.Joined.{Joined}
+use Rattle.turn_lock.specs.declared.view.EndedPass.{EndedPass}
+use Rattle.turn_lock.specs.declared.view.JoinCheck.{JoinCheck}
 use Rattle.turn_lock.specs.declared.view.Chief.{Chief}
 use Rattle.turn_lock.specs.declared.view.View.{View}
 use Rattle.turn_lock.specs.Story.{GoesOn, added_by}
-use Rattle.turn_lock.specs.View.{newcomer, no_chief, is_live, waits}
+use Rattle.turn_lock.specs.View.{newcomer, no_chief, is_live, waits, is_among, left_by}
 
 -- where a number is: with a seat, among the joined, drawn and about to be given, or not drawn
-pub data Place : Type 0 where
-  seated : ℕ → Place
-  ended : Place
-  due : Place
-  free : Place
+pub data Whereabouts : Type 0 where
+  seated : ℕ → Whereabouts
+  ended : Whereabouts
+  due : Whereabouts
+  free : Whereabouts
 
 module _ {E : Type 0} where
-  abbrev pub is_among : (number : ℕ) → List (Leaver E) → Bool
-  is_among number [] = false
-  is_among number (l ∷ ls) = (l.number == number) || is_among number ls
-
-  -- what the joined pass with this number had added, and nothing where none has it
-  abbrev pub left_by : (number : ℕ) → List (Leaver E) → List E
-  left_by number [] = []
-  left_by number (l ∷ ls) = if l.number == number then l.mine else left_by number ls
+  -- no number is there twice
+  abbrev pub are_different : List (EndedPass E) → Bool
+  are_different [] = true
+  are_different (p ∷ ps) = not (is_among p.number ps) && are_different ps
 
 abbrev pub how_many : Option ℕ → ℕ
 how_many None = 0
@@ -47,7 +43,7 @@ module _ {X F E : Type 0} (frame : X → F) (story_of : X → List E) where
 module _ {X F E : Type 0} (frame : X → F) (story_of : X → List E) (who : E → ℕ) where
   module _ (b : Beginning F) (story : List E) where
     -- the live seat `id`, where so many tickets were served and so many seats wait
-    pub record Fits (place line : ℕ → Place) (served waiting id : ℕ) (v : View F E) : Type 0 where
+    pub record Fits (place : ℕ → Whereabouts) (line : ℕ → Option ℕ) (served waiting id : ℕ) (v : View F E) : Type 0 where
       pub begun : v.beginning ≡ Some b
       pub begins : GoesOn v.seen story
       pub reach : b.start ≤ length v.seen
@@ -56,11 +52,11 @@ module _ {X F E : Type 0} (frame : X → F) (story_of : X → List E) (who : E �
       pub known : added_by who v.number b.start v.seen ≡ v.mine
       pub sits : place v.number ≡ seated id
       -- no other seat has its ticket
-      pub queues : (t : ℕ) → v.ticket ≡ Some t → (served ≤ t) × (t < served + waiting) × (line t ≡ seated id)
+      pub queues : (t : ℕ) → v.ticket ≡ Some t → (served ≤ t) × (t < served + waiting) × (line t ≡ Some id)
       pub holding : v.holds ≡ true → (v.ticket ≡ Some served) × (v.seen ≡ story)
 
     -- what pass 0 keeps of the others
-    pub record Leads (place : ℕ → Place) (views : List (View F E)) (c : Chief E) : Type 0 where
+    pub record Leads (place : ℕ → Whereabouts) (views : List (View F E)) (c : Chief E) : Type 0 where
       pub limit : c.made < 2 ^ 32
       pub room : c.out + 1 + how_many c.due ≤ c.made
       pub others : count_by is_live views ≡ c.out + 1
@@ -68,8 +64,10 @@ module _ {X F E : Type 0} (frame : X → F) (story_of : X → List E) (who : E �
       pub next : (n : ℕ) → (c.due ≡ Some n) ↔ (place n ≡ due)
       pub silent : (n : ℕ) → (place n ≡ free) ⊎ (place n ≡ due) → added_by who n b.start story ≡ []
       pub gone : (n : ℕ) → (is_among n c.ended ≡ true) ↔ (place n ≡ ended)
+      pub once : are_different c.ended ≡ true
       pub left : (n : ℕ) → place n ≡ ended → added_by who n b.start story ≡ left_by n c.ended
-      pub keeps : (j : Joined E) → c.joined ≡ Some j → GoesOn j.first story × GoesOn j.other story × (j.out ≡ c.out + 1)
+      pub keeps : (j : JoinCheck E) → c.joined ≡ Some j → GoesOn j.first story × GoesOn j.other story × (j.out ≡ c.out + 1)
+        × (j.number ≢ 0) × (is_among j.number j.ended ≡ false)
 
     -- the slot has a value with this story, or a seat that holds the turn has taken it out
     abbrev pub InSlot : List (maybe.Option (Option X)) → List (View F E) → Type 0
@@ -81,8 +79,8 @@ module _ {X F E : Type 0} (frame : X → F) (story_of : X → List E) (who : E �
   pub record Kept (b : Beginning F) (s : State (Option X) (View F E)) : Type 0 where
     pub story : List E
     -- where each number is, which seat has each ticket, and how many tickets were served
-    pub place : ℕ → Place
-    pub line : ℕ → Place
+    pub place : ℕ → Whereabouts
+    pub line : ℕ → Option ℕ
     pub served : ℕ
     pub chief : Chief E
     pub words : s.words ≡ chief.made ∷ (served + count_by waits s.views) % 2 ^ 64 ∷ served % 2 ^ 64 ∷ []

@@ -19,5 +19,5 @@ module _ {E : Type 0} (who : E → ℕ) where
   added_by number start story = filter (is_by number) (drop start story)
 
   -- the story is the one before and then entries under this number
-  abbrev pub Adds : (number : ℕ) → (before story : List E) → Type 0
-  Adds number before story = GoesOn before story × (filter (is_by number) (drop (length before) story) ≡ drop (length before) story)
+  abbrev pub AddsUnder : (number : ℕ) → (before story : List E) → Type 0
+  AddsUnder number before story = GoesOn before story × (filter (is_by number) (drop (length before) story) ≡ drop (length before) story)

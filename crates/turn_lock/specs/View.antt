@@ -1,13 +1,23 @@
 -- What a seat at the table of a lock knows, and what each kind of step makes of it.
 -- A holder has the value out of the slot between two of its steps; its view stays as it is then.
-use Rattle.std.specs.Prelude.{◌≡◌, ◌≢◌, ℕ, ◌+◌, ◌-◌, ◌%◌, ◌^◌, ◌<◌, List, [], ◌∷◌, ◌++◌, length, drop, Bool, true, false, ◌&&◌, Option, Some, None, is_some, unwrap_or}
+use Rattle.std.specs.Prelude.{◌≡◌, ◌≢◌, ℕ, ◌+◌, ◌-◌, ◌%◌, ◌^◌, ◌<◌, List, [], ◌∷◌, ◌++◌, length, drop, Bool, true, false, ◌&&◌, ◌||◌, ◌==◌, if◌then◌else◌, Option, Some, None, is_some, unwrap_or}
 use Rattle.atomic_table.specs.Table.{Step, Me}
 use Rattle.turn_lock.specs.declared.view.Beginning.{Beginning}
-use Rattle.turn_lock.specs.declared.view.Leaver.{Leaver}
-use Rattle.turn_lock.specs.declared.view.Joined.{Joined}
+use Rattle.turn_lock.specs.declared.view.EndedPass.{EndedPass}
+use Rattle.turn_lock.specs.declared.view.JoinCheck.{JoinCheck}
 use Rattle.turn_lock.specs.declared.view.Chief.{Chief}
 use Rattle.turn_lock.specs.declared.view.View.{View}
 use Rattle.turn_lock.specs.Story.{GoesOn, longer, added_by}
+
+module _ {E : Type 0} where
+  abbrev pub is_among : (number : ℕ) → List (EndedPass E) → Bool
+  is_among number [] = false
+  is_among number (p ∷ ps) = (p.number == number) || is_among number ps
+
+  -- what the ended pass with this number had added, and nothing where none has it
+  abbrev pub left_by : (number : ℕ) → List (EndedPass E) → List E
+  left_by number [] = []
+  left_by number (p ∷ ps) = if p.number == number then p.mine else left_by number ps
 
 abbrev pub no_chief : {E : Type 0} → Chief E
 no_chief = record { made = 0; out = 0; ended = []; due = None; joined = None }
@@ -49,17 +59,21 @@ module _ {F E : Type 0} where
   parted v = let c = v.chief in record v { chief = record c { out = c.out + 1; due = None } }
 
   -- the new seat beside it, with the number that was drawn
-  abbrev pub given : View F E → View F E
-  given v = newcomer v.beginning (unwrap_or v.chief.due 0) v.seen no_chief
+  abbrev pub split_view : View F E → View F E
+  split_view v = newcomer v.beginning (unwrap_or v.chief.due 0) v.seen no_chief
+
+  -- a holder has seen the whole story already
+  abbrev pub united_seen : View F E → View F E → List E
+  united_seen v w = if v.holds then v.seen else longer v.seen w.seen
 
   -- pass 0 takes in another view, and keeps what is left to check
   abbrev pub united : View F E → View F E → View F E
   united v w = let c = v.chief in record v {
-    seen = longer v.seen w.seen;
+    seen = united_seen v w;
     chief = record c {
       out = c.out - 1;
       ended = c.ended ++ record { number = w.number; mine = w.mine } ∷ [];
-      joined = Some (record { first = v.seen; other = w.seen; out = c.out });
+      joined = Some (record { first = v.seen; other = w.seen; number = w.number; out = c.out; ended = c.ended });
     };
   }
 
@@ -99,10 +113,12 @@ module _ {X F E : Type 0} (frame : X → F) (story : X → List E) (who : E → 
   abbrev pub Compares : Knows
   Compares step before found after =
       (after ≡ (checked before.0, before.1))
-      × ((j : Joined E) → before.0.chief.joined ≡ Some j
+      × ((j : JoinCheck E) → before.0.chief.joined ≡ Some j
       → GoesOn j.first before.0.seen
       × GoesOn j.other before.0.seen
       × (j.out ≡ before.0.chief.out + 1)
+      × (j.number ≢ 0)
+      × (is_among j.number j.ended ≡ false)
       × (added_by who before.0.number (start_of before.0.beginning) before.0.seen ≡ before.0.mine))
 
   -- tickets count without end, and the word shows them modulo 2^64
@@ -121,8 +137,8 @@ module _ {X F E : Type 0} (frame : X → F) (story : X → List E) (who : E → 
       × GoesOn before.0.seen (story x)
       × (added_by who before.0.number b.start (story x) ≡ before.0.mine)
 
-  abbrev pub Looks : Knows
-  Looks step before found after =
+  abbrev pub LooksAtServed : Knows
+  LooksAtServed step before found after =
       (ticket : ℕ) → before.0.ticket ≡ Some ticket
       → (found ≡ ticket % 2 ^ 64 → Holds before after) × (found ≢ ticket % 2 ^ 64 → after ≡ before)
 

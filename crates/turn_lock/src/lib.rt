@@ -12,7 +12,7 @@ mod turn;
 mod view;
 mod wait;
 
-pub use pass::Pass;
+pub use pass::{MOST_NUMBERS, Pass};
 pub use story::Storied;
 pub use turn::{NoMemory, SplitRefused, Turn};
-pub use view::{Beginning, Chief, Joined, Leaver, PassState, TurnState, View};
+pub use view::{Beginning, Chief, EndedPass, JoinCheck, PassState, TurnState, View};

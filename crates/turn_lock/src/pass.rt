@@ -7,6 +7,9 @@ use crate::view::{PassState, View};
 use atomic_table::Seat;
 use std::marker::Model;
 
+/// The most numbers that a turn draws. The word of the drawn numbers never wraps, and a `u32` holds each count.
+pub const MOST_NUMBERS: u32 = u32::MAX;
+
 /// The right to take a turn's value under one number. It can go to another thread, and stands for its
 /// [`PassState`].
 pub struct Pass<V: Storied> {
@@ -30,21 +33,21 @@ impl<V: Storied> Model for Pass<V> {
 }
 
 impl<V: Storied> Pass<V> {
-    /// Its number. That of the first pass is 0, and no two passes of a turn have one number.
+    /// Its number. That of the first pass of a turn is 0.
     pub fn number(&self) -> u32
         ensures { result ≡ self.now.number }
     {
         self.number
     }
 
-    /// How many numbers pass 0 has drawn, with its own: 1 to 2^32 - 1. It means nothing at another pass.
+    /// How many numbers pass 0 has drawn, with its own. It is 0 at every other pass.
     pub fn made(&self) -> u32
         ensures { result ≡ self.now.made }
     {
         self.made
     }
 
-    /// How many passes were split from pass 0 and not joined yet. It means nothing at another pass.
+    /// How many passes were split from pass 0 and not joined yet. It is 0 at every other pass.
     pub fn out(&self) -> u32
         ensures { result ≡ self.now.out }
     {
@@ -73,7 +76,7 @@ impl<V: Storied> Pass<V> {
     }
 }
 
-impl<V: Storied + Drop> Drop for Pass<V> {
+impl<V: Storied> Drop for Pass<V> {
     fn drop(self) {
         let Self {
             seat: _,

@@ -4,7 +4,7 @@
 //! `Compare`); every pass draws a ticket (`DrawTicket`), looks at the word of the served tickets (`Look`),
 //! takes the value out of the slot and puts one in, and serves the next (`Serve`).
 ghost use Rattle.turn_lock.specs.Rule.{Kept, beginning_of, first_view};
-ghost use Rattle.turn_lock.specs.View.{DrawsNumber, Compares, DrawsTicket, Looks, Serves, parted, given, united, spent};
+ghost use Rattle.turn_lock.specs.View.{DrawsNumber, Compares, DrawsTicket, LooksAtServed, Serves, parted, split_view, united, spent};
 
 use crate::story::Storied;
 use crate::view::View;
@@ -38,7 +38,7 @@ pub(crate) struct Divide<V> {
 impl<V: Storied> Split<View<V::Frame, V::Entry>> for Divide<V> {
     ghost left = { parted };
 
-    ghost right = { given };
+    ghost right = { split_view };
 }
 
 pub(crate) struct Unite<V> {
@@ -72,7 +72,7 @@ pub(crate) struct Look<V> {
 }
 
 impl<V: Storied> Play<Option<V>, View<V::Frame, V::Entry>> for Look<V> {
-    ghost then = { Looks V.frame V.story V.who };
+    ghost then = { LooksAtServed V.frame V.story V.who };
 }
 
 pub(crate) struct Serve<V> {

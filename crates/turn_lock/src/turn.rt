@@ -1,9 +1,10 @@
 //! The lock.
-ghost use Rattle.std.specs.Prelude.{◌≡◌, ◌≢◌, ℕ, ◌+◌, ◌-◌, ◌%◌, ◌^◌, ◌<◌, [], ◌∷◌, length, true, false, None, Some, MatchResult, IfOk, IfErr, drop, filter};
-ghost use Rattle.turn_lock.specs.Story.{GoesOn, Adds, added_by, is_by};
-ghost use Rattle.turn_lock.specs.Pass.{first_pass, split_first, split_off, joined_with, holding, given_back, given_by};
+ghost use Rattle.std.specs.Prelude.{◌≡◌, ◌≢◌, ℕ, ◌+◌, ◌-◌, ◌%◌, ◌^◌, ◌<◌, [], ◌∷◌, length, true, false, None, Some, All, if◌then◌else◌, is_ok, ◌≤◌, MatchResult, IfOk, IfErr, drop, filter};
+ghost use Rattle.turn_lock.specs.Story.{GoesOn, AddsUnder, added_by, is_by};
+ghost use Rattle.turn_lock.specs.View.{is_among};
+ghost use Rattle.turn_lock.specs.Pass.{first_pass, split_first, split_off, joined_with, holding, gave_back, entries_of, IsPassOf, IsOneOf};
 
-use crate::pass::Pass;
+use crate::pass::{MOST_NUMBERS, Pass};
 use crate::rule::{Compare, Divide, DrawNumber, DrawTicket, History, Serve, Unite};
 use crate::story::Storied;
 use crate::view::View;
@@ -21,7 +22,7 @@ pub struct NoMemory;
 /// Why a pass can't be split.
 #[derive(Clone, Copy, Debug, PartialEq, Eq)]
 pub enum SplitRefused {
-    /// All numbers are drawn: 2^32 - 1 of them.
+    /// All numbers are drawn: [`MOST_NUMBERS`] of them.
     Full,
 }
 
@@ -31,16 +32,15 @@ pub struct Turn<V: Storied> {
 }
 
 impl<V: Storied> Model for Turn<V> {
-    ghost use Rattle.std.specs.Prelude.{◌≡◌};
     ghost use Rattle.turn_lock.specs.declared.view.TurnState.{TurnState};
 
     ghost Value = { TurnState V.Frame };
 
-    ghost use Rattle.turn_lock.specs.Turn.{turn_state};
+    ghost use Rattle.turn_lock.specs.Turn.{turn_state, IsLockTable};
 
     ghost view = { λ t. turn_state V.frame V.story t.table.shared.table_id t.table.shared.key.value };
 
-    ghost invariant = { λ t. (t.table.shared.table_id.words ≡ 3) × (t.table.shared.table_id.slots ≡ 1) };
+    ghost invariant = { λ t. IsLockTable t.table.shared.table_id };
 }
 
 // The words of the table: the numbers drawn, the tickets drawn and the tickets served.
@@ -78,16 +78,18 @@ impl<V: Storied> Turn<V> {
         }
     }
 
-    /// Makes another pass, which has seen as much as pass 0. [`SplitRefused::Full`] where 2^32 - 1 numbers
-    /// are drawn. It takes no memory.
+    /// Makes another pass, which has seen as much as pass 0 and added nothing. [`SplitRefused::Full`] where
+    /// [`MOST_NUMBERS`] are drawn. It takes no memory.
     pub fn split(&self, first: &mut Pass<V>) -> Result<Pass<V>, SplitRefused>
         requires turn { first.old.turn ≡ Some self.now }
         requires first { first.old.number ≡ 0 }
-        ensures { MatchResult result
-            (λ pass. (first.old.made < 2 ^ 32 - 1) × (pass ≡ split_off first.old) × (first.new ≡ split_first first.old))
-            (λ refusal. (first.old.made ≡ 2 ^ 32 - 1) × (first.new ≡ first.old)) }
+        ensures made { MatchResult result
+            (λ pass. (first.old.made < MOST_NUMBERS) × (pass ≡ split_off first.old))
+            (λ refusal. first.old.made ≡ MOST_NUMBERS) }
+        ensures first { first.new ≡ (if is_ok result then split_first first.old else first.old) }
+        ensures fresh { IfOk result (λ pass. added_by V.who pass.number self.now.start pass.seen ≡ []) }
     {
-        if first.made == u32::MAX {
+        if first.made == MOST_NUMBERS {
             return Err(SplitRefused::Full);
         }
         let number = first.made;
@@ -108,12 +110,14 @@ impl<V: Storied> Turn<V> {
     /// Ends a pass that doesn't hold the turn. Pass 0 keeps its number with its entries, and has then seen
     /// what either had seen. It takes no memory.
     pub fn join(&self, first: &mut Pass<V>, other: Pass<V>)
-        requires turn { (first.old.turn ≡ Some self.now) × (other.turn ≡ Some self.now) }
+        requires turn { IsPassOf first.old self.now.name × IsPassOf other self.now.name }
         requires first { first.old.number ≡ 0 }
         requires free { other.holds ≡ false }
         ensures pass { first.new ≡ joined_with first.old other }
         ensures out { first.new.out + 1 ≡ first.old.out }
         ensures seen { GoesOn first.old.seen first.new.seen × GoesOn other.seen first.new.seen }
+        ensures held { first.old.holds ≡ true → first.new.seen ≡ first.old.seen }
+        ensures fresh { (other.number ≢ 0) × (is_among other.number first.old.ended ≡ false) }
     {
         let shared = &self.table.shared;
         shared.join_seat::<Unite<V>>(&mut first.seat, other.into_seat());
@@ -121,14 +125,15 @@ impl<V: Storied> Turn<V> {
         first.out -= 1;
     }
 
-    /// Waits until it is this pass's turn, and takes the value out. It takes no memory. Passes are served in
-    /// the order in which they asked.
+    /// Draws a ticket, waits until it is served, and takes the value out. Its story goes on from what this
+    /// pass had seen, and what is new in it is of others. It takes no memory.
     pub fn take<R: Wait>(&self, rt: &R, pass: &mut Pass<V>) -> V
         requires turn { pass.old.turn ≡ Some self.now }
         requires free { pass.old.holds ≡ false }
         ensures frame { V.frame result ≡ self.now.frame }
         ensures pass { pass.new ≡ holding (V.story result) pass.old }
         ensures goes_on { GoesOn pass.old.seen (V.story result) }
+        ensures reach { self.now.start ≤ length (V.story result) }
         ensures own { added_by V.who pass.old.number self.now.start (V.story result) ≡ pass.old.mine }
         ensures others { filter (is_by V.who pass.old.number) (drop (length pass.old.seen) (V.story result)) ≡ [] }
     {
@@ -147,8 +152,9 @@ impl<V: Storied> Turn<V> {
         requires turn { pass.old.turn ≡ Some self.now }
         requires holder { pass.old.holds ≡ true }
         requires frame { V.frame value ≡ self.now.frame }
-        requires adds { Adds V.who pass.old.number pass.old.seen (V.story value) }
-        ensures { pass.new ≡ given_back (V.story value) pass.old }
+        requires adds { AddsUnder V.who pass.old.number pass.old.seen (V.story value) }
+        ensures pass { pass.new ≡ gave_back (V.story value) pass.old }
+        ensures own { added_by V.who pass.old.number self.now.start (V.story value) ≡ pass.new.mine }
     {
         let shared = &self.table.shared;
         let taken = shared.exchange(&mut pass.seat, 0, Some(value));
@@ -160,15 +166,17 @@ impl<V: Storied> Turn<V> {
         }
     }
 
-    /// Ends the turn, and gives its value. Pass 0 is the only one left. It takes no memory.
+    /// Ends the turn, and gives its value. Pass 0 is the only one left. What the story has gained since the
+    /// turn was made is of pass 0 and of the passes that were joined. It takes no memory.
     pub fn close(self, first: Pass<V>) -> V
-        requires turn { first.turn ≡ Some self }
+        requires turn { IsPassOf first self.name }
         requires first { first.number ≡ 0 }
         requires alone { first.out ≡ 0 }
         requires free { first.holds ≡ false }
         ensures frame { V.frame result ≡ self.frame }
         ensures goes_on { GoesOn first.seen (V.story result) }
-        ensures given { (number : ℕ) → added_by V.who number self.start (V.story result) ≡ given_by number first }
+        ensures entries { (number : ℕ) → added_by V.who number self.start (V.story result) ≡ entries_of number first }
+        ensures whose { All (λ entry. IsOneOf (V.who entry) first) (drop self.start (V.story result)) }
     {
         let Turn { table } = self;
         let mut closed = table.close_with(first.into_seat());

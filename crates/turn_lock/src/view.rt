@@ -8,16 +8,19 @@ pub struct Beginning<F> {
 }
 
 /// The number of a pass that was joined, and the entries that it had added.
-pub struct Leaver<E> {
+pub struct EndedPass<E> {
     pub number: u32,
     pub mine: LinkedList<E>,
 }
 
-/// The two stories that a join put together, and how many passes were out before.
-pub struct Joined<E> {
+/// What a join has left to check: the two stories that it put together, and the number that it ended beside
+/// how many passes were out and which had ended before.
+pub struct JoinCheck<E> {
     pub first: LinkedList<E>,
     pub other: LinkedList<E>,
+    pub number: u32,
     pub out: u32,
+    pub ended: LinkedList<EndedPass<E>>,
 }
 
 /// What the seat of pass 0 knows besides: how many numbers were drawn, how many other passes there are, the
@@ -25,9 +28,9 @@ pub struct Joined<E> {
 pub struct Chief<E> {
     pub made: u32,
     pub out: u32,
-    pub ended: LinkedList<Leaver<E>>,
+    pub ended: LinkedList<EndedPass<E>>,
     pub due: Option<u32>,
-    pub joined: Option<Joined<E>>,
+    pub joined: Option<JoinCheck<E>>,
 }
 
 /// What a seat at the lock's table knows. A seat whose pass was joined is spent, and has no beginning.
@@ -41,8 +44,8 @@ pub struct View<F, E> {
     pub chief: Chief<E>,
 }
 
-/// What a [`crate::Turn`] stands for: the numbers that name it, which no other turn has, and the frame and
-/// the length of the story of the value that it was made with.
+/// What a [`crate::Turn`] stands for: the numbers that name it, and the frame and the length of the story of
+/// the value that it was made with.
 pub struct TurnState<F> {
     pub name: LinkedList<u64>,
     pub frame: F,
@@ -60,5 +63,5 @@ pub struct PassState<F, E> {
     pub mine: LinkedList<E>,
     pub made: u32,
     pub out: u32,
-    pub ended: LinkedList<Leaver<E>>,
+    pub ended: LinkedList<EndedPass<E>>,
 }

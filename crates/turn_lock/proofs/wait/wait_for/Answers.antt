@@ -7,7 +7,7 @@ pub load-served-requires : goal.load-served-requires
 load-served-requires g c =
     let s = g.V.Storied in
     let same = ap (λ m. m.0) c.loop.invariant.me in
-    (c.loop.invariant.table ∙ c.requires.table.0, omega (arith, c.requires.table.1),
+    (c.loop.invariant.table ∙ c.requires.table.0, omega (arith, c.requires.table.1.0),
       looks s.frame s.story s.who _ _ _ c.loop.seat.me c.requires.queued.0 (ap is_live same ∙ c.requires.free.0)
         (ap (λ v. v.holds) same ∙ c.requires.free.1) (ap (λ v. v.ticket) same ∙ c.requires.queued.1))
 
