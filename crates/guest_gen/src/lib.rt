@@ -1,13 +1,8 @@
-// A library with one function.
+//! The writes that a guest makes in a test run: a list that a seed, a count and the disks' capacities determine.
 #![tactic(auto)]
 
-ghost use Rattle.std.specs.Prelude.{◌≡◌};
-ghost use Rattle.guest_gen.specs.Echo.{echo_of};
+mod script;
+#[cfg(test)]
+mod tests;
 
-// The `ensures` clause is the contract: what `echo` returns is `echo_of` of its argument, a definition
-// in `specs/Echo.antt`, which a caller's clause can cite too.
-pub fn echo(x: usize) -> usize
-    ensures { result ≡ echo_of x }
-{
-    x
-}
+pub use script::{GuestScript, GuestWrite, MOST_DISKS, MOST_SECTORS, NoMemory};

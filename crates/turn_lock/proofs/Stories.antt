@@ -3,7 +3,7 @@ use Rattle.std.proofs.Common.{◌≡◌, ◌≢◌, ℕ, ◌+◌, ◌<◌, ◌�
 use Rattle.std.specs.List.{filter}
 use Rattle.std.proofs.lemmas.List.{append-nil, take-append-drop, drop-append-le, take-append-le, length-take}
 use Rattle.std.proofs.lemmas.List.Elements.{filter-append}
-use lib.Seq.{take-length, drop-length, take-take}
+use lib.Seq.{take-length, drop-length, take-take, drop-append_seam}
 use Rattle.turn_lock.specs.Story.{GoesOn, longer, is_by, added_by, AddsUnder}
 
 module _ {E : Type 0} where
@@ -108,3 +108,12 @@ module _ {E : Type 0} (who : E → ℕ) where
       → added_by who n start story ≡ [] → added_by who n start seen ≡ []
   nothing_before n start seen story h le none =
       nil_left (added_by who n start seen) (filter (is_by who n) (drop (length seen) story)) (sym (by_parts n start seen story h le) ∙ none)
+
+  pub adds_none : (n : ℕ) (story : List E) → AddsUnder who n story story
+  adds_none n story = (goes_self story, (let e = drop-length story in ap (filter (is_by who n)) e ∙ sym e))
+
+  pub adds_one : (n : ℕ) (story : List E) (e : E) → who e ≡ n → AddsUnder who n story (story ++ e ∷ [])
+  adds_one n story e is =
+      let seam : drop (length story) (story ++ e ∷ []) ≡ e ∷ [] = drop-append_seam story (e ∷ []) in
+      let one : filter (is_by who n) (e ∷ []) ≡ e ∷ [] = ap (λ t. cond t (e ∷ []) []) (eq-eqb (who e) n is) in
+      (goes_append story story (e ∷ []) (goes_self story), ap (filter (is_by who n)) seam ∙ one ∙ sym seam)

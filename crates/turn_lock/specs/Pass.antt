@@ -47,6 +47,10 @@ module _ {F E : Type 0} where
   abbrev pub IsPassOf : PassState F E → (name : List ℕ) → Type 0
   IsPassOf pass name = (turn : TurnState F) × (pass.turn ≡ Some turn) × (turn.name ≡ name)
 
+  -- the pass is of this turn, and doesn't hold it
+  abbrev pub IsFreeAt : PassState F E → TurnState F → Type 0
+  IsFreeAt pass turn = (pass.turn ≡ Some turn) × (pass.holds ≡ false)
+
   -- the number is that of pass 0 or of a pass that was joined
   abbrev pub IsOneOf : (number : ℕ) → PassState F E → Type 0
   IsOneOf number first = (number ≡ 0) ⊎ (is_among number first.ended ≡ true)

@@ -8,6 +8,8 @@
 mod pass;
 mod rule;
 mod story;
+#[cfg(test)]
+mod tests;
 mod turn;
 mod view;
 mod wait;

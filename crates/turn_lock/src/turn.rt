@@ -27,6 +27,7 @@ pub enum SplitRefused {
 }
 
 /// A value that threads take turns at. It stands for its [`TurnState`].
+#[derive(Drop)]
 pub struct Turn<V: Storied> {
     table: Table<Option<V>, View<V::Frame, V::Entry>, Snapshot<V>, History<V>, Global>,
 }
