@@ -1,5 +1,5 @@
 -- The rule holds where a turn begins, and what it says where it ends.
-use Rattle.std.proofs.Common.{◌≡◌, ◌≢◌, ◌⊎◌, ℕ, zero, suc, ◌+◌, ◌%◌, ◌^◌, ◌<◌, ◌≤◌, eqb, List, [], ◌∷◌, length, drop, get_or, All, Bool, true, false, cond, refl, sym, ap, ◌∙◌, subst, arith, inl, inr, ⊎_elim, count_by, Option, Some, None, is_some, eq-eqb, ne_eqb, lit<}
+use Rattle.std.proofs.Common.{◌≡◌, ◌≢◌, ◌⊎◌, ℕ, zero, suc, ◌+◌, ◌%◌, ◌^◌, ◌<◌, ◌≤◌, eqb, List, [], ◌∷◌, length, drop, get_or, All, Bool, true, false, cond, refl, sym, ap, ◌∙◌, subst, arith, inl, inr, ⊎_elim, count_by, Option, Some, None, is_some, eq-eqb, ne_eqb, lit≤}
 use Rattle.std.specs.List.{filter}
 use lib.Seq.{drop-length}
 use mathlib.Core.Option.{some, none, some-injective, some-ne-none}
@@ -36,44 +36,59 @@ module _ {X F E : Type 0} (frame : X → F) (story_of : X → List E) (who : E �
       let v : View F E = first_view frame story_of x in
       let b : Beginning F = beginning_of frame story_of x in
       record {
-        story = story_of x; place = place; line = (λ _. None); served = 0; chief = v.chief;
+        story = story_of x;
+        place = place;
+        line = (λ _. None);
+        served = 0;
+        chief = v.chief;
         words = refl;
         slot = inl (x, refl, refl, refl);
         reaches = omega arith;
         some_seat = omega arith;
         heads = λ u at. subst (λ z. (is_live z ≡ true) × (z.number ≡ 0) × (z.chief ≡ v.chief)) (some-injective v u at) (refl, refl, refl);
         seats = λ id u at live. only_first x (λ i z. Fits frame story_of who b (story_of x) place (λ _. None) 0 (count_by waits (v ∷ [])) i z)
-          record {
-            begun = refl; begins = goes_self (story_of x); reach = omega arith; own = nothing_yet x 0; known = nothing_yet x 0; sits = refl;
-            queues = λ t is. absurd (let e : false ≡ true = ap is_some is in cc);
-            holding = λ h. absurd (let e : false ≡ true = h in cc) } id u at;
+            record {
+              begun = refl;
+              begins = goes_self (story_of x);
+              reach = omega arith;
+              own = nothing_yet x 0;
+              known = nothing_yet x 0;
+              sits = refl;
+              queues = λ t is. absurd (let e : false ≡ true = ap is_some is in cc);
+              holding = λ h. absurd (let e : false ≡ true = h in cc);
+            } id u at;
         taken = λ n i is. dite (ℕ_discrete n 0)
-          (λ e. let zero_is : 0 ≡ i = ap seat_number (sym (put_here (λ _. free) 0 (seated 0) n e) ∙ is) in
+            (λ e. let zero_is : 0 ≡ i = ap seat_number (sym (put_here (λ _. free) 0 (seated 0) n e) ∙ is) in
             subst (λ j. (u : View F E) × (get_elem? (v ∷ []) j ≡ some u) × (is_live u ≡ true) × (u.number ≡ n)) zero_is (v, refl, refl, sym e))
-          (λ ne. absurd (let z : 3 ≡ 0 = sym (ap kind (put_else (λ _. free) 0 (seated 0) n ne)) ∙ ap kind is in omega arith));
+            (λ ne. absurd (let z : 3 ≡ 0 = sym (ap kind (put_else (λ _. free) 0 (seated 0) n ne)) ∙ ap kind is in omega arith));
         leads = record {
-          limit = lit< tt;
+          limit = lit≤ tt;
           room = omega arith;
           others = refl;
           undrawn = λ n. (
             (λ le. put_else (λ _. free) 0 (seated 0) n (λ e. let h : 1 ≤ n = le in omega arith)),
             (λ is. dite (ℕ_discrete n 0)
-              (λ e. absurd (let z : 0 ≡ 3 = sym (ap kind (put_here (λ _. free) 0 (seated 0) n e)) ∙ ap kind is in omega arith))
-              (λ ne. omega arith)));
+                (λ e. absurd (let z : 0 ≡ 3 = sym (ap kind (put_here (λ _. free) 0 (seated 0) n e)) ∙ ap kind is in omega arith))
+                (λ ne. omega arith)),
+          );
           next = λ n. (
             (λ is. absurd (let e : false ≡ true = ap is_some is in cc)),
             (λ is. dite (ℕ_discrete n 0)
-              (λ e. absurd (let z : 0 ≡ 2 = sym (ap kind (put_here (λ _. free) 0 (seated 0) n e)) ∙ ap kind is in omega arith))
-              (λ ne. absurd (let z : 3 ≡ 2 = sym (ap kind (put_else (λ _. free) 0 (seated 0) n ne)) ∙ ap kind is in omega arith))));
+                (λ e. absurd (let z : 0 ≡ 2 = sym (ap kind (put_here (λ _. free) 0 (seated 0) n e)) ∙ ap kind is in omega arith))
+                (λ ne. absurd (let z : 3 ≡ 2 = sym (ap kind (put_else (λ _. free) 0 (seated 0) n ne)) ∙ ap kind is in omega arith))),
+          );
           silent = λ n _. nothing_yet x n;
           gone = λ n. (
             (λ is. absurd (let e : false ≡ true = is in cc)),
             (λ is. dite (ℕ_discrete n 0)
-              (λ e. absurd (let z : 0 ≡ 1 = sym (ap kind (put_here (λ _. free) 0 (seated 0) n e)) ∙ ap kind is in omega arith))
-              (λ ne. absurd (let z : 3 ≡ 1 = sym (ap kind (put_else (λ _. free) 0 (seated 0) n ne)) ∙ ap kind is in omega arith))));
+                (λ e. absurd (let z : 0 ≡ 1 = sym (ap kind (put_here (λ _. free) 0 (seated 0) n e)) ∙ ap kind is in omega arith))
+                (λ ne. absurd (let z : 3 ≡ 1 = sym (ap kind (put_else (λ _. free) 0 (seated 0) n ne)) ∙ ap kind is in omega arith))),
+          );
           once = refl;
           left = λ n is. nothing_yet x n ∙ refl;
-          keeps = λ j is. absurd (let e : false ≡ true = ap is_some is in cc) } }
+          keeps = λ j is. absurd (let e : false ≡ true = ap is_some is in cc);
+        };
+      }
 
   in_filter : (p : E → Bool) (xs : List E) (k : ℕ) (d : E) → k < length xs → p (get_or xs k d) ≡ true → 0 < length (filter p xs)
   in_filter p [] k d lt is = absurd (omega arith)
@@ -89,14 +104,14 @@ module _ {X F E : Type 0} (frame : X → F) (story_of : X → List E) (who : E �
       let n : ℕ = who (get_or xs k d) in
       let stands = in_filter (is_by who n) xs k d lt (eq-eqb n n refl) in
       dite (ℕ_discrete n 0) (λ e. inl e)
-        (λ ne.
-          let P : Bool → Type 0 = λ t. is_among n ls ≡ t → (n ≡ 0) ⊎ (t ≡ true) in
-          (elim (is_among n ls) as P [
-            true ↦ λ _. inr refl
-            | false ↦ λ out.
-              let none : filter (is_by who n) xs ≡ [] = each n ∙ ap (λ t. cond t mine (left_by n ls)) (ne_eqb n 0 ne) ∙ left_none n ls out in
-              absurd (let z : length (filter (is_by who n) xs) ≡ 0 = ap length none in omega arith)
-          ]) refl)
+      (λ ne.
+      let P : Bool → Type 0 = λ t. is_among n ls ≡ t → (n ≡ 0) ⊎ (t ≡ true) in
+      (elim (is_among n ls) as P [
+        | true ↦ λ _. inr refl
+        | false ↦ λ out.
+            let none : filter (is_by who n) xs ≡ [] = each n ∙ ap (λ t. cond t mine (left_by n ls)) (ne_eqb n 0 ne) ∙ left_none n ls out in
+            absurd (let z : length (filter (is_by who n) xs) ≡ 0 = ap length none in omega arith)
+      ]) refl)
 
   -- the value that is left in the slot
   -- the value that is left in the slot where pass 0 is the only one and doesn't hold the turn
@@ -119,22 +134,22 @@ module _ {X F E : Type 0} (frame : X → F) (story_of : X → List E) (who : E �
       let f = r.seats id v at live in
       let none_left : View F E = spent in
       let only : (i : ℕ) (u : View F E) → get_elem? s.views i ≡ some u → is_live u ≡ true → i ≡ id =
-          λ i u atu liveu. dite (ℕ_discrete i id) (λ e. e)
-            (λ ne. absurd (let two = two_of_them is_live none_left refl s.views id i v u at atu ne live liveu in
-              let all : count_by is_live s.views ≡ c.out + 1 = l.others in omega arith)) in
+      λ i u atu liveu. dite (ℕ_discrete i id) (λ e. e)
+      (λ ne. absurd (let two = two_of_them is_live none_left refl s.views id i v u at atu ne live liveu in
+      let all : count_by is_live s.views ≡ c.out + 1 = l.others in omega arith)) in
       let home : (x : X) × (s.homes ≡ some (Some x) ∷ []) × (frame x ≡ b.frame) × (story_of x ≡ r.story) =
-          ⊎_elim (λ h. h)
-            (λ h. absurd (
-              let e = only h.1.0 h.1.1 h.1.2 h.1.3 in
-              let is_v : v ≡ h.1.1 = one_place s.views id v h.1.1 at (subst (λ j. get_elem? s.views j ≡ some h.1.1) e h.1.2) in
-              let z : true ≡ false = sym h.1.4 ∙ sym (ap (λ y. y.holds) is_v) ∙ free_hands in cc))
-            r.slot in
+      ⊎_elim (λ h. h)
+      (λ h. absurd (
+      let e = only h.1.0 h.1.1 h.1.2 h.1.3 in
+      let is_v : v ≡ h.1.1 = one_place s.views id v h.1.1 at (subst (λ j. get_elem? s.views j ≡ some h.1.1) e h.1.2) in
+      let z : true ≡ false = sym h.1.4 ∙ sym (ap (λ y. y.holds) is_v) ∙ free_hands in cc))
+      r.slot in
       let x : X = home.0 in
       let whole : story_of x ≡ r.story = home.3 in
       let not_first : (n : ℕ) → kind (r.place n) ≢ 0 → n ≢ 0 = λ n ne e. ne (ap (λ z. kind (r.place z)) (e ∙ sym zero_is) ∙ ap kind f.sits) in
       let other : (n : ℕ) → n ≢ 0 → cond (eqb n 0) v.mine (left_by n c.ended) ≡ left_by n c.ended = λ n ne. ap (λ t. cond t v.mine (left_by n c.ended)) (ne_eqb n 0 ne) in
       let absent : (n : ℕ) → kind (r.place n) ≢ 1 → left_by n c.ended ≡ [] =
-          λ n ne. left_none n c.ended (not_true (is_among n c.ended) (λ h. ne (ap kind ((l.gone n).0 h)))) in
+      λ n ne. left_none n c.ended (not_true (is_among n c.ended) (λ h. ne (ap kind ((l.gone n).0 h)))) in
       let P : ℕ → Whereabouts → Type 0 = λ n p. r.place n ≡ p → added_by who n b.start r.story ≡ cond (eqb n 0) v.mine (left_by n c.ended) in
       record {
         value = x;
@@ -142,14 +157,15 @@ module _ {X F E : Type 0} (frame : X → F) (story_of : X → List E) (who : E �
         framed = home.2;
         goes_on = subst (λ z. GoesOn v.seen z) (sym whole) f.begins;
         each = λ n. ap (added_by who n b.start) whole ∙ elim (r.place n) as (P n) [
-          seated i ↦ λ is.
-            let t = r.taken n i is in
-            let e = only i t.0 t.1 t.2 in
-            let is_v : v ≡ t.0 = one_place s.views id v t.0 at (subst (λ j. get_elem? s.views j ≡ some t.0) e t.1) in
-            let n_is : v.number ≡ n = ap (λ y. y.number) is_v ∙ t.3 in
-            ap (λ z. added_by who z b.start r.story) (sym n_is) ∙ f.own ∙ sym (ap (λ q. cond q v.mine (left_by n c.ended)) (eq-eqb n 0 (sym n_is ∙ zero_is)))
+          | seated i ↦ λ is.
+              let t = r.taken n i is in
+              let e = only i t.0 t.1 t.2 in
+              let is_v : v ≡ t.0 = one_place s.views id v t.0 at (subst (λ j. get_elem? s.views j ≡ some t.0) e t.1) in
+              let n_is : v.number ≡ n = ap (λ y. y.number) is_v ∙ t.3 in
+              ap (λ z. added_by who z b.start r.story) (sym n_is) ∙ f.own ∙ sym (ap (λ q. cond q v.mine (left_by n c.ended)) (eq-eqb n 0 (sym n_is ∙ zero_is)))
           | ended ↦ λ is. l.left n is ∙ sym (other n (not_first n (λ z. let e : 1 ≡ 0 = sym (ap kind is) ∙ z in omega arith)))
           | due ↦ λ is. absurd (let z : false ≡ true = ap is_some (sym none_due ∙ (l.next n).1 is) in cc)
           | free ↦ λ is. l.silent n (inl is)
               ∙ sym (other n (not_first n (λ z. let e : 3 ≡ 0 = sym (ap kind is) ∙ z in omega arith)) ∙ absent n (λ z. let e : 3 ≡ 1 = sym (ap kind is) ∙ z in omega arith))
-        ] refl }
+        ] refl;
+      }

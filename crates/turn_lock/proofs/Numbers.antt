@@ -41,64 +41,85 @@ module _ {X F E : Type 0} (frame : X → F) (story_of : X → List E) (who : E �
       let was_free : r.place d ≡ free = (l.undrawn d).0 (omega arith) in
       let apart : (m : ℕ) → kind (r.place m) ≢ 3 → m ≢ d = λ m ne e. ne (ap (λ z. kind (r.place z)) e ∙ ap kind was_free) in
       let lives : (m i : ℕ) → r.place m ≡ seated i → place' m ≡ r.place m =
-          λ m i is. put_else r.place d due m (apart m (λ z. let e : 0 ≡ 3 = sym (ap kind is) ∙ z in omega arith)) in
+      λ m i is. put_else r.place d due m (apart m (λ z. let e : 0 ≡ 3 = sym (ap kind is) ∙ z in omega arith)) in
       let room : c.out + 1 + how_many c.due ≤ c.made = l.room in
       let no_due : how_many c.due ≡ 0 = ap how_many none_due in
       let silent_d : added_by who d b.start r.story ≡ [] = l.silent d (inl was_free) in
       let waits_same : count_by waits (set s.views id w) ≡ count_by waits s.views = count_same waits s.views id v w at refl in
-      subst (Goes frame story_of who b s 0 id me (λ k. (k + 1) % 2 ^ 64) (DrawsNumber frame story_of who (step slots 0 1 0 none) me)) (sym r.words)
-        (w, keeps, tt,
-          record {
-            story = r.story; place = place'; line = r.line; served = r.served; chief = w.chief;
-            words = ap₂ (λ y z. y ∷ (r.served + z) % 2 ^ 64 ∷ r.served % 2 ^ 64 ∷ [])
+      subst (Goes frame story_of who b s 0 id me (λ k. (k + 1) % 2 ^ 64) (DrawsNumber frame story_of who (step slots 0 1 0 none) me)) (sym r.words) (
+        w,
+        keeps,
+        tt,
+        record {
+          story = r.story;
+          place = place';
+          line = r.line;
+          served = r.served;
+          chief = w.chief;
+          words = ap₂ (λ y z. y ∷ (r.served + z) % 2 ^ 64 ∷ r.served % 2 ^ 64 ∷ [])
               (mod-eq_of_lt (let e : d + 1 < 2 ^ 64 = omega arith in e) ∙ (let e : d + 1 ≡ c.made + 1 = omega arith in e)) (sym waits_same);
-            slot = slot_set frame story_of who b r.story s.homes s.views id v w at live refl r.slot;
-            reaches = r.reaches;
-            some_seat = not_empty s.views id w r.some_seat;
-            heads = heads_lead s.views id w w.chief is_first live zero_is refl;
-            seats = each_set s.views id w (Fits frame story_of who b r.story r.place r.line r.served (count_by waits s.views)) (Fits frame story_of who b r.story place' r.line r.served (count_by waits (set s.views id w)))
+          slot = slot_set frame story_of who b r.story s.homes s.views id v w at live refl r.slot;
+          reaches = r.reaches;
+          some_seat = not_empty s.views id w r.some_seat;
+          heads = heads_lead s.views id w w.chief is_first live zero_is refl;
+          seats = each_set s.views id w (Fits frame story_of who b r.story r.place r.line r.served (count_by waits s.views)) (Fits frame story_of who b r.story place' r.line r.served (count_by waits (set s.views id w)))
               record {
-                begun = f.begun; begins = f.begins; reach = f.reach; own = f.own; known = f.known;
+                begun = f.begun;
+                begins = f.begins;
+                reach = f.reach;
+                own = f.own;
+                known = f.known;
                 sits = lives v.number id f.sits ∙ f.sits;
                 queues = λ u is. let g = f.queues u is in (g.0, (let h : u < r.served + count_by waits s.views = g.1 in omega arith), g.2);
-                holding = f.holding }
+                holding = f.holding;
+              }
               (λ i u ne g. fits_place frame story_of who b r.story r.place place' r.line r.line r.served (count_by waits s.views) (count_by waits (set s.views id w)) i u (lives u.number i g.sits) (λ _ _. refl) (omega arith) g)
               r.seats;
-            taken = taken_set s.views id v w r.place place' at live refl
+          taken = taken_set s.views id v w r.place place' at live refl
               (λ n i is. dite (ℕ_discrete n d)
-                (λ e. absurd (let z : 2 ≡ 0 = sym (ap kind (put_here r.place d due n e)) ∙ ap kind is in omega arith))
-                (λ ne. sym (put_else r.place d due n ne) ∙ is))
+              (λ e. absurd (let z : 2 ≡ 0 = sym (ap kind (put_here r.place d due n e)) ∙ ap kind is in omega arith))
+              (λ ne. sym (put_else r.place d due n ne) ∙ is))
               r.taken;
-            leads = record {
-              limit = (let k : c.made < 2 ^ 32 = l.limit in small);
-              room = omega arith;
-              others = count_same is_live s.views id v w at refl ∙ l.others;
-              undrawn = λ n. (
-                (λ le. let le' : c.made + 1 ≤ n = le in put_else r.place d due n (λ e. omega arith) ∙ (l.undrawn n).0 (omega arith)),
-                (λ is. dite (ℕ_discrete n d)
+          leads = record {
+            limit = (let k : c.made + 1 ≤ 4294967295 = omega arith in k);
+            room = omega arith;
+            others = count_same is_live s.views id v w at refl ∙ l.others;
+            undrawn = λ n. (
+              (λ le. let le' : c.made + 1 ≤ n = le in put_else r.place d due n (λ e. omega arith) ∙ (l.undrawn n).0 (omega arith)),
+              (λ is. dite (ℕ_discrete n d)
                   (λ e. absurd (let z : 2 ≡ 3 = sym (ap kind (put_here r.place d due n e)) ∙ ap kind is in omega arith))
-                  (λ ne. let old : c.made ≤ n = (l.undrawn n).1 (sym (put_else r.place d due n ne) ∙ is) in omega arith)));
-              next = λ n. (
-                (λ is. put_here r.place d due n (sym (ap (λ o. unwrap_or o 0) is))),
-                (λ is. dite (ℕ_discrete n d)
+                  (λ ne. let old : c.made ≤ n = (l.undrawn n).1 (sym (put_else r.place d due n ne) ∙ is) in omega arith)),
+            );
+            next = λ n. (
+              (λ is. put_here r.place d due n (sym (ap (λ o. unwrap_or o 0) is))),
+              (λ is. dite (ℕ_discrete n d)
                   (λ e. ap (λ z. Some z) (sym e))
                   (λ ne. absurd (let old : c.due ≡ Some n = (l.next n).1 (sym (put_else r.place d due n ne) ∙ is) in
-                    let z : false ≡ true = ap is_some (sym none_due ∙ old) in cc))));
-              silent = λ n is. dite (ℕ_discrete n d)
+                  let z : false ≡ true = ap is_some (sym none_due ∙ old) in cc))),
+            );
+            silent = λ n is. dite (ℕ_discrete n d)
                 (λ e. ap (λ z. added_by who z b.start r.story) e ∙ silent_d)
                 (λ ne. l.silent n (⊎_elim (λ e. inl (sym (put_else r.place d due n ne) ∙ e)) (λ e. inr (sym (put_else r.place d due n ne) ∙ e)) is));
-              gone = λ n. (
-                (λ among. let old = (l.gone n).0 among in put_else r.place d due n (apart n (λ z. let e : 1 ≡ 3 = sym (ap kind old) ∙ z in omega arith)) ∙ old),
-                (λ is. dite (ℕ_discrete n d)
+            gone = λ n. (
+              (λ among. let old = (l.gone n).0 among in put_else r.place d due n (apart n (λ z. let e : 1 ≡ 3 = sym (ap kind old) ∙ z in omega arith)) ∙ old),
+              (λ is. dite (ℕ_discrete n d)
                   (λ e. absurd (let z : 2 ≡ 1 = sym (ap kind (put_here r.place d due n e)) ∙ ap kind is in omega arith))
-                  (λ ne. (l.gone n).1 (sym (put_else r.place d due n ne) ∙ is))));
-              once = l.once;
-              left = λ n is. dite (ℕ_discrete n d)
+                  (λ ne. (l.gone n).1 (sym (put_else r.place d due n ne) ∙ is))),
+            );
+            once = l.once;
+            left = λ n is. dite (ℕ_discrete n d)
                 (λ e. absurd (let z : 2 ≡ 1 = sym (ap kind (put_here r.place d due n e)) ∙ ap kind is in omega arith))
                 (λ ne. l.left n (sym (put_else r.place d due n ne) ∙ is));
-              keeps = l.keeps } },
-          (d_is, refl, (omega arith),
-            ap (λ z. added_by who d z v.seen) (ap start_of f.begun) ∙ nothing_before who d b.start v.seen r.story f.begins f.reach silent_d))
+            keeps = l.keeps;
+          };
+        },
+        (
+          d_is,
+          refl,
+          (omega arith),
+          ap (λ z. added_by who d z v.seen) (ap start_of f.begun) ∙ nothing_before who d b.start v.seen r.story f.begins f.reach silent_d,
+        ),
+      )
 
   slot_added : (b : Beginning F) (story : List E) (homes : List (maybe.Option (Option X))) (views : List (View F E)) (w : View F E)
       → InSlot frame story_of who b story homes views → InSlot frame story_of who b story homes (views ++ w ∷ [])
@@ -121,7 +142,7 @@ module _ {X F E : Type 0} (frame : X → F) (story_of : X → List E) (who : E �
       let number_is : new.number ≡ d = ap (λ o. unwrap_or o 0) due_is in
       let apart : (m : ℕ) → kind (r.place m) ≢ 2 → m ≢ d = λ m ne e. ne (ap (λ z. kind (r.place z)) e ∙ ap kind was_due) in
       let lives : (m i : ℕ) → r.place m ≡ seated i → place' m ≡ r.place m =
-          λ m i is. put_else r.place d (seated (length vs)) m (apart m (λ z. let e : 0 ≡ 2 = sym (ap kind is) ∙ z in omega arith)) in
+      λ m i is. put_else r.place d (seated (length vs)) m (apart m (λ z. let e : 0 ≡ 2 = sym (ap kind is) ∙ z in omega arith)) in
       let room : c.out + 1 + how_many c.due ≤ c.made = l.room in
       let one_due : how_many c.due ≡ 1 = ap how_many due_is in
       let silent_d : added_by who d b.start r.story ≡ [] = l.silent d (inr was_due) in
@@ -133,36 +154,48 @@ module _ {X F E : Type 0} (frame : X → F) (story_of : X → List E) (who : E �
       let P : ℕ → View F E → Type 0 = Fits frame story_of who b r.story r.place r.line r.served n in
       let Q : ℕ → View F E → Type 0 = Fits frame story_of who b r.story place' r.line r.served n' in
       let fits_new : Q (length vs) new = record {
-            begun = f.begun; begins = f.begins; reach = f.reach;
-            own = ap (λ z. added_by who z b.start r.story) number_is ∙ silent_d;
-            known = ap (λ z. added_by who z b.start v.seen) number_is ∙ nothing_before who d b.start v.seen r.story f.begins f.reach silent_d;
-            sits = put_here r.place d (seated (length vs)) new.number number_is;
-            queues = λ u is. absurd (let e : false ≡ true = ap is_some is in cc);
-            holding = λ h. absurd (let e : false ≡ true = h in cc) } in
+        begun = f.begun;
+        begins = f.begins;
+        reach = f.reach;
+        own = ap (λ z. added_by who z b.start r.story) number_is ∙ silent_d;
+        known = ap (λ z. added_by who z b.start v.seen) number_is ∙ nothing_before who d b.start v.seen r.story f.begins f.reach silent_d;
+        sits = put_here r.place d (seated (length vs)) new.number number_is;
+        queues = λ u is. absurd (let e : false ≡ true = ap is_some is in cc);
+        holding = λ h. absurd (let e : false ≡ true = h in cc);
+      } in
       let fits_first : Q id w = record {
-            begun = f.begun; begins = f.begins; reach = f.reach; own = f.own; known = f.known;
-            sits = lives v.number id f.sits ∙ f.sits;
-            queues = λ u is. let g = f.queues u is in (g.0, (let h : u < r.served + n = g.1 in omega arith), g.2);
-            holding = f.holding } in
+        begun = f.begun;
+        begins = f.begins;
+        reach = f.reach;
+        own = f.own;
+        known = f.known;
+        sits = lives v.number id f.sits ∙ f.sits;
+        queues = λ u is. let g = f.queues u is in (g.0, (let h : u < r.served + n = g.1 in omega arith), g.2);
+        holding = f.holding;
+      } in
       let others = each_set s.views id w P Q fits_first (λ i u ne g. fits_place frame story_of who b r.story r.place place' r.line r.line r.served n n' i u (lives u.number i g.sits) (λ _ _. refl) (omega arith) g) r.seats in
       record {
-        story = r.story; place = place'; line = r.line; served = r.served; chief = w.chief;
+        story = r.story;
+        place = place';
+        line = r.line;
+        served = r.served;
+        chief = w.chief;
         words = r.words ∙ ap₂ (λ y z. y ∷ (r.served + z) % 2 ^ 64 ∷ r.served % 2 ^ 64 ∷ []) (sym (ap (λ z. z.made) same)) (sym waits_same);
         slot = slot_added b r.story s.homes vs new (slot_set frame story_of who b r.story s.homes s.views id v w at live refl r.slot);
         reaches = r.reaches;
         some_seat = (let h = not_empty s.views id w r.some_seat in let e : length (vs ++ new ∷ []) ≡ length vs + 1 = length-append vs (new ∷ []) in omega arith);
         heads = λ u at'. ⊎_elim
-          (λ e. absurd (let h = not_empty s.views id w r.some_seat in let e' : 0 ≡ length vs = e.0 in omega arith))
-          (λ e. heads_lead s.views id w w.chief is_first live zero_is refl u e)
-          (at_added vs new 0 u at');
+            (λ e. absurd (let h = not_empty s.views id w r.some_seat in let e' : 0 ≡ length vs = e.0 in omega arith))
+            (λ e. heads_lead s.views id w w.chief is_first live zero_is refl u e)
+            (at_added vs new 0 u at');
         seats = λ i u at' live'. ⊎_elim
-          (λ e. subst (λ z. Q i z) e.1 (subst (λ j. Q j new) (sym e.0) fits_new))
-          (λ e. others i u e live')
-          (at_added vs new i u at');
+            (λ e. subst (λ z. Q i z) e.1 (subst (λ j. Q j new) (sym e.0) fits_new))
+            (λ e. others i u e live')
+            (at_added vs new i u at');
         taken = λ m i is. dite (ℕ_discrete m d)
-          (λ e. let i_is : length vs ≡ i = ap seat_number (sym (put_here r.place d (seated (length vs)) m e) ∙ is) in
+            (λ e. let i_is : length vs ≡ i = ap seat_number (sym (put_here r.place d (seated (length vs)) m e) ∙ is) in
             (new, at_last vs new i i_is, live, number_is ∙ sym e))
-          (λ ne. let t = taken_set s.views id v w r.place r.place at live refl (λ _ _ e. e) r.taken m i (sym (put_else r.place d (seated (length vs)) m ne) ∙ is) in
+            (λ ne. let t = taken_set s.views id v w r.place r.place at live refl (λ _ _ e. e) r.taken m i (sym (put_else r.place d (seated (length vs)) m ne) ∙ is) in
             (t.0, at_longer vs (new ∷ []) i t.0 t.1, t.2, t.3));
         leads = record {
           limit = l.limit;
@@ -171,23 +204,28 @@ module _ {X F E : Type 0} (frame : X → F) (story_of : X → List E) (who : E �
           undrawn = λ m. (
             (λ le. let old = (l.undrawn m).0 le in put_else r.place d (seated (length vs)) m (apart m (λ z. let e : 3 ≡ 2 = sym (ap kind old) ∙ z in omega arith)) ∙ old),
             (λ is. dite (ℕ_discrete m d)
-              (λ e. absurd (let z : 0 ≡ 3 = sym (ap kind (put_here r.place d (seated (length vs)) m e)) ∙ ap kind is in omega arith))
-              (λ ne. (l.undrawn m).1 (sym (put_else r.place d (seated (length vs)) m ne) ∙ is))));
+                (λ e. absurd (let z : 0 ≡ 3 = sym (ap kind (put_here r.place d (seated (length vs)) m e)) ∙ ap kind is in omega arith))
+                (λ ne. (l.undrawn m).1 (sym (put_else r.place d (seated (length vs)) m ne) ∙ is))),
+          );
           next = λ m. (
             (λ is. absurd (let z : false ≡ true = ap is_some is in cc)),
             (λ is. dite (ℕ_discrete m d)
-              (λ e. absurd (let z : 0 ≡ 2 = sym (ap kind (put_here r.place d (seated (length vs)) m e)) ∙ ap kind is in omega arith))
-              (λ ne. absurd (let old = (l.next m).1 (sym (put_else r.place d (seated (length vs)) m ne) ∙ is) in ne (ap (λ o. unwrap_or o 0) (sym old ∙ due_is))))));
+                (λ e. absurd (let z : 0 ≡ 2 = sym (ap kind (put_here r.place d (seated (length vs)) m e)) ∙ ap kind is in omega arith))
+                (λ ne. absurd (let old = (l.next m).1 (sym (put_else r.place d (seated (length vs)) m ne) ∙ is) in ne (ap (λ o. unwrap_or o 0) (sym old ∙ due_is))))),
+          );
           silent = λ m is. dite (ℕ_discrete m d)
-            (λ e. ap (λ z. added_by who z b.start r.story) e ∙ silent_d)
-            (λ ne. l.silent m (⊎_elim (λ e. inl (sym (put_else r.place d (seated (length vs)) m ne) ∙ e)) (λ e. inr (sym (put_else r.place d (seated (length vs)) m ne) ∙ e)) is));
+              (λ e. ap (λ z. added_by who z b.start r.story) e ∙ silent_d)
+              (λ ne. l.silent m (⊎_elim (λ e. inl (sym (put_else r.place d (seated (length vs)) m ne) ∙ e)) (λ e. inr (sym (put_else r.place d (seated (length vs)) m ne) ∙ e)) is));
           gone = λ m. (
             (λ among. let old = (l.gone m).0 among in put_else r.place d (seated (length vs)) m (apart m (λ z. let e : 1 ≡ 2 = sym (ap kind old) ∙ z in omega arith)) ∙ old),
             (λ is. dite (ℕ_discrete m d)
-              (λ e. absurd (let z : 0 ≡ 1 = sym (ap kind (put_here r.place d (seated (length vs)) m e)) ∙ ap kind is in omega arith))
-              (λ ne. (l.gone m).1 (sym (put_else r.place d (seated (length vs)) m ne) ∙ is))));
+                (λ e. absurd (let z : 0 ≡ 1 = sym (ap kind (put_here r.place d (seated (length vs)) m e)) ∙ ap kind is in omega arith))
+                (λ ne. (l.gone m).1 (sym (put_else r.place d (seated (length vs)) m ne) ∙ is))),
+          );
           once = l.once;
           left = λ m is. dite (ℕ_discrete m d)
-            (λ e. absurd (let z : 0 ≡ 1 = sym (ap kind (put_here r.place d (seated (length vs)) m e)) ∙ ap kind is in omega arith))
-            (λ ne. l.left m (sym (put_else r.place d (seated (length vs)) m ne) ∙ is));
-          keeps = λ j is. absurd (let z : false ≡ true = ap is_some (sym no_join ∙ is) in cc) } }
+              (λ e. absurd (let z : 0 ≡ 1 = sym (ap kind (put_here r.place d (seated (length vs)) m e)) ∙ ap kind is in omega arith))
+              (λ ne. l.left m (sym (put_else r.place d (seated (length vs)) m ne) ∙ is));
+          keeps = λ j is. absurd (let z : false ≡ true = ap is_some (sym no_join ∙ is) in cc);
+        };
+      }

@@ -21,8 +21,14 @@ use Rattle.turn_lock.proofs.Joins.{seen_is}
 -- a name tells its table
 abbrev table_named : List ℕ → TableId
 table_named l = record {
-  words = get_or l 0 0; slots = get_or l 1 0; views_name = get_or l 2 0; atom = get_or l 3 0; block = get_or l 4 0;
-  offset = get_or l 5 0; slot_names = drop 6 l }
+  words = get_or l 0 0;
+  slots = get_or l 1 0;
+  views_name = get_or l 2 0;
+  atom = get_or l 3 0;
+  block = get_or l 4 0;
+  offset = get_or l 5 0;
+  slot_names = drop 6 l;
+}
 
 -- a pass whose turn has the name of a table sits at it
 pub of_name : {F : Type 0} (z at : TableId) (begun : Option (Beginning F)) (t : TurnState F) → turn_of z begun ≡ Some t → t.name ≡ name_of at
@@ -56,18 +62,24 @@ module _ {X F E : Type 0} (who : E → ℕ) where
   -- what the look after a join told
   pub compared : (v w : View F E) (m : Me (Option X) (View F E)) → m.0 ≡ united v w
       → ((j : JoinCheck E) → m.0.chief.joined ≡ Some j
-        → GoesOn j.first m.0.seen × GoesOn j.other m.0.seen × (j.out ≡ m.0.chief.out + 1) × (j.number ≢ 0) × (is_among j.number j.ended ≡ false) × (added_by who m.0.number (start_of m.0.beginning) m.0.seen ≡ m.0.mine))
+      → GoesOn j.first m.0.seen × GoesOn j.other m.0.seen × (j.out ≡ m.0.chief.out + 1) × (j.number ≢ 0) × (is_among j.number j.ended ≡ false) × (added_by who m.0.number (start_of m.0.beginning) m.0.seen ≡ m.0.mine))
       → GoesOn v.seen (longer v.seen w.seen) × GoesOn w.seen (longer v.seen w.seen) × (v.chief.out ≡ (v.chief.out - 1) + 1)
-        × (w.number ≢ 0) × (is_among w.number v.chief.ended ≡ false)
-        × (added_by who v.number (start_of v.beginning) (longer v.seen w.seen) ≡ v.mine)
-        × (united_seen v w ≡ longer v.seen w.seen)
+      × (w.number ≢ 0) × (is_among w.number v.chief.ended ≡ false)
+      × (added_by who v.number (start_of v.beginning) (longer v.seen w.seen) ≡ v.mine)
+      × (united_seen v w ≡ longer v.seen w.seen)
   compared v w m same told =
       let P : View F E → Type 0 = λ z. GoesOn v.seen z.seen × GoesOn w.seen z.seen × (v.chief.out ≡ z.chief.out + 1) × (w.number ≢ 0) × (is_among w.number v.chief.ended ≡ false)
-            × (added_by who z.number (start_of z.beginning) z.seen ≡ z.mine) in
+      × (added_by who z.number (start_of z.beginning) z.seen ≡ z.mine) in
       let k = subst P same (told (record { first = v.seen; other = w.seen; number = w.number; out = v.chief.out; ended = v.chief.ended }) (ap (λ z. z.chief.joined) same)) in
-      let is = seen_is v w k.1 in
-      (subst (λ z. GoesOn v.seen z) is k.0, subst (λ z. GoesOn w.seen z) is k.1, k.2, k.3, k.4,
-        subst (λ z. added_by who v.number (start_of v.beginning) z ≡ v.mine) is k.5, is)
+      let is = seen_is v w k.1 in (
+        subst (λ z. GoesOn v.seen z) is k.0,
+        subst (λ z. GoesOn w.seen z) is k.1,
+        k.2,
+        k.3,
+        k.4,
+        subst (λ z. added_by who v.number (start_of v.beginning) z ≡ v.mine) is k.5,
+        is,
+      )
 
 module _ {X F E : Type 0} (frame : X → F) (story_of : X → List E) (who : E → ℕ) where
   -- the value that was taken out of the closed table is the one that is left

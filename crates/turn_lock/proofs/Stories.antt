@@ -44,7 +44,7 @@ module _ {E : Type 0} where
   longer_first a b story ha hb =
       let P : Bool → Type 0 = λ t. nat_lt (length a) (length b) ≡ t → GoesOn a (cond t b a) in
       elim (nat_lt (length a) (length b)) as P [
-        true ↦ λ e. goes_between a b story ha hb (grind arith)
+        | true ↦ λ e. goes_between a b story ha hb (grind arith)
         | false ↦ λ e. goes_self a
       ] refl
 
@@ -52,7 +52,7 @@ module _ {E : Type 0} where
   longer_other a b story ha hb =
       let P : Bool → Type 0 = λ t. nat_lt (length a) (length b) ≡ t → GoesOn b (cond t b a) in
       elim (nat_lt (length a) (length b)) as P [
-        true ↦ λ e. goes_self b
+        | true ↦ λ e. goes_self b
         | false ↦ λ e. goes_between b a story hb ha (grind arith)
       ] refl
 
@@ -74,7 +74,7 @@ module _ {E : Type 0} (who : E → ℕ) where
   filter_other m n ne (x ∷ xs) =
       let P : Bool → Type 0 = λ t. is_by who n x ≡ t → filter (is_by who m) (cond t (x ∷ filter (is_by who n) xs) (filter (is_by who n) xs)) ≡ [] in
       elim (is_by who n x) as P [
-        true ↦ λ e. let other : is_by who m x ≡ false = ne_eqb (who x) m (λ h. ne (sym h ∙ eqb-true (who x) n e)) in
+        | true ↦ λ e. let other : is_by who m x ≡ false = ne_eqb (who x) m (λ h. ne (sym h ∙ eqb-true (who x) n e)) in
             ap (λ t. cond t (x ∷ filter (is_by who m) (filter (is_by who n) xs)) (filter (is_by who m) (filter (is_by who n) xs))) other ∙ filter_other m n ne xs
         | false ↦ λ e. filter_other m n ne xs
       ] refl
@@ -98,10 +98,10 @@ module _ {E : Type 0} (who : E → ℕ) where
       let le' : start ≤ length b = omega (arith, goes_short a b hab) in
       let all = by_parts n start b story hb le' in
       let e : added_by who n start a ≡ (added_by who n start a ++ filter (is_by who n) (drop (length a) b)) ++ filter (is_by who n) (drop (length b) story) =
-          known ∙ sym own ∙ all ∙ ap (λ t. t ++ filter (is_by who n) (drop (length b) story)) ab in
+      known ∙ sym own ∙ all ∙ ap (λ t. t ++ filter (is_by who n) (drop (length b) story)) ab in
       let none : filter (is_by who n) (drop (length a) b) ≡ [] =
-          nil_of_length (filter (is_by who n) (drop (length a) b))
-            (omega (arith, ap length e, length-append (added_by who n start a ++ filter (is_by who n) (drop (length a) b)) (filter (is_by who n) (drop (length b) story)), length-append (added_by who n start a) (filter (is_by who n) (drop (length a) b)))) in
+      nil_of_length (filter (is_by who n) (drop (length a) b))
+      (omega (arith, ap length e, length-append (added_by who n start a ++ filter (is_by who n) (drop (length a) b)) (filter (is_by who n) (drop (length b) story)), length-append (added_by who n start a) (filter (is_by who n) (drop (length a) b)))) in
       ab ∙ ap (λ t. added_by who n start a ++ t) none ∙ append-nil (added_by who n start a) ∙ known
 
   pub nothing_before : (n start : ℕ) (seen story : List E) → GoesOn seen story → start ≤ length seen

@@ -28,9 +28,10 @@ module _ {F E : Type 0} where
     ended = v.chief.ended;
   }
 
-  -- between two calls: no number is drawn and not given, nothing is left to check, and the slot is out empty
-  -- with a holder, and else not with this seat
-  pub record IsPass {X : Type 0} (who : E → ℕ) (me : Me (Option X) (View F E)) (number made out : ℕ) (holds : Bool) : Type 0 where
+  -- between two calls: no number is drawn and not given, nothing is left to check, and the slot
+  -- is out empty with a holder, and else not with this seat
+  pub record IsPass {X : Type 0} (who : E → ℕ) (me : Me (Option X) (View F E))
+      (number made out : ℕ) (holds : Bool) : Type 0 where
     pub number_is : me.0.number ≡ number
     pub made_is : me.0.chief.made ≡ made
     pub out_is : me.0.chief.out ≡ out
@@ -55,8 +56,8 @@ module _ {F E : Type 0} where
   abbrev pub IsOneOf : (number : ℕ) → PassState F E → Type 0
   IsOneOf number first = (number ≡ 0) ⊎ (is_among number first.ended ≡ true)
 
-  -- what each number has past the turn's start: pass 0 its own entries, a joined pass those that it had, and
-  -- any other none
+  -- what each number has past the turn's start: pass 0 its own entries, a joined pass those that
+  -- it had, and any other none
   abbrev pub entries_of : (number : ℕ) → PassState F E → List E
   entries_of number first = if number == 0 then first.mine else left_by number first.ended
 

@@ -20,4 +20,5 @@ module _ {E : Type 0} (who : E → ℕ) where
 
   -- the story is the one before and then entries under this number
   abbrev pub AddsUnder : (number : ℕ) → (before story : List E) → Type 0
-  AddsUnder number before story = GoesOn before story × (filter (is_by number) (drop (length before) story) ≡ drop (length before) story)
+  AddsUnder number before story =
+      GoesOn before story × (added_by number (length before) story ≡ drop (length before) story)

@@ -7,7 +7,8 @@ use Rattle.turn_lock.specs.declared.view.TurnState.{TurnState}
 abbrev pub name_of : TableId → List ℕ
 name_of z = z.words ∷ z.slots ∷ z.views_name ∷ z.atom ∷ z.block ∷ z.offset ∷ z.slot_names
 
--- the words are the numbers drawn, the tickets drawn and the tickets served, and the slot has the value
+-- the words are the numbers drawn, the tickets drawn and the tickets served, and the slot has the
+-- value
 abbrev pub IsLockTable : TableId → Type 0
 IsLockTable z = (z.words ≡ 3) × (z.slots ≡ 1)
 

@@ -53,7 +53,9 @@ module _ {F E : Type 0} where
   -- the steps of pass 0
 
   abbrev pub drawn : (number : ℕ) → View F E → View F E
-  drawn number v = let c = v.chief in record v { chief = record c { made = c.made + 1; due = Some number } }
+  drawn number v =
+      let c = v.chief in
+      record v { chief = record c { made = c.made + 1; due = Some number } }
 
   abbrev pub parted : View F E → View F E
   parted v = let c = v.chief in record v { chief = record c { out = c.out + 1; due = None } }
@@ -73,7 +75,13 @@ module _ {F E : Type 0} where
     chief = record c {
       out = c.out - 1;
       ended = c.ended ++ record { number = w.number; mine = w.mine } ∷ [];
-      joined = Some (record { first = v.seen; other = w.seen; number = w.number; out = c.out; ended = c.ended });
+      joined = Some (record {
+        first = v.seen;
+        other = w.seen;
+        number = w.number;
+        out = c.out;
+        ended = c.ended;
+      });
     };
   }
 
@@ -101,7 +109,8 @@ module _ {X F E : Type 0} (frame : X → F) (story : X → List E) (who : E → 
   abbrev pub Knows : Type 1
   Knows = Step (Option X) → Me (Option X) (View F E) → ℕ → Me (Option X) (View F E) → Type 0
 
-  -- the number is how many were drawn before, nobody has added an entry under it, and fewer passes are out
+  -- the number is how many were drawn before, nobody has added an entry under it, and fewer
+  -- passes are out
   abbrev pub DrawsNumber : Knows
   DrawsNumber step before found after =
       (before.0.chief.made ≡ found)
@@ -109,7 +118,8 @@ module _ {X F E : Type 0} (frame : X → F) (story : X → List E) (who : E → 
       × (before.0.chief.out < found)
       × (added_by who found (start_of before.0.beginning) before.0.seen ≡ [])
 
-  -- both stories that were put together begin the longer one, in which the pass has its own entries and no others
+  -- both stories that were put together begin the longer one, in which the pass has its own
+  -- entries and no others
   abbrev pub Compares : Knows
   Compares step before found after =
       (after ≡ (checked before.0, before.1))
@@ -126,8 +136,8 @@ module _ {X F E : Type 0} (frame : X → F) (story : X → List E) (who : E → 
   DrawsTicket step before found after =
       (ticket : ℕ) × (ticket % 2 ^ 64 ≡ found) × (after ≡ (queued ticket before.0, before.1))
 
-  -- the value is out of the slot: it has the frame of the turn, its story goes on from what was seen, and the
-  -- entries under the number of the pass are its own
+  -- the value is out of the slot: it has the frame of the turn, its story goes on from what was
+  -- seen, and the entries under the number of the pass are its own
   abbrev pub Holds : Me (Option X) (View F E) → Me (Option X) (View F E) → Type 0
   Holds before after =
       (x : X) × (b : Beginning F)
@@ -143,4 +153,5 @@ module _ {X F E : Type 0} (frame : X → F) (story : X → List E) (who : E → 
       → (found ≡ ticket % 2 ^ 64 → Holds before after) × (found ≢ ticket % 2 ^ 64 → after ≡ before)
 
   abbrev pub Serves : Knows
-  Serves step before found after = (x : X) → before.1 ≡ (0, Some x) ∷ [] → after ≡ (gave (story x) before.0, [])
+  Serves step before found after =
+      (x : X) → before.1 ≡ (0, Some x) ∷ [] → after ≡ (gave (story x) before.0, [])

@@ -7,11 +7,12 @@ use crate::view::{PassState, View};
 use atomic_table::Seat;
 use std::marker::Model;
 
-/// The most numbers that a turn draws. The word of the drawn numbers never wraps, and a `u32` holds each count.
+/// The most numbers that a turn draws. The word of the drawn numbers never wraps, and a `u32`
+/// holds each count.
 pub const MOST_NUMBERS: u32 = u32::MAX;
 
-/// The right to take a turn's value under one number. It can go to another thread, and stands for its
-/// [`PassState`].
+/// The right to take a turn's value under one number. It can go to another thread, and stands for
+/// its [`PassState`].
 pub struct Pass<V: Storied> {
     pub(crate) seat: Seat<Option<V>, View<V::Frame, V::Entry>>,
     pub(crate) number: u32,

@@ -1,8 +1,10 @@
-//! The rule of the lock's table, and what each kind of step tells. These types are for the proofs alone.
+//! The rule of the lock's table, and what each kind of step tells. These types are for the proofs
+//! alone.
 //!
-//! The steps are eight: pass 0 draws a number (`DrawNumber`), splits (`Divide`) and joins (`Unite`, and then
-//! `Compare`); every pass draws a ticket (`DrawTicket`), looks at the word of the served tickets (`Look`),
-//! takes the value out of the slot and puts one in, and serves the next (`Serve`).
+//! The steps are eight: pass 0 draws a number (`DrawNumber`), splits (`Divide`) and joins
+//! (`Unite`, and then `Compare`); every pass draws a ticket (`DrawTicket`), looks at the word of
+//! the served tickets (`Look`), takes the value out of the slot and puts one in, and serves the
+//! next (`Serve`).
 ghost use Rattle.turn_lock.specs.Rule.{Kept, beginning_of, first_view};
 ghost use Rattle.turn_lock.specs.View.{DrawsNumber, Compares, DrawsTicket, LooksAtServed, Serves, parted, split_view, united, spent};
 
@@ -12,7 +14,8 @@ use atomic_table::{Join, Play, Split, TableRule};
 use std::marker::PhantomData;
 use std::snapshot::Snapshot;
 
-/// One story, in which each number has the entries of its own pass. The key is the value at the start.
+/// One story, in which each number has the entries of its own pass. The key is the value at the
+/// start.
 pub struct History<V> {
     of: PhantomData<V>,
 }

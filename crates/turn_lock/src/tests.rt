@@ -25,6 +25,7 @@ impl Storied for Notes {
     ghost use Rattle.std.specs.Prelude.{length};
 
     type Entry = Note;
+
     type Frame = ();
 
     ghost frame = { λ _. tt };
@@ -55,19 +56,15 @@ fn room_for(alloc: Global, count: usize) -> Result<Notes, AllocError> {
 
 fn add_one<R: Wait>(rt: &R, turn: &Turn<Notes>, pass: &mut Pass<Notes>, value: u64)
     requires { IsFreeAt pass.old turn.now }
-    ensures { IsFreeAt pass.new turn.now × (pass.new.number ≡ pass.old.number) × (pass.new.out ≡ pass.old.out) }
+    ensures free { IsFreeAt pass.new turn.now }
+    ensures same { (pass.new.number ≡ pass.old.number) × (pass.new.out ≡ pass.old.out) }
 {
     let mut notes = turn.take(rt, pass);
     notes.add(pass.number(), value);
     turn.give(pass, notes);
 }
 
-fn add_all<R: Wait>(
-    rt: &R,
-    turn: &Turn<Notes>,
-    mut pass: Pass<Notes>,
-    count: u64,
-) -> Pass<Notes>
+fn add_all<R: Wait>(rt: &R, turn: &Turn<Notes>, mut pass: Pass<Notes>, count: u64) -> Pass<Notes>
     requires { IsFreeAt pass turn.now }
     ensures { IsFreeAt result turn.now × (result.number ≡ pass.number) × (result.out ≡ pass.out) }
 {
@@ -105,12 +102,7 @@ fn add_in_four<R: Threads + Wait + Sync>(
     )
 }
 
-fn add_in_two<R: Threads + Wait + Sync>(
-    rt: &R,
-    turn: &Turn<Notes>,
-    passes: Two,
-    count: u64,
-) -> Two
+fn add_in_two<R: Threads + Wait + Sync>(rt: &R, turn: &Turn<Notes>, passes: Two, count: u64) -> Two
     requires { IsFreeAt passes.0 turn.now × IsFreeAt passes.1 turn.now }
     ensures { IsFreeAt result.0 turn.now × IsFreeAt result.1 turn.now }
 {
@@ -160,11 +152,15 @@ fn values_of(alloc: Global, notes: &Notes, who: u32) -> Result<Vec<u64>, AllocEr
 }
 
 fn are_counted_up(values: &[u64], count: u64) -> bool {
-    values.len() as u64 == count && values.iter().enumerate().all(|(i, value)| *value == i as u64)
+    values.len() as u64 == count
+        && values
+            .iter()
+            .enumerate()
+            .all(|(i, value)| *value == i as u64)
 }
 
-// What four threads add by passes that are split off before and joined after. Meanwhile a fifth splits and
-// joins, where `churn` isn't 0.
+// What four threads add by passes that are split off before and joined after. Meanwhile a fifth
+// splits and joins, where `churn` isn't 0.
 fn add_by_four<R: Threads + Wait + Sync>(
     rt: &R,
     turn: &Turn<Notes>,
@@ -173,7 +169,8 @@ fn add_by_four<R: Threads + Wait + Sync>(
     churn: u64,
 ) -> Result<Pass<Notes>, SplitRefused>
     requires { IsFreeAt first turn.now × (first.number ≡ 0) × (first.out ≡ 0) }
-    ensures { IfOk result (λ first. IsFreeAt first turn.now × (first.number ≡ 0) × (first.out ≡ 0)) }
+    ensures { IfOk result
+        (λ first. IsFreeAt first turn.now × (first.number ≡ 0) × (first.out ≡ 0)) }
 {
     let left = (turn.split(&mut first)?, turn.split(&mut first)?);
     let right = (turn.split(&mut first)?, turn.split(&mut first)?);
@@ -183,7 +180,8 @@ fn add_by_four<R: Threads + Wait + Sync>(
             requires left { IsFreeAt left.0 turn.now × IsFreeAt left.1 turn.now }
             requires right { IsFreeAt right.0 turn.now × IsFreeAt right.1 turn.now }
             ensures left { IsFreeAt result.0.0 turn.entry.now × IsFreeAt result.0.1 turn.entry.now }
-            ensures right { IsFreeAt result.1.0 turn.entry.now × IsFreeAt result.1.1 turn.entry.now }
+            ensures right { IsFreeAt result.1.0 turn.entry.now
+                × IsFreeAt result.1.1 turn.entry.now }
         { add_in_four(rt, turn, left, right, count) },
         move || -> Pass<Notes>
             requires { IsFreeAt first turn.now × (first.number ≡ 0) × (first.out ≡ 4) }
@@ -230,7 +228,11 @@ fn passes_come_and_go_beside_four_threads(rt: HostRuntime) -> Result<(), Fail> {
     }
     for who in 5..505 {
         let values = values_of(rt.alloc(), &notes, who)?;
-        assert_eq!(rt; values.as_slice(), [who as u64 - 5].as_slice(), "under {who}");
+        assert_eq!(rt;
+            values.as_slice(),
+            [who as u64 - 5].as_slice(),
+            "under {who}"
+        );
     }
     Ok(())
 }
@@ -266,6 +268,7 @@ impl<T> Storied for Desk<T> {
     ghost use Rattle.std.specs.Prelude.{length};
 
     type Entry = Note;
+
     type Frame = ();
 
     ghost frame = { λ _. tt };

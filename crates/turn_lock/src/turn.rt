@@ -1,6 +1,6 @@
 //! The lock.
-ghost use Rattle.std.specs.Prelude.{◌≡◌, ◌≢◌, ℕ, ◌+◌, ◌-◌, ◌%◌, ◌^◌, ◌<◌, [], ◌∷◌, length, true, false, None, Some, All, if◌then◌else◌, is_ok, ◌≤◌, MatchResult, IfOk, IfErr, drop, filter};
-ghost use Rattle.turn_lock.specs.Story.{GoesOn, AddsUnder, added_by, is_by};
+ghost use Rattle.std.specs.Prelude.{◌≡◌, ◌≢◌, ℕ, ◌+◌, ◌-◌, ◌%◌, ◌^◌, ◌<◌, [], ◌∷◌, length, true, false, None, Some, All, if◌then◌else◌, is_ok, ◌≤◌, MatchResult, IfOk, IfErr, drop};
+ghost use Rattle.turn_lock.specs.Story.{GoesOn, AddsUnder, added_by};
 ghost use Rattle.turn_lock.specs.View.{is_among};
 ghost use Rattle.turn_lock.specs.Pass.{first_pass, split_first, split_off, joined_with, holding, gave_back, entries_of, IsPassOf, IsOneOf};
 
@@ -39,7 +39,8 @@ impl<V: Storied> Model for Turn<V> {
 
     ghost use Rattle.turn_lock.specs.Turn.{turn_state, IsLockTable};
 
-    ghost view = { λ t. turn_state V.frame V.story t.table.shared.table_id t.table.shared.key.value };
+    ghost view = { λ t. let shared = t.table.shared in
+        turn_state V.frame V.story shared.table_id shared.key.value };
 
     ghost invariant = { λ t. IsLockTable t.table.shared.table_id };
 }
@@ -52,10 +53,11 @@ const TICKET: usize = 1;
 pub(crate) const SERVED: usize = 2;
 
 impl<V: Storied> Turn<V> {
-    /// A turn round the value, and its first pass, which has the number 0. Where memory runs out the value
-    /// comes back.
+    /// A turn round the value, and its first pass, which has the number 0. Where memory runs out
+    /// the value comes back.
     pub fn new(alloc: Global, value: V) -> Result<(Turn<V>, Pass<V>), (V, NoMemory)>
-        ensures turn { IfOk result (λ made. (made.0.frame ≡ V.frame value) × (made.0.start ≡ length (V.story value))) }
+        ensures turn { IfOk result (λ made. (made.0.frame ≡ V.frame value)
+            × (made.0.start ≡ length (V.story value))) }
         ensures pass { IfOk result (λ made. made.1 ≡ first_pass made.0 (V.story value)) }
         ensures back { IfErr result (λ refused. refused.0 ≡ value) }
     {
@@ -79,8 +81,8 @@ impl<V: Storied> Turn<V> {
         }
     }
 
-    /// Makes another pass, which has seen as much as pass 0 and added nothing. [`SplitRefused::Full`] where
-    /// [`MOST_NUMBERS`] are drawn. It takes no memory.
+    /// Makes another pass, which has seen as much as pass 0 and added nothing.
+    /// [`SplitRefused::Full`] where [`MOST_NUMBERS`] are drawn. It takes no memory.
     pub fn split(&self, first: &mut Pass<V>) -> Result<Pass<V>, SplitRefused>
         requires turn { first.old.turn ≡ Some self.now }
         requires first { first.old.number ≡ 0 }
@@ -88,7 +90,8 @@ impl<V: Storied> Turn<V> {
             (λ pass. (first.old.made < MOST_NUMBERS) × (pass ≡ split_off first.old))
             (λ refusal. first.old.made ≡ MOST_NUMBERS) }
         ensures first { first.new ≡ (if is_ok result then split_first first.old else first.old) }
-        ensures fresh { IfOk result (λ pass. added_by V.who pass.number self.now.start pass.seen ≡ []) }
+        ensures fresh { IfOk result
+            (λ pass. added_by V.who pass.number self.now.start pass.seen ≡ []) }
     {
         if first.made == MOST_NUMBERS {
             return Err(SplitRefused::Full);
@@ -108,8 +111,8 @@ impl<V: Storied> Turn<V> {
         })
     }
 
-    /// Ends a pass that doesn't hold the turn. Pass 0 keeps its number with its entries, and has then seen
-    /// what either had seen. It takes no memory.
+    /// Ends a pass that doesn't hold the turn. Pass 0 keeps its number with its entries, and has
+    /// then seen what either had seen. It takes no memory.
     pub fn join(&self, first: &mut Pass<V>, other: Pass<V>)
         requires turn { IsPassOf first.old self.now.name × IsPassOf other self.now.name }
         requires first { first.old.number ≡ 0 }
@@ -126,8 +129,8 @@ impl<V: Storied> Turn<V> {
         first.out -= 1;
     }
 
-    /// Draws a ticket, waits until it is served, and takes the value out. Its story goes on from what this
-    /// pass had seen, and what is new in it is of others. It takes no memory.
+    /// Draws a ticket, waits until it is served, and takes the value out. Its story goes on from
+    /// what this pass had seen, and what is new in it is of others. It takes no memory.
     pub fn take<R: Wait>(&self, rt: &R, pass: &mut Pass<V>) -> V
         requires turn { pass.old.turn ≡ Some self.now }
         requires free { pass.old.holds ≡ false }
@@ -135,8 +138,10 @@ impl<V: Storied> Turn<V> {
         ensures pass { pass.new ≡ holding (V.story result) pass.old }
         ensures goes_on { GoesOn pass.old.seen (V.story result) }
         ensures reach { self.now.start ≤ length (V.story result) }
-        ensures own { added_by V.who pass.old.number self.now.start (V.story result) ≡ pass.old.mine }
-        ensures others { filter (is_by V.who pass.old.number) (drop (length pass.old.seen) (V.story result)) ≡ [] }
+        ensures own { added_by V.who pass.old.number self.now.start (V.story result)
+            ≡ pass.old.mine }
+        ensures others { added_by V.who pass.old.number (length pass.old.seen) (V.story result)
+            ≡ [] }
     {
         let shared = &self.table.shared;
         let ticket = shared.fetch_add::<DrawTicket<V>>(&mut pass.seat, TICKET, 1);
@@ -147,15 +152,16 @@ impl<V: Storied> Turn<V> {
         value
     }
 
-    /// Gives the value back, and lets the next pass take it. The value has the turn's frame, and a story of
-    /// what was taken and then entries under this pass's number. It takes no memory.
+    /// Gives the value back, and lets the next pass take it. The value has the turn's frame, and
+    /// a story of what was taken and then entries under this pass's number. It takes no memory.
     pub fn give(&self, pass: &mut Pass<V>, value: V)
         requires turn { pass.old.turn ≡ Some self.now }
         requires holder { pass.old.holds ≡ true }
         requires frame { V.frame value ≡ self.now.frame }
         requires adds { AddsUnder V.who pass.old.number pass.old.seen (V.story value) }
         ensures pass { pass.new ≡ gave_back (V.story value) pass.old }
-        ensures own { added_by V.who pass.old.number self.now.start (V.story value) ≡ pass.new.mine }
+        ensures own { added_by V.who pass.old.number self.now.start (V.story value)
+            ≡ pass.new.mine }
     {
         let shared = &self.table.shared;
         let taken = shared.exchange(&mut pass.seat, 0, Some(value));
@@ -167,8 +173,9 @@ impl<V: Storied> Turn<V> {
         }
     }
 
-    /// Ends the turn, and gives its value. Pass 0 is the only one left. What the story has gained since the
-    /// turn was made is of pass 0 and of the passes that were joined. It takes no memory.
+    /// Ends the turn, and gives its value. Pass 0 is the only one left. What the story has gained
+    /// since the turn was made is of pass 0 and of the passes that were joined. It takes no
+    /// memory.
     pub fn close(self, first: Pass<V>) -> V
         requires turn { IsPassOf first self.name }
         requires first { first.number ≡ 0 }
@@ -176,8 +183,10 @@ impl<V: Storied> Turn<V> {
         requires free { first.holds ≡ false }
         ensures frame { V.frame result ≡ self.frame }
         ensures goes_on { GoesOn first.seen (V.story result) }
-        ensures entries { (number : ℕ) → added_by V.who number self.start (V.story result) ≡ entries_of number first }
-        ensures whose { All (λ entry. IsOneOf (V.who entry) first) (drop self.start (V.story result)) }
+        ensures entries { (number : ℕ) → added_by V.who number self.start (V.story result)
+            ≡ entries_of number first }
+        ensures whose { All (λ entry. IsOneOf (V.who entry) first)
+            (drop self.start (V.story result)) }
     {
         let Turn { table } = self;
         let mut closed = table.close_with(first.into_seat());

@@ -1,4 +1,5 @@
-//! What threads know of a lock, as plain data. Only clauses read these types: no value of them is made.
+//! What threads know of a lock, as plain data. Only clauses read these types: no value of them is
+//! made.
 use std::collections::LinkedList;
 
 /// What a lock's value was when the lock was made: its frame, and how many entries its story had.
@@ -13,8 +14,8 @@ pub struct EndedPass<E> {
     pub mine: LinkedList<E>,
 }
 
-/// What a join has left to check: the two stories that it put together, and the number that it ended beside
-/// how many passes were out and which had ended before.
+/// What a join has left to check: the two stories that it put together, and the number that it
+/// ended beside how many passes were out and which had ended before.
 pub struct JoinCheck<E> {
     pub first: LinkedList<E>,
     pub other: LinkedList<E>,
@@ -23,8 +24,9 @@ pub struct JoinCheck<E> {
     pub ended: LinkedList<EndedPass<E>>,
 }
 
-/// What the seat of pass 0 knows besides: how many numbers were drawn, how many other passes there are, the
-/// passes that were joined, the number that it drew and has not given yet, and what a join has left to check.
+/// What the seat of pass 0 knows besides: how many numbers were drawn, how many other passes
+/// there are, the passes that were joined, the number that it drew and has not given yet, and
+/// what a join has left to check.
 pub struct Chief<E> {
     pub made: u32,
     pub out: u32,
@@ -33,7 +35,8 @@ pub struct Chief<E> {
     pub joined: Option<JoinCheck<E>>,
 }
 
-/// What a seat at the lock's table knows. A seat whose pass was joined is spent, and has no beginning.
+/// What a seat at the lock's table knows. A seat whose pass was joined is spent, and has no
+/// beginning.
 pub struct View<F, E> {
     pub beginning: Option<Beginning<F>>,
     pub number: u32,
@@ -44,17 +47,18 @@ pub struct View<F, E> {
     pub chief: Chief<E>,
 }
 
-/// What a [`crate::Turn`] stands for: the numbers that name it, and the frame and the length of the story of
-/// the value that it was made with.
+/// What a [`crate::Turn`] stands for: the numbers that name it, and the frame and the length of
+/// the story of the value that it was made with.
 pub struct TurnState<F> {
     pub name: LinkedList<u64>,
     pub frame: F,
     pub start: u64,
 }
 
-/// What a [`crate::Pass`] stands for: its turn, its number, whether it holds the turn, the story as its
-/// holder last knew it, and the entries that it added. Pass 0 stands besides for how many numbers were
-/// drawn, how many other passes are out, and the joined passes in the order of their joins.
+/// What a [`crate::Pass`] stands for: its turn, its number, whether it holds the turn, the story
+/// as its holder last knew it, and the entries that it added. Pass 0 stands besides for how many
+/// numbers were drawn, how many other passes are out, and the joined passes in the order of their
+/// joins.
 pub struct PassState<F, E> {
     pub turn: Option<TurnState<F>>,
     pub number: u32,

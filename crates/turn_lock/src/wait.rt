@@ -24,8 +24,8 @@ type LockTable<V> = Shared<
 
 type PassSeat<V> = Seat<Option<V>, View<<V as Storied>::Frame, <V as Storied>::Entry>>;
 
-/// Waits until the ticket is served, and takes the value out with the seat. It looks again at once for a
-/// while, and then sleeps until another ticket is served.
+/// Waits until the ticket is served, and takes the value out with the seat. It looks again at
+/// once for a while, and then sleeps until another ticket is served.
 pub(crate) fn wait_for<V: Storied, R: Wait>(
     rt: &R,
     table: &LockTable<V>,
@@ -33,7 +33,8 @@ pub(crate) fn wait_for<V: Storied, R: Wait>(
     ticket: u64,
 )
     requires table { (seat.old.table_id ≡ table.now.table_id) × IsLockTable table.now.table_id }
-    requires free { (is_live seat.old.me.0 ≡ true) × (seat.old.me.0.holds ≡ false) × (seat.old.me.1 ≡ []) }
+    requires live { is_live seat.old.me.0 ≡ true }
+    requires free { (seat.old.me.0.holds ≡ false) × (seat.old.me.1 ≡ []) }
     requires queued { (t : ℕ) × (seat.old.me.0.ticket ≡ Some t) × (ticket ≡ t % 2 ^ 64) }
     ensures table { seat.new.table_id ≡ seat.old.table_id }
     ensures holds { Holds V.frame V.story V.who seat.old.me seat.new.me }

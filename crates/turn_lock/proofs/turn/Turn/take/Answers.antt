@@ -13,9 +13,11 @@ fetch_add-ticket-requires g c =
     let s = g.V.Storied in
     let v = c.pass.inside.seat.me.0 in
     let own = of_turn s.frame s.story _ _ v.beginning _ (ap (λ p. p.turn) c.pass.view_is ∙ c.requires.turn ∙ ap (λ t. Some t) (sym c.self.view_is)) in
-    let idle = ap (λ p. p.holds) c.pass.view_is ∙ c.requires.free in
-    (own.0, omega (arith, c.self.invariant.0),
-      draws_ticket s.frame s.story s.who _ _ _ c.pass.inside.seat.me (ap is_some own.1) idle (c.pass.invariant.ticketless (sym c.pass.invariant.holds_is ∙ idle)))
+    let idle = ap (λ p. p.holds) c.pass.view_is ∙ c.requires.free in (
+      own.0,
+      omega (arith, c.self.invariant.0),
+      draws_ticket s.frame s.story s.who _ _ _ c.pass.inside.seat.me (ap is_some own.1) idle (c.pass.invariant.ticketless (sym c.pass.invariant.holds_is ∙ idle)),
+    )
 
 pub exchange-taken-requires : goal.exchange-taken-requires
 exchange-taken-requires g c =
@@ -43,4 +45,4 @@ returns-clause-others g c =
     let known = ap (λ n. added_by s.who n (start_of v.beginning) v.seen) i.number_is ∙ i.known in
     let none = none_new s.who v.number (start_of v.beginning) v.seen (s.story h.0) v.mine goes i.reach known (ap (λ b. added_by s.who v.number (start_of b) (s.story h.0)) begun ∙ own) in
     subst (λ p. filter (is_by s.who p.number) (drop (length p.seen) (s.story c.in-Some.value)) ≡ []) c.pass.view_is
-      (subst (λ x. filter (is_by s.who v.number) (drop (length v.seen) (s.story x)) ≡ []) value none)
+    (subst (λ x. filter (is_by s.who v.number) (drop (length v.seen) (s.story x)) ≡ []) value none)
