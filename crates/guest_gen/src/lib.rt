@@ -1,4 +1,5 @@
-//! The writes that a guest makes in a test run: a list that a seed, a count and the disks' capacities determine.
+//! The writes that a guest makes in a test run: a list that a seed, a count and the disks'
+//! capacities determine.
 #![tactic(auto)]
 
 mod script;

@@ -36,7 +36,8 @@ pub struct GuestWrite {
 
 /// The writes of one guest that are still to come. Contracts see it as their list.
 ///
-/// The numbers come from the linear congruential generator of Knuth's MMIX, which starts at the seed.
+/// The numbers come from the linear congruential generator of Knuth's MMIX, which starts at the
+/// seed.
 #[derive(Debug, Drop)]
 pub struct GuestScript {
     state: u64,
@@ -54,12 +55,16 @@ impl Model for GuestScript {
 
     ghost view = { λ s. offered s.state s.left s.capacities.items };
 
-    ghost invariant = { λ s. (1 ≤ length s.capacities.items) × (length s.capacities.items ≤ 16) × All (λ c. 1 ≤ c) s.capacities.items };
+    ghost use Rattle.guest_gen.specs.declared.script.TheConstants.{MOST_DISKS};
+
+    ghost invariant = { λ s. (1 ≤ length s.capacities.items)
+        × (length s.capacities.items ≤ MOST_DISKS)
+        × All (λ c. 1 ≤ c) s.capacities.items };
 }
 
 impl GuestScript {
-    /// The writes of a guest of this seed: `count` of them, on disks of these capacities, in sectors. There are
-    /// 1 to [`MOST_DISKS`] disks of 1 to [`MOST_SECTORS`] sectors each.
+    /// The writes of a guest of this seed: `count` of them, on disks of these capacities, in
+    /// sectors. There are 1 to [`MOST_DISKS`] disks of 1 to [`MOST_SECTORS`] sectors each.
     pub fn new(
         alloc: Global,
         seed: u64,
@@ -81,7 +86,9 @@ impl GuestScript {
 
     /// The next write, or none after the last. It takes no memory.
     pub fn next(&mut self) -> Option<GuestWrite>
-        ensures { MatchOption result ((self.old ≡ []) × (self.new ≡ [])) (λ write. self.old ≡ write ∷ self.new) }
+        ensures { MatchOption result
+            ((self.old ≡ []) × (self.new ≡ []))
+            (λ write. self.old ≡ write ∷ self.new) }
     {
         if self.left == 0 {
             return None;
@@ -95,7 +102,7 @@ impl GuestScript {
 
 // The write that the next three numbers make. Its stamp is the third of them.
 fn write_after(state: u64, capacities: &[u64]) -> GuestWrite
-    requires disks { (1 ≤ length capacities.now) × (length capacities.now ≤ 16) }
+    requires disks { (1 ≤ length capacities.now) × (length capacities.now ≤ MOST_DISKS) }
     requires sizes { All (λ c. 1 ≤ c) capacities.now }
     ensures { result ≡ write_from state capacities.now }
 {

@@ -18,4 +18,4 @@ mod wait;
 pub use pass::{MOST_NUMBERS, Pass};
 pub use story::Storied;
 pub use turn::{NoMemory, SplitRefused, Turn};
-pub use view::{Beginning, Chief, EndedPass, JoinCheck, PassState, TurnState, View};
+pub use view::{EndedPass, PassState, TurnState};

@@ -10,7 +10,8 @@ use crate::story::Storied;
 use crate::view::View;
 use crate::wait::wait_for;
 use atomic_table::{Refused, Table};
-use std::alloc::{AllocFailed, Global};
+use std::alloc::{AllocError, AllocFailed, Global};
+use std::fmt;
 use std::marker::Model;
 use std::snapshot::Snapshot;
 use std::sync::Wait;
@@ -19,11 +20,25 @@ use std::sync::Wait;
 #[derive(Clone, Copy, Debug, PartialEq, Eq)]
 pub struct NoMemory;
 
+impl From<AllocError> for NoMemory {
+    fn from(_refused: AllocError) -> Self {
+        NoMemory
+    }
+}
+
 /// Why a pass can't be split.
 #[derive(Clone, Copy, Debug, PartialEq, Eq)]
 pub enum SplitRefused {
     /// All numbers are drawn: [`MOST_NUMBERS`] of them.
     Full,
+}
+
+impl fmt::Display for SplitRefused {
+    fn fmt<W: fmt::Write>(&self, f: &mut fmt::Formatter<W>) -> fmt::Result {
+        match self {
+            SplitRefused::Full => f.write_str("all numbers of passes are drawn"),
+        }
+    }
 }
 
 /// A value that threads take turns at. It stands for its [`TurnState`].
