@@ -3,3 +3,4 @@ pub mod NameLemmas
 pub mod FilledRanges
 pub mod SlotLemmas
 pub mod VolumeLemmas
+pub mod StoreLemmas

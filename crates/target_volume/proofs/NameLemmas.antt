@@ -7,7 +7,7 @@ use Rattle.std.proofs.lemmas.Map.Lookups.{CmpEqualImpliesEq, exact_bytes, exact_
 use Rattle.std.proofs.lemmas.Map.Views.{tells_apart}
 use Rattle.std.specs.Cmp.Lexicographic.{slice_cmp}
 use Rattle.std.specs.Ordering.{nat_cmp, ordering_then}
-use Rattle.target_volume.proofs.PairLemmas.{lookup-insert_entry_same, lookup-insert_entry_other, insert_entry-insert_entry, lookup-without_same, lookup-without_other, without-insert_entry, sorted-insert_entry, sorted-without}
+use Rattle.target_volume.proofs.PairLemmas.{lookup-insert_entry_same, lookup-insert_entry_other, insert_entry-insert_entry, lookup-without_same, lookup-without_other, without-insert_entry, insert_entry-found, sorted-insert_entry, sorted-without}
 use Rattle.target_volume.specs.VolumeName.{volume_cmp, volumes_total, find_volume, with_volume, without_volume, AreAscending}
 use Rattle.target_volume.specs.declared.volume_name.VolumeName.{VolumeName}
 use Rattle.target_volume.specs.declared.volume_name.VolumeName.TheVariants.{Given, Disk}
@@ -80,3 +80,9 @@ module _ {X : Type 0} where
   pub ascending-without : (name : VolumeName) (pairs : List (VolumeName × X))
       → AreAscending pairs → AreAscending (without_volume name pairs)
   ascending-without name pairs ordered = sorted-without volume_cmp name pairs ordered
+
+  -- what stands under a name already, put in again, leaves the list
+  pub with-found : (name : VolumeName) (x : X) (pairs : List (VolumeName × X))
+      → AreAscending pairs → find_volume name pairs ≡ Some x → with_volume name x pairs ≡ pairs
+  with-found name x pairs ordered found =
+      insert_entry-found volumes_total name x pairs ordered found

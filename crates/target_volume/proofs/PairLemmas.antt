@@ -280,6 +280,34 @@ module _ {K V : Type 0} (R : K → K → Ordering) where
       subst (λ ks. IsStrictlySortedBy R ks) (sym (keys-without k es))
       (IsStrictlySortedBy-filter R (λ q. not (is_at (R k) q)) (keys_of es) sorted)
 
+module _ {K V : Type 0} {R : K → K → Ordering} (o : IsTotalOrder R) where
+  found_in_place : (k : K) (v : V) (e : K × V) (es : List (K × V)) (r : Ordering) → R k e.0 ≡ r
+      → AllByRecursion (λ y. R e.0 y ≡ Less) (keys_of es)
+      → lookup (is_at (R k)) (e ∷ es) ≡ Some v
+      → (lookup (is_at (R k)) es ≡ Some v → insert_entry R es k v ≡ es)
+      → match_ordering r ((k, v) ∷ e ∷ es) ((e.0, v) ∷ es) (e ∷ insert_entry R es k v) ≡ e ∷ es
+  found_in_place k v e es Less h below found rest =
+      let none : lookup (is_at (R k)) (e ∷ es) ≡ None =
+      ap (λ c. cond (is_eq c) (Some e.1) (lookup (is_at (R k)) es)) h
+      ∙ missing_below o k es (below_all o k e es h below) in
+      cc
+  found_in_place k v e es Equal h below found rest =
+      let same : Some e.1 ≡ Some v =
+      sym (ap (λ c. cond (is_eq c) (Some e.1) (lookup (is_at (R k)) es)) h) ∙ found in
+      let value : e.1 ≡ v = cc in
+      ap (λ (x : V). (e.0, x) ∷ es) (sym value)
+  found_in_place k v e es Greater h below found rest =
+      ap (λ l. e ∷ l)
+      (rest (sym (ap (λ c. cond (is_eq c) (Some e.1) (lookup (is_at (R k)) es)) h) ∙ found))
+
+  -- what is there already, put in, leaves the list
+  pub insert_entry-found : (k : K) (v : V) (es : List (K × V)) → IsStrictlySortedBy R (keys_of es)
+      → lookup (is_at (R k)) es ≡ Some v → insert_entry R es k v ≡ es
+  unfolding IsStrictlySortedBy
+  insert_entry-found k v [] sorted found = cc
+  insert_entry-found k v (e ∷ es) sorted found =
+      found_in_place k v e es (R k e.0) refl sorted.0 found (insert_entry-found k v es sorted.1)
+
 -- ---- those of the values that a function keeps
 
 abbrev pub kept_value : {K X Y : Type 0} → (X → Option Y) → K × X → Option (K × Y)

@@ -1,9 +1,10 @@
 -- Slots of a store in memory: they stay kept, and what a step in them is as a step of the store.
-use Rattle.std.proofs.Common.{◌≡◌, ℕ, ◌-◌, ◌≤◌, Bool, true, false, ◌&&◌, cond, List, [], ◌∷◌, length, map, Option, Some, None, option_map, option_and_then, ◌==◌, IsTrue, Ordering, Less, Equal, Greater, ap, sym, ◌∙◌, refl, subst, arith}
+use Rattle.std.proofs.Common.{◌≡◌, ℕ, ◌-◌, ◌≤◌, Bool, true, false, ◌&&◌, cond, List, [], ◌∷◌, length, map, Option, Some, None, option_map, option_and_then, ◌==◌, IsTrue, Ordering, Less, Equal, Greater, ap, sym, ◌∙◌, refl, subst, ◌⊎◌, inl, inr, arith}
 use Rattle.std.proofs.lemmas.Bool.{false≢true, true≢false}
 use Rattle.std.proofs.lemmas.List.{length-replicate}
-use Rattle.std.specs.Prelude.{IsSome, IsSomeAnd, is_some}
+use Rattle.std.specs.Prelude.{IfSome, IsSome, IsSomeAnd, is_some}
 use Rattle.sector_model.specs.Sector.{filled}
+use Rattle.sector_model.specs.VolumeContents.{IsSized}
 use Rattle.std.specs.BTreeMap.{is_at, insert_entry}
 use Rattle.std.specs.List.{filter, filter_map}
 use Rattle.std.specs.List.Sorted.{IsStrictlySortedBy}
@@ -14,7 +15,7 @@ use Rattle.basics.specs.Faults.{counted_by}
 use Rattle.target_volume.specs.MemVolume.{HeldState, MemVolumeState, held_state, volume_state}
 use Rattle.target_volume.specs.MemVolumes.{SlotState, Home, Lent, MemVolumesState, slot_state, stored_of, loan_in, named_loan, IsKept, AreKept, IsWhole, volume_calls, store_state, next_volume, after_opening, after_keeping, IsHome, IsHomeWith, IsLent, IsLentWith}
 use Rattle.target_volume.specs.VolumeName.{volume_cmp, volumes_total, find_volume, with_volume, without_volume, AreAscending}
-use Rattle.target_volume.specs.VolumeStore.{StoredVolume, Loan, Lends, IsThere, lent_out, after_lending, after_taking_back}
+use Rattle.target_volume.specs.VolumeStore.{StoredVolume, Loan, Lends, IsThere, IsOrderly, lent_out, after_lending, after_taking_back}
 use Rattle.target_volume.specs.declared.mem_volume.Held.{Held}
 use Rattle.target_volume.specs.declared.mem_volumes.Slot.{Slot}
 use Rattle.target_volume.specs.declared.mem_volumes.Slot.TheVariants.{Home as SlotHome, Lent as SlotLent}
@@ -512,3 +513,145 @@ pub lent_only : (lent : ℕ) (o : Option SlotState) → IsLentWith lent o → Is
 lent_only lent None counted = counted
 lent_only lent (Some (Home h)) counted = counted
 lent_only lent (Some (Lent loan)) counted = tt
+
+-- ---- loans and slots
+
+lent_capacity : (found : Option Slot)
+    → IfSome (option_and_then loan_in (option_map slot_state found))
+    (λ loan. option_map (λ slot. (stored_of (slot_state slot)).capacity) found
+    ≡ Some loan.capacity)
+lent_capacity None = tt
+lent_capacity (Some (SlotHome held)) = tt
+lent_capacity (Some (SlotLent c faults)) = refl
+
+loans_at : (name : VolumeName) (es : List (VolumeName × Slot)) → AreAscending es
+    → find_volume name (filter_map named_loan (slots_of es))
+    ≡ option_and_then loan_in (option_map slot_state (lookup (is_at (volume_cmp name)) es))
+loans_at name es ordered =
+    loans_found name (slots_of es) (slots_ordered es ordered)
+    ∙ ap (option_and_then loan_in) (slots_found name es)
+
+-- what is lent out has the capacity that is told
+pub lent_capacity_at : (name : VolumeName) (es : List (VolumeName × Slot)) (found : Option Slot)
+    → AreAscending es → found ≡ lookup (is_at (volume_cmp name)) es
+    → IfSome (find_volume name (filter_map named_loan (slots_of es)))
+    (λ loan. option_map (λ slot. (stored_of (slot_state slot)).capacity) found
+    ≡ Some loan.capacity)
+lent_capacity_at name es found ordered is =
+    subst (λ (o : Option Loan). IfSome o
+    (λ loan. option_map (λ slot. (stored_of (slot_state slot)).capacity) found
+    ≡ Some loan.capacity))
+    (ap (λ (o : Option Slot). option_and_then loan_in (option_map slot_state o)) is
+    ∙ sym (loans_at name es ordered))
+    (lent_capacity found)
+
+-- where no slot is, nothing is lent out
+pub loans_missing : (name : VolumeName) (es : List (VolumeName × Slot)) → AreAscending es
+    → is_some (lookup (is_at (volume_cmp name)) es) ≡ false
+    → IsSome (find_volume name (filter_map named_loan (slots_of es))) → ⊥
+loans_missing name es ordered none some =
+    false≢true (sym (ap is_some (loans_at name es ordered
+    ∙ ap (option_and_then loan_in) (no_slot (lookup (is_at (volume_cmp name)) es) none)))
+    ∙ some)
+
+home_unlent : (capacity faults : ℕ) (o : Option SlotState) → IsHomeWith capacity faults o
+    → IsSome (option_and_then loan_in o) → ⊥
+home_unlent capacity faults None home some = home
+home_unlent capacity faults (Some (Home h)) home some = false≢true some
+home_unlent capacity faults (Some (Lent loan)) home some = home
+
+-- what is at home isn't lent out, and is there
+pub home_not_lent : (name : VolumeName) (capacity faults : ℕ) (es : List (VolumeName × Slot))
+    → AreAscending es
+    → IsHomeWith capacity faults (option_map slot_state (lookup (is_at (volume_cmp name)) es))
+    → IsSome (find_volume name (filter_map named_loan (slots_of es))) → ⊥
+home_not_lent name capacity faults es ordered home some =
+    home_unlent capacity faults (option_map slot_state (lookup (is_at (volume_cmp name)) es)) home
+    (sym (ap is_some (loans_at name es ordered)) ∙ some)
+
+home_there : (capacity faults : ℕ) (o : Option SlotState) → IsHomeWith capacity faults o
+    → IsSomeAnd (option_map stored_of o)
+    (λ stored. (stored.capacity ≡ capacity) × IsSome stored.contents)
+home_there capacity faults None home = home
+home_there capacity faults (Some (Home h)) home = (home.0, refl)
+home_there capacity faults (Some (Lent loan)) home = absurd home
+
+pub there_at : (name : VolumeName) (capacity faults : ℕ) (es : List (VolumeName × Slot))
+    → IsHomeWith capacity faults (option_map slot_state (lookup (is_at (volume_cmp name)) es))
+    → IsThere name capacity (told_of (slots_of es))
+there_at name capacity faults es home =
+    subst (λ (o : Option StoredVolume). IsSomeAnd o
+    (λ stored. (stored.capacity ≡ capacity) × IsSome stored.contents)) (sym (told_at name es))
+    (home_there capacity faults (option_map slot_state (lookup (is_at (volume_cmp name)) es)) home)
+
+-- ---- a whole store is orderly
+
+kept_told : (sound : Bool) (faults : ℕ) (found : Option Slot)
+    → ((slot : Slot) → found ≡ Some slot → IsKept sound faults (slot_state slot))
+    → (st : SlotState) → option_map slot_state found ≡ Some st → IsKept sound faults st
+kept_told sound faults None kept st is = cc
+kept_told sound faults (Some slot) kept st is =
+    let same : slot_state slot ≡ st = cc in
+    subst (λ (t : SlotState). IsKept sound faults t) same (kept slot refl)
+
+home_case : (o : Option SlotState) → IfSome (option_map stored_of o)
+    (λ v. IsSome v.contents ⊎ IsSome (option_and_then loan_in o))
+home_case None = tt
+home_case (Some (Home h)) = inl refl
+home_case (Some (Lent loan)) = inr refl
+
+sized_case : (sound : Bool) (faults : ℕ) (o : Option SlotState)
+    → ((st : SlotState) → o ≡ Some st → IsKept sound faults st)
+    → IfSome (option_map stored_of o) (λ v. IfSome v.contents (IsSized v.capacity))
+sized_case sound faults None kept = tt
+sized_case sound faults (Some (Home h)) kept = (kept (Home h) refl).0
+sized_case sound faults (Some (Lent loan)) kept = tt
+
+counted_case : (sound : Bool) (faults : ℕ) (o : Option SlotState)
+    → ((st : SlotState) → o ≡ Some st → IsKept sound faults st)
+    → IfSome (option_and_then loan_in o) (λ loan. loan.faults ≤ faults)
+counted_case sound faults None kept = tt
+counted_case sound faults (Some (Home h)) kept = tt
+counted_case sound faults (Some (Lent loan)) kept = kept (Lent loan) refl
+
+orderly : (s : MemVolumesState) (es : List (VolumeName × Slot)) → s.slots ≡ slots_of es
+    → AreAscending es → AreKept s.sound s.calls.faults es → IsOrderly (store_state s)
+orderly s es is ordered kept =
+    let ascending : AreAscending s.slots =
+    subst (λ (l : List (VolumeName × SlotState)). AreAscending l) (sym is)
+    (slots_ordered es ordered) in
+    let each : (name : VolumeName) (st : SlotState) → find_volume name s.slots ≡ Some st
+    → IsKept s.sound s.calls.faults st = λ name st found.
+    kept_told s.sound s.calls.faults (lookup (is_at (volume_cmp name)) es)
+    (λ slot at. kept_found s.sound s.calls.faults (is_at (volume_cmp name)) es slot kept at) st
+    (sym (slots_found name es)
+    ∙ ap (λ (l : List (VolumeName × SlotState)). find_volume name l) (sym is) ∙ found) in
+    record {
+      volumes = told_ordered s.slots ascending;
+      loans = loans_ordered s.slots ascending;
+      lent = λ name loan found.
+          told_found name s.slots
+          ∙ ap (option_map stored_of) (loan_slot (find_volume name s.slots) loan
+          (sym (loans_found name s.slots ascending) ∙ found));
+      counted = λ name.
+          subst (λ (o : Option Loan). IfSome o (λ loan. loan.faults ≤ s.calls.faults))
+          (sym (loans_found name s.slots ascending))
+          (counted_case s.sound s.calls.faults (find_volume name s.slots) (each name));
+      home = λ name.
+          subst (λ (o : Option StoredVolume). IfSome o
+          (λ v. IsSome v.contents ⊎ IsSome (find_volume name (filter_map named_loan s.slots))))
+          (sym (told_found name s.slots))
+          (subst (λ (o : Option Loan). IfSome (option_map stored_of (find_volume name s.slots))
+          (λ v. IsSome v.contents ⊎ IsSome o)) (sym (loans_found name s.slots ascending))
+          (home_case (find_volume name s.slots)));
+      sized = λ name.
+          subst (λ (o : Option StoredVolume). IfSome o (λ v. IfSome v.contents (IsSized v.capacity)))
+          (sym (told_found name s.slots))
+          (sized_case s.sound s.calls.faults (find_volume name s.slots) (each name));
+    }
+
+pub orderly_now : (s now : MemVolumesState) (es : List (VolumeName × Slot)) → s ≡ now
+    → s.slots ≡ slots_of es → AreAscending es → AreKept s.sound s.calls.faults es
+    → IsOrderly (store_state now)
+orderly_now s now es same is ordered kept =
+    subst (λ (t : MemVolumesState). IsOrderly (store_state t)) same (orderly s es is ordered kept)

@@ -1,5 +1,5 @@
 -- A store in memory: its volumes by name, the junk byte of new ones, and the calls that are to fail.
-use Rattle.std.specs.Prelude.{◌≡◌, ℕ, ◌/◌, ◌%◌, ◌-◌, ◌≤◌, Bool, ◌&&◌, true, not, ◌==◌, List, [], ◌∷◌, length, map, Option, Some, None, option_map, nat_lt, All, IsTrue}
+use Rattle.std.specs.Prelude.{◌≡◌, ℕ, ◌/◌, ◌%◌, ◌-◌, ◌≤◌, Bool, ◌&&◌, true, false, ◌==◌, List, [], ◌∷◌, length, map, Option, Some, None, option_map, nat_lt, All, IsTrue}
 use Rattle.std.specs.List.{filter, filter_map}
 use Rattle.std.specs.Map.{values_of}
 use Rattle.basics.specs.Calls.{CallLog, no_calls, never_fails, after_call}
@@ -32,7 +32,7 @@ pub record MemVolumesState : Type 0 where
   pub calls : CallLog
   -- how many volumes were created, a count that ends at 2^64 - 1
   pub created : ℕ
-  -- no volume that is at home, and no call of the store's own, is to fail
+  -- it was told of no failing call, and neither was any volume that it took back
   pub sound : Bool
   pub slots : List (VolumeName × SlotState)
 
@@ -145,9 +145,9 @@ after_keeping lent v s = record s {
 
 -- whether a refusal is a failure of the store
 abbrev pub is_failure : StoreRefused → Bool
-is_failure Exists = not true
+is_failure Exists = false
 is_failure Failed = true
-is_failure NoMemory = not true
+is_failure NoMemory = false
 
 -- of a slot, where its store has this soundness and count of faults: its own count is in the store's,
 -- and it doesn't fail where the store is sound

@@ -1,6 +1,6 @@
 -- What a volume is to whoever fills it, and what each call leaves of that. What a volume holds is
 -- told by some volumes only, but how many sectors were written to it by each.
-use Rattle.std.specs.Prelude.{◌≡◌, ℕ, ◌≤◌, List, length, Bool, Option, option_map, IfSome, IsSomeAnd}
+use Rattle.std.specs.Prelude.{◌≡◌, ℕ, ◌≤◌, List, length, Bool, Option, Some, None, option_map}
 use Rattle.basics.specs.Faults.{counted_by, Rose}
 use Rattle.sector_model.specs.VolumeContents.{VolumeContents, IsBrokenAt, volume_written, volume_zeroed, volume_flushed}
 use Rattle.sector_model.specs.declared.sector.Sector.{Sector}
@@ -43,6 +43,13 @@ pub record Fails (old new : VolumeState) : Type 0 where
   pub later : old.faults ≤ new.faults
   pub rose : Rose old.faults new.faults
 
+-- what a broken range leaves of what is told: a volume that tells it goes on to tell it
+abbrev pub BreaksTold : (first count : ℕ) (old new : Option VolumeContents) → Type 0
+BreaksTold first count None None = Unit {0}
+BreaksTold first count None (Some new) = ⊥
+BreaksTold first count (Some old) None = ⊥
+BreaksTold first count (Some old) (Some new) = IsBrokenAt first count old new
+
 -- a failed write or zeroing of `count` sectors leaves anything in its range, which is loose, and has
 -- written at most those; all else is as before, and the count of faults rose
 pub record Breaks (first count : ℕ) (old new : VolumeState) : Type 0 where
@@ -51,7 +58,7 @@ pub record Breaks (first count : ℕ) (old new : VolumeState) : Type 0 where
     written = new.written;
     faults = new.faults;
   }
-  pub contents : IfSome old.contents (λ c. IsSomeAnd new.contents (IsBrokenAt first count c))
+  pub contents : BreaksTold first count old.contents new.contents
   pub no_less : old.written ≤ new.written
   pub no_more : new.written ≤ counted_by count old.written
   pub later : old.faults ≤ new.faults

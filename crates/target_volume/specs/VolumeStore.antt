@@ -1,7 +1,7 @@
 -- What a store of volumes is to whoever has volumes made and lent out, and what each call leaves of
 -- that. It lends a volume out and takes it back, and what it holds of one is told only while that is
 -- at home: so a store and its loans together tell of each volume once.
-use Rattle.std.specs.Prelude.{◌≡◌, ℕ, ◌-◌, ◌≤◌, Bool, true, ◌&&◌, Option, Some, None, option_map, IsTrue, IfSome, IsSome, IsSomeAnd, List}
+use Rattle.std.specs.Prelude.{◌≡◌, ℕ, ◌-◌, ◌≤◌, ◌⊎◌, Bool, true, ◌&&◌, Option, Some, None, option_map, IsTrue, IfSome, IsSome, IsSomeAnd, List}
 use Rattle.basics.specs.Faults.{counted_by, Rose}
 use Rattle.sector_model.specs.VolumeContents.{VolumeContents, IsSized}
 use Rattle.target_volume.specs.Volume.{VolumeState}
@@ -30,7 +30,7 @@ pub record StoreState : Type 0 where
   -- how often it and the volumes that it took back have failed; it ends at 2^64 - 1
   pub faults : ℕ
   -- it tells what it has, and no call of it or of its volumes fails, but for opening one that is
-  -- missing or of another capacity
+  -- missing, lent out or of another capacity
   pub sound : Bool
 
 -- a volume that is lent out, as its store has it
@@ -101,7 +101,17 @@ after_taking_back name lent v s = record {
   sound = s.sound && v.sound;
 }
 
--- what a store tells is in order
+-- what a store tells is in order and fits together: what is lent out is told without contents and
+-- counted, each other volume is at home, and what is at home has its capacity
 pub record IsOrderly (s : StoreState) : Type 0 where
   pub volumes : IfSome s.volumes AreAscending
   pub loans : AreAscending s.loans
+  pub lent : (name : VolumeName) (loan : Loan) → find_volume name s.loans ≡ Some loan
+      → IfSome s.volumes (λ volumes. find_volume name volumes ≡ Some (lent_out loan.capacity))
+  pub counted : (name : VolumeName)
+      → IfSome (find_volume name s.loans) (λ loan. loan.faults ≤ s.faults)
+  pub home : (name : VolumeName) → IfSome s.volumes
+      (λ volumes. IfSome (find_volume name volumes)
+      (λ v. IsSome v.contents ⊎ IsSome (find_volume name s.loans)))
+  pub sized : (name : VolumeName) → IfSome s.volumes
+      (λ volumes. IfSome (find_volume name volumes) (λ v. IfSome v.contents (IsSized v.capacity)))

@@ -160,7 +160,9 @@ impl Volume for MemVolume {
           held = record self.old.held { calls = after_call self.old.held.calls false };
         }) }
     {
-        self.held.calls.next()?;
+        if self.held.calls.next().is_err() {
+            return Err(VolumeFailed);
+        }
         self.held.loose.fill(false);
         Ok(())
     }

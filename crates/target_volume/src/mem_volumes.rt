@@ -178,10 +178,12 @@ impl VolumeStore for MemVolumes {
     fn size(&mut self, name: &VolumeName) -> Result<Option<u64>, VolumeFailed>
         ensures found { IfOk result (λ size. IfSome (store_state self.old).volumes
             (λ volumes. size ≡ option_map (λ v. v.capacity) (find_volume name.now volumes))) }
+        ensures found_lent { IfOk result
+            (λ size. IfSome (find_volume name.now (store_state self.old).loans)
+            (λ loan. size ≡ Some loan.capacity)) }
         ensures same { OnOk result (store_state self.new ≡ store_state self.old) }
         ensures failed { OnErr result
             (StoreFails (store_state self.old) (store_state self.new)) }
-        ensures orderly { IsOrderly (store_state self.new) }
         ensures sound { IsTrue (store_state self.old).sound → IsOk result }
 
         ensures fails { IsErr result ↔ FailsNext self.old.calls }
@@ -202,6 +204,8 @@ impl VolumeStore for MemVolumes {
         ensures taken { IfSome (store_state self.old).volumes
             (λ volumes. IsSome (find_volume name.now volumes)
             → IsErrOf result StoreRefused.Exists ⊎ IsErrOf result StoreRefused.Failed) }
+        ensures taken_lent { IsSome (find_volume name.now (store_state self.old).loans)
+            → IsErrOf result StoreRefused.Exists ⊎ IsErrOf result StoreRefused.Failed }
         ensures lent { IfOk result (λ vol. Lends name.now capacity (volume_state vol)
             (store_state self.old) (store_state self.new)) }
         ensures fresh { IfOk result (λ vol. IsFresh (volume_state vol) (store_state self.old)) }
@@ -233,6 +237,11 @@ impl VolumeStore for MemVolumes {
         ensures refused { IfErr result
             (λ why. Refuses why (store_state self.old) (store_state self.new)) }
         ensures not_exists { IsErrOf result StoreRefused.Exists → ⊥ }
+        ensures missing { IfSome (store_state self.old).volumes
+            (λ volumes. (IsThere name.now capacity volumes → ⊥)
+            → IsErrOf result StoreRefused.Failed) }
+        ensures away { IsSome (find_volume name.now (store_state self.old).loans)
+            → IsErrOf result StoreRefused.Failed }
         ensures sound { IsTrue (store_state self.old).sound
             → IfSome (store_state self.old).volumes (λ volumes. IsThere name.now capacity volumes
             → IsErrOf result StoreRefused.Failed → ⊥) }

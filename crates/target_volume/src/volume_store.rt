@@ -19,9 +19,11 @@ pub trait VolumeStore {
     fn size(&mut self, name: &VolumeName) -> Result<Option<u64>, VolumeFailed>
         ensures found { IfOk result (λ size. IfSome (state self.old).volumes
             (λ volumes. size ≡ option_map (λ v. v.capacity) (find_volume name.now volumes))) }
+        ensures found_lent { IfOk result
+            (λ size. IfSome (find_volume name.now (state self.old).loans)
+            (λ loan. size ≡ Some loan.capacity)) }
         ensures same { OnOk result (state self.new ≡ state self.old) }
         ensures failed { OnErr result (StoreFails (state self.old) (state self.new)) }
-        ensures orderly { IsOrderly (state self.new) }
         ensures sound { IsTrue (state self.old).sound → IsOk result };
 
     /// Makes a volume and lends it out. What it holds is open. [`StoreRefused::Exists`] comes only
@@ -33,6 +35,8 @@ pub trait VolumeStore {
         ensures taken { IfSome (state self.old).volumes
             (λ volumes. IsSome (find_volume name.now volumes)
             → IsErrOf result StoreRefused.Exists ⊎ IsErrOf result StoreRefused.Failed) }
+        ensures taken_lent { IsSome (find_volume name.now (state self.old).loans)
+            → IsErrOf result StoreRefused.Exists ⊎ IsErrOf result StoreRefused.Failed }
         ensures lent { IfOk result (λ vol. Lends name.now capacity (Self.Vol.state vol)
             (state self.old) (state self.new)) }
         ensures fresh { IfOk result (λ vol. IsFresh (Self.Vol.state vol) (state self.old)) }
@@ -50,6 +54,11 @@ pub trait VolumeStore {
             × IsSome (Self.Vol.state vol).contents)) }
         ensures refused { IfErr result (λ why. Refuses why (state self.old) (state self.new)) }
         ensures not_exists { IsErrOf result StoreRefused.Exists → ⊥ }
+        ensures missing { IfSome (state self.old).volumes
+            (λ volumes. (IsThere name.now capacity volumes → ⊥)
+            → IsErrOf result StoreRefused.Failed) }
+        ensures away { IsSome (find_volume name.now (state self.old).loans)
+            → IsErrOf result StoreRefused.Failed }
         ensures sound { IsTrue (state self.old).sound → IfSome (state self.old).volumes
             (λ volumes. IsThere name.now capacity volumes
             → IsErrOf result StoreRefused.Failed → ⊥) };
@@ -66,7 +75,8 @@ pub trait VolumeStore {
 
     /// How often it has failed, with the volumes that it took back; a count that ends at 2^64 - 1.
     fn faults(&self) -> u64
-        ensures { result ≡ (state self.now).faults };
+        ensures count { result ≡ (state self.now).faults }
+        ensures orderly { IsOrderly (state self.now) };
 
     /// A sound store tells what it has.
     ghost sound_tells: { (s : Self) → IsTrue (state s).sound → IsSome (state s).volumes };

@@ -2,11 +2,12 @@ use Rattle.std.proofs.Common.{◌≡◌, ◌≤◌, Some, option_map, Result, Ok
 use Rattle.std.proofs.lemmas.Bool.{false≢true}
 use Rattle.std.specs.BTreeMap.{is_at}
 use Rattle.std.specs.Map.{lookup}
-use Rattle.std.specs.Prelude.{IsErrAnd}
+use Rattle.std.specs.List.{filter_map}
+use Rattle.std.specs.Prelude.{IsSome, IsErrAnd}
 use Rattle.basics.specs.Calls.{CallLog, FailsNext}
-use Rattle.target_volume.proofs.SlotLemmas.{whole_called, whole_put, kept_found, told_of, told_found, slots_of, slots_put, slots_found, slots_ordered, not_there, away_at, home_at, lends_opened, opened_state}
+use Rattle.target_volume.proofs.SlotLemmas.{whole_called, whole_put, kept_found, told_of, told_found, slots_of, slots_put, slots_found, slots_ordered, not_there, away_at, home_at, home_not_lent, there_at, lends_opened, opened_state}
 use Rattle.target_volume.specs.MemVolume.{MemVolumeState, held_state}
-use Rattle.target_volume.specs.MemVolumes.{MemVolumesState, Home, Lent, slot_state, stored_of, IsHome, IsHomeWith, IsKept}
+use Rattle.target_volume.specs.MemVolumes.{MemVolumesState, Home, Lent, slot_state, stored_of, named_loan, IsHome, IsHomeWith, IsKept}
 use Rattle.target_volume.specs.VolumeName.{volume_cmp, find_volume, with_volume}
 use Rattle.target_volume.specs.VolumeStore.{IsThere}
 use Rattle.target_volume.specs.declared.mem_volumes.Slot.TheVariants.{Home as SlotHome, Lent as SlotLent}
@@ -117,26 +118,28 @@ returns-in_default-clause-fails c = (
 )
 
 pub returns-in_err-volume_name-clause-fails : goal.returns-in_err-volume_name-clause-fails
-returns-in_err-volume_name-clause-fails c =
-    (λ failed. absurd (no_memory c.from_residual-in_err-volume_name.result
-        c.from_residual-in_err-volume_name.ensures.1 failed),
-      ⊎_elim
+returns-in_err-volume_name-clause-fails c = (
+  λ failed. absurd (no_memory c.from_residual-in_err-volume_name.result
+      c.from_residual-in_err-volume_name.ensures.1 failed),
+  ⊎_elim
       (λ away. absurd (away (subst (λ (s : MemVolumesState).
-          IsHome c.args.capacity (find_volume c.args.name.now s.slots)) c.self.view_is
-        (home_at c.args.name.now c.args.capacity c.in-Some.faults c.self.inside.slots.entries c.in-Some.ensures))))
+      IsHome c.args.capacity (find_volume c.args.name.now s.slots)) c.self.view_is
+      (home_at c.args.name.now c.args.capacity c.in-Some.faults c.self.inside.slots.entries c.in-Some.ensures))))
       (λ fails. absurd (false≢true (c.in_ok-next.ensures.fails.1
-        (subst (λ (s : MemVolumesState). FailsNext s.calls) (sym c.self.view_is) fails)))))
+      (subst (λ (s : MemVolumesState). FailsNext s.calls) (sym c.self.view_is) fails)))),
+)
 
 pub returns-in_err-copy-clause-fails : goal.returns-in_err-copy-clause-fails
-returns-in_err-copy-clause-fails c =
-    (λ failed. absurd (no_memory c.from_residual-in_err-copy.result
-        c.from_residual-in_err-copy.ensures.1 failed),
-      ⊎_elim
+returns-in_err-copy-clause-fails c = (
+  λ failed. absurd (no_memory c.from_residual-in_err-copy.result
+      c.from_residual-in_err-copy.ensures.1 failed),
+  ⊎_elim
       (λ away. absurd (away (subst (λ (s : MemVolumesState).
-          IsHome c.args.capacity (find_volume c.args.name.now s.slots)) c.self.view_is
-        (home_at c.args.name.now c.args.capacity c.in-Some.faults c.self.inside.slots.entries c.in-Some.ensures))))
+      IsHome c.args.capacity (find_volume c.args.name.now s.slots)) c.self.view_is
+      (home_at c.args.name.now c.args.capacity c.in-Some.faults c.self.inside.slots.entries c.in-Some.ensures))))
       (λ fails. absurd (false≢true (c.in_ok-next.ensures.fails.1
-        (subst (λ (s : MemVolumesState). FailsNext s.calls) (sym c.self.view_is) fails)))))
+      (subst (λ (s : MemVolumesState). FailsNext s.calls) (sym c.self.view_is) fails)))),
+)
 
 pub returns-clause-fails : goal.returns-clause-fails
 returns-clause-fails c = (
@@ -148,3 +151,45 @@ returns-clause-fails c = (
       (λ fails. absurd (false≢true (c.in_ok-next.ensures.fails.1
       (subst (λ (s : MemVolumesState). FailsNext s.calls) (sym c.self.view_is) fails)))),
 )
+
+pub returns-in_err-volume_name-clause-missing : goal.returns-in_err-volume_name-clause-missing
+returns-in_err-volume_name-clause-missing c = λ none.
+    absurd (none (subst (λ (s : MemVolumesState).
+    IsThere c.args.name.now c.args.capacity (told_of s.slots)) c.self.view_is
+    (there_at c.args.name.now c.args.capacity c.in-Some.faults c.self.inside.slots.entries
+    c.in-Some.ensures)))
+
+pub returns-in_err-volume_name-clause-away : goal.returns-in_err-volume_name-clause-away
+returns-in_err-volume_name-clause-away c = λ some.
+    absurd (home_not_lent c.args.name.now c.args.capacity c.in-Some.faults
+    c.self.inside.slots.entries c.self.invariant.ordered c.in-Some.ensures
+    (subst (λ (s : MemVolumesState). IsSome (find_volume c.args.name.now
+    (filter_map named_loan s.slots))) (sym c.self.view_is) some))
+
+pub returns-in_err-copy-clause-missing : goal.returns-in_err-copy-clause-missing
+returns-in_err-copy-clause-missing c = λ none.
+    absurd (none (subst (λ (s : MemVolumesState).
+    IsThere c.args.name.now c.args.capacity (told_of s.slots)) c.self.view_is
+    (there_at c.args.name.now c.args.capacity c.in-Some.faults c.self.inside.slots.entries
+    c.in-Some.ensures)))
+
+pub returns-in_err-copy-clause-away : goal.returns-in_err-copy-clause-away
+returns-in_err-copy-clause-away c = λ some.
+    absurd (home_not_lent c.args.name.now c.args.capacity c.in-Some.faults
+    c.self.inside.slots.entries c.self.invariant.ordered c.in-Some.ensures
+    (subst (λ (s : MemVolumesState). IsSome (find_volume c.args.name.now
+    (filter_map named_loan s.slots))) (sym c.self.view_is) some))
+
+pub returns-clause-missing : goal.returns-clause-missing
+returns-clause-missing c = λ none.
+    absurd (none (subst (λ (s : MemVolumesState).
+    IsThere c.args.name.now c.args.capacity (told_of s.slots)) c.self.view_is
+    (there_at c.args.name.now c.args.capacity c.in-Some.faults c.self.inside.slots.entries
+    c.in-Some.ensures)))
+
+pub returns-clause-away : goal.returns-clause-away
+returns-clause-away c = λ some.
+    absurd (home_not_lent c.args.name.now c.args.capacity c.in-Some.faults
+    c.self.inside.slots.entries c.self.invariant.ordered c.in-Some.ensures
+    (subst (λ (s : MemVolumesState). IsSome (find_volume c.args.name.now
+    (filter_map named_loan s.slots))) (sym c.self.view_is) some))
