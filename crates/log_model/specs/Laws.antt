@@ -42,7 +42,7 @@ LegalForEachDisk = (capacities : List ℕ) (disk capacity : ℕ) (log : List Ent
     → HasDisk (all_of capacities) disk capacity
     → Legal (all_of capacities) log → Legal (only disk capacity) log
 
--- whose last entry might stand there, and had room
+-- the last entry of a legal log might stand after those before it, and there was room for it
 abbrev pub LegalGrew : Type 0
 LegalGrew = (disks : Disks) (log : List Entry) (e : Entry) → Legal disks (log ++ e ∷ [])
     → MayStand disks log e × (length log < MAX_LOG_ENTRIES)
@@ -96,8 +96,7 @@ abbrev pub NumbersDiffer : Type 0
 NumbersDiffer = (d n i k : ℕ) (log : List Entry) → 1 ≤ n
     → GivesNumber d n log i → GivesNumber d n log k → i ≡ k
 
--- so the place that a query since the n-th snapshot of the epoch starts from is that snapshot's
--- mark
+-- so the place that is found for a number is that of the Snap entry that gave it
 abbrev pub NumberedPlaceGives : Type 0
 NumberedPlaceGives = (d n : ℕ) (log : List Entry) → 1 ≤ n → n ≤ number d log
     → GivesNumber d n log (numbered_place d n log)
