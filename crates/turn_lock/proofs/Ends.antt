@@ -1,23 +1,22 @@
 -- The rule holds where a turn begins, and what it says where it ends.
-use Rattle.std.proofs.Common.{◌≡◌, ◌≢◌, ◌⊎◌, ℕ, zero, suc, ◌+◌, ◌%◌, ◌^◌, ◌<◌, ◌≤◌, eqb, List, [], ◌∷◌, length, drop, get_or, All, Bool, true, false, cond, refl, sym, ap, ◌∙◌, subst, arith, inl, inr, ⊎_elim, count_by, Option, Some, None, is_some, eq-eqb, ne_eqb, lit≤}
+use Rattle.std.proofs.Common.{◌≡◌, ◌≢◌, ◌⊎◌, ℕ, zero, suc, ◌+◌, ◌<◌, ◌≤◌, eqb, List, [], ◌∷◌, length, get_or, All, Bool, true, false, cond, refl, sym, ap, ◌∙◌, subst, arith, inl, inr, ⊎_elim, count_by, Option, Some, None, is_some, eq-eqb, ne_eqb, lit≤}
 use Rattle.std.specs.List.{filter}
 use lib.Seq.{drop-length}
-use mathlib.Core.Option.{some, none, some-injective, some-ne-none}
-use mathlib.Core.Option as maybe
+use mathlib.Core.Option.{some, some-injective, some-ne-none}
 use mathlib.Core.Logic.{dite}
 use native.Mathlib.Decide.{ℕ_discrete}
 use lib.ListN.{get_elem?}
-use Rattle.atomic_table.specs.Table.{State, opening, Final, Seen}
+use Rattle.atomic_table.specs.Table.{opening, Final, Seen}
 use Rattle.turn_lock.specs.declared.view.Beginning.{Beginning}
 use Rattle.turn_lock.specs.declared.view.Chief.{Chief}
 use Rattle.turn_lock.specs.declared.view.EndedPass.{EndedPass}
 use Rattle.turn_lock.specs.declared.view.View.{View}
 use Rattle.turn_lock.specs.Story.{GoesOn, added_by, is_by}
 use Rattle.turn_lock.specs.View.{is_among, left_by, is_live, waits, spent}
-use Rattle.turn_lock.specs.Rule.{Whereabouts, seated, ended, due, free, beginning_of, first_view, Fits, Leads, Kept}
+use Rattle.turn_lock.specs.Rule.{Whereabouts, seated, ended, due, free, beginning_of, first_view, Fits, Leads}
 use Rattle.turn_lock.proofs.Stories.{goes_self}
 use Rattle.turn_lock.proofs.Seats.{put, put_here, put_else, one_place, two_of_them}
-use Rattle.turn_lock.proofs.Steps.{seat_number, kind, St, K, first_is}
+use Rattle.turn_lock.proofs.Steps.{seat_number, kind, K}
 use Rattle.turn_lock.proofs.Numbers.{own_chief}
 use Rattle.turn_lock.proofs.Joins.{left_none, not_true}
 

@@ -1,23 +1,22 @@
 -- The steps by which pass 0 ends another keep the rule: it joins, and compares what both had seen.
-use Rattle.std.proofs.Common.{◌≡◌, ◌≢◌, ◌⊎◌, ℕ, zero, suc, ◌+◌, ◌-◌, ◌%◌, ◌^◌, ◌<◌, ◌≤◌, eqb, nat_lt, List, [], ◌∷◌, ◌++◌, length, take, drop, set, slice_index, slice_set, Bool, true, false, cond, ◌&&◌, ◌||◌, not, refl, sym, ap, ap₂, ◌∙◌, subst, arith, inl, inr, ⊎_elim, count_by, Option, Some, None, is_some, unwrap_or, eq-eqb, ne_eqb, eqb-true}
+use Rattle.std.proofs.Common.{◌≡◌, ◌≢◌, ℕ, ◌+◌, ◌-◌, ◌%◌, ◌^◌, ◌<◌, ◌≤◌, eqb, nat_lt, List, [], ◌∷◌, ◌++◌, length, set, Bool, true, false, cond, ◌&&◌, ◌||◌, not, refl, sym, ap, ap₂, ◌∙◌, subst, arith, inl, inr, ⊎_elim, count_by, Some, None, is_some, unwrap_or, eq-eqb, ne_eqb}
 use mathlib.Core.Option.{some, none}
-use mathlib.Core.Option as maybe
 use mathlib.Core.Logic.{dite}
 use native.Mathlib.Decide.{ℕ_discrete}
 use lib.ListN.{get_elem?}
-use Rattle.atomic_table.specs.Table.{State, Me, Step, step, Act, keeps, Allows, Joins}
-use Rattle.atomic_table.proofs.Lists.{at_set, set_here, set_else}
+use Rattle.atomic_table.specs.Table.{step, keeps, Allows, Joins}
+use Rattle.atomic_table.proofs.Lists.{at_set, set_else}
 use Rattle.turn_lock.specs.declared.view.Beginning.{Beginning}
 use Rattle.turn_lock.specs.declared.view.Chief.{Chief}
 use Rattle.turn_lock.specs.declared.view.JoinCheck.{JoinCheck}
 use Rattle.turn_lock.specs.declared.view.EndedPass.{EndedPass}
 use Rattle.turn_lock.specs.declared.view.View.{View}
-use Rattle.turn_lock.specs.Story.{GoesOn, longer, is_by, added_by}
+use Rattle.turn_lock.specs.Story.{GoesOn, longer, added_by}
 use Rattle.turn_lock.specs.View.{is_among, left_by, united_seen, is_live, waits, start_of, spent, united, checked, Compares}
-use Rattle.turn_lock.specs.Rule.{Whereabouts, seated, ended, due, free, how_many, are_different, Fits, Leads, InSlot, Kept}
+use Rattle.turn_lock.specs.Rule.{Whereabouts, seated, ended, how_many, are_different, Fits, Leads}
 use Rattle.turn_lock.proofs.Stories.{goes_short, goes_self, known_between, longer_first, longer_other, longer_both}
-use Rattle.turn_lock.proofs.Seats.{put, put_here, put_else, bit, at_within, one_place, count_set, count_same, two_of_them}
-use Rattle.turn_lock.proofs.Steps.{seat_number, kind, heads_lead, taken_set, each_set, not_empty, St, M, K, first_is, slot_set, fits_place, Goes, leads_set}
+use Rattle.turn_lock.proofs.Seats.{put, put_here, put_else, bit, one_place, count_set, count_same, two_of_them}
+use Rattle.turn_lock.proofs.Steps.{seat_number, kind, heads_lead, taken_set, each_set, not_empty, M, K, first_is, slot_set, fits_place, Goes}
 use Rattle.turn_lock.proofs.Numbers.{own_chief}
 
 pub not_true : (b : Bool) → (b ≡ true → ⊥) → b ≡ false

@@ -1,23 +1,22 @@
 -- The steps by which pass 0 makes another keep the rule: it draws a number, and splits.
-use Rattle.std.proofs.Common.{◌≡◌, ◌≢◌, ◌⊎◌, ℕ, zero, suc, ◌+◌, ◌-◌, ◌%◌, ◌^◌, ◌<◌, ◌≤◌, eqb, List, [], ◌∷◌, ◌++◌, length, take, drop, set, slice_index, slice_set, Bool, true, false, cond, ◌&&◌, refl, sym, ap, ap₂, ◌∙◌, subst, arith, inl, inr, ⊎_elim, count_by, Option, Some, None, is_some, unwrap_or, length-set, length-append}
-use Rattle.std.specs.List.{filter}
+use Rattle.std.proofs.Common.{◌≡◌, ◌≢◌, ℕ, ◌+◌, ◌%◌, ◌^◌, ◌<◌, ◌≤◌, List, [], ◌∷◌, ◌++◌, length, set, true, false, ◌&&◌, refl, sym, ap, ap₂, ◌∙◌, subst, arith, inl, inr, ⊎_elim, count_by, Option, Some, None, is_some, unwrap_or, length-append}
 use Rattle.std.proofs.Math.Nat.{mod-eq_of_lt}
 use mathlib.Core.Option.{some, none}
 use mathlib.Core.Option as maybe
 use mathlib.Core.Logic.{dite}
 use native.Mathlib.Decide.{ℕ_discrete}
 use lib.ListN.{get_elem?}
-use Rattle.atomic_table.specs.Table.{State, Me, Step, step, Act, keeps, Allows, Splits}
-use Rattle.atomic_table.proofs.Lists.{at_set, set_here, set_else, at_longer, at_last}
+use Rattle.atomic_table.specs.Table.{step, keeps, Allows, Splits}
+use Rattle.atomic_table.proofs.Lists.{at_longer, at_last}
 use Rattle.turn_lock.specs.declared.view.Beginning.{Beginning}
 use Rattle.turn_lock.specs.declared.view.Chief.{Chief}
 use Rattle.turn_lock.specs.declared.view.View.{View}
-use Rattle.turn_lock.specs.Story.{GoesOn, is_by, added_by}
-use Rattle.turn_lock.specs.View.{is_among, left_by, is_live, waits, start_of, drawn, parted, split_view, DrawsNumber}
-use Rattle.turn_lock.specs.Rule.{Whereabouts, seated, ended, due, free, how_many, Fits, Leads, InSlot, Kept}
+use Rattle.turn_lock.specs.Story.{added_by}
+use Rattle.turn_lock.specs.View.{is_live, waits, start_of, drawn, parted, split_view, DrawsNumber}
+use Rattle.turn_lock.specs.Rule.{Whereabouts, seated, due, free, how_many, Fits, Leads, InSlot}
 use Rattle.turn_lock.proofs.Stories.{nothing_before}
-use Rattle.turn_lock.proofs.Seats.{put, put_here, put_else, bit, at_within, at_added, count_set, count_same, count_added}
-use Rattle.turn_lock.proofs.Steps.{seat_number, kind, heads_lead, taken_set, each_set, not_empty, St, M, K, first_is, slot_set, fits_place, Goes, leads_set}
+use Rattle.turn_lock.proofs.Seats.{put, put_here, put_else, bit, at_added, count_same, count_added}
+use Rattle.turn_lock.proofs.Steps.{seat_number, kind, heads_lead, taken_set, each_set, not_empty, St, M, K, first_is, slot_set, fits_place, Goes}
 
 module _ {X F E : Type 0} (frame : X → F) (story_of : X → List E) (who : E → ℕ) where
   -- the chief of the rule is that of the seat with the number 0

@@ -1,6 +1,5 @@
 -- A pass of a turn: its seat is at the turn's table, and its view has the turn's beginning.
-use Rattle.std.proofs.Common.{◌≡◌, ◌≢◌, ℕ, List, [], ◌∷◌, length, get_or, drop, Bool, true, false, refl, sym, ap, ◌∙◌, subst, Option, Some, None, is_some, unwrap_or, ap₂, ◌++◌, ◌+◌, ◌-◌, ◌≤◌}
-use Rattle.std.specs.List.{filter}
+use Rattle.std.proofs.Common.{◌≡◌, ◌≢◌, ℕ, List, [], ◌∷◌, length, get_or, drop, true, false, refl, sym, ap, ◌∙◌, subst, Option, Some, None, is_some, unwrap_or, ap₂, ◌++◌, ◌+◌, ◌-◌, ◌≤◌}
 use mathlib.Core.Option.{some, some-injective}
 use lib.ListN.{get_elem?}
 use Rattle.atomic_table.specs.Seated.{TableId}

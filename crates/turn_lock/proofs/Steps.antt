@@ -1,24 +1,19 @@
 -- Each kind of step keeps the rule, and tells what it says.
-use Rattle.std.proofs.Common.{◌≡◌, ◌≢◌, ◌⊎◌, ◌↔◌, ℕ, zero, suc, ◌+◌, ◌-◌, ◌*◌, ◌/◌, ◌%◌, ◌^◌, ◌<◌, ◌≤◌, eqb, List, [], ◌∷◌, ◌++◌, length, take, drop, set, get_or, slice_index, slice_set, Bool, true, false, cond, ◌&&◌, ◌||◌, refl, sym, ap, ap₂, ◌∙◌, subst, arith, inl, inr, ⊎_elim, count_by, eq-eqb, ne_eqb, eqb-true, mod-lt, Option, Some, None, is_some, lit<}
-use Rattle.std.specs.List.{filter}
+use Rattle.std.proofs.Common.{◌≡◌, ◌≢◌, ℕ, zero, suc, ◌+◌, ◌*◌, ◌/◌, ◌%◌, ◌^◌, ◌<◌, ◌≤◌, List, [], ◌∷◌, length, set, slice_index, slice_set, true, false, ◌&&◌, sym, ap, ◌∙◌, subst, arith, inl, inr, ⊎_elim, count_by, Option, is_some}
 use Rattle.std.proofs.Math.Nat.{mod-add-div, add-mul-mod_self_left}
 use mathlib.Core.Option.{some, none, some-injective, some-ne-none}
 use mathlib.Core.Option as maybe
 use mathlib.Core.Logic.{dite}
 use native.Mathlib.Decide.{ℕ_discrete}
 use lib.ListN.{get_elem?}
-use Rattle.atomic_table.specs.Table.{State, Me, Step, step, keeps, takes, gives, Allows, Splits, Joins, Act, Valid, homes_after, carried_after}
-use Rattle.atomic_table.proofs.Lists.{at_set, set_here, set_else, at_longer, at_last, one_turn}
+use Rattle.atomic_table.specs.Table.{State, Me, Act, Valid, homes_after, carried_after}
+use Rattle.atomic_table.proofs.Lists.{at_set, set_here, set_else}
 use Rattle.turn_lock.specs.declared.view.Beginning.{Beginning}
-use Rattle.turn_lock.specs.declared.view.JoinCheck.{JoinCheck}
-use Rattle.turn_lock.specs.declared.view.EndedPass.{EndedPass}
 use Rattle.turn_lock.specs.declared.view.Chief.{Chief}
 use Rattle.turn_lock.specs.declared.view.View.{View}
-use Rattle.turn_lock.specs.Story.{GoesOn, longer, is_by, added_by, AddsUnder}
 use Rattle.turn_lock.specs.View.{is_live, waits}
-use Rattle.turn_lock.specs.Rule.{Whereabouts, seated, ended, due, free, how_many, beginning_of, first_view, Fits, Leads, InSlot, Kept}
-use Rattle.turn_lock.proofs.Stories.{goes_short, goes_append, goes_self, goes_between, goes_parts, by_append, by_parts, others_add_none, none_new, known_between, nothing_before, longer_first, longer_other, longer_both}
-use Rattle.turn_lock.proofs.Seats.{put, put_here, put_else, bit, at_within, there, at_added, one_place, count_set, count_same, count_added, count_within, two_of_them}
+use Rattle.turn_lock.specs.Rule.{Whereabouts, seated, ended, due, free, Fits, Leads, InSlot, Kept}
+use Rattle.turn_lock.proofs.Seats.{bit, at_within, there, one_place, count_same, count_within}
 
 abbrev pub seat_number : Whereabouts → ℕ
 seat_number (seated i) = i

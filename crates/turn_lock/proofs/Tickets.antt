@@ -1,21 +1,19 @@
 -- The steps of every pass keep the rule: it draws a ticket, looks at the word of the served tickets, and serves the next.
-use Rattle.std.proofs.Common.{◌≡◌, ◌≢◌, ◌⊎◌, ℕ, zero, suc, ◌+◌, ◌%◌, ◌^◌, ◌<◌, ◌≤◌, eqb, List, [], ◌∷◌, ◌++◌, length, take, drop, set, get_or, slice_index, slice_set, Bool, true, false, cond, ◌&&◌, refl, sym, ap, ap₂, ◌∙◌, subst, arith, inl, inr, ⊎_elim, count_by, Option, Some, None, is_some, unwrap_or}
+use Rattle.std.proofs.Common.{◌≡◌, ◌≢◌, ℕ, ◌+◌, ◌%◌, ◌^◌, ◌<◌, ◌≤◌, List, [], ◌∷◌, ◌++◌, length, drop, set, true, false, ◌&&◌, refl, sym, ap, ap₂, ◌∙◌, subst, arith, inl, inr, ⊎_elim, count_by, Option, Some, None, is_some, unwrap_or}
 use Rattle.std.specs.List.{filter}
 use Rattle.std.proofs.lemmas.List.{append-nil}
 use mathlib.Core.Option.{some, none}
-use mathlib.Core.Option as maybe
 use mathlib.Core.Logic.{dite}
 use native.Mathlib.Decide.{ℕ_discrete}
 use lib.ListN.{get_elem?}
-use Rattle.atomic_table.specs.Table.{State, Me, Step, step, Act, keeps, takes, gives, Allows, Valid, homes_after, carried_after, put_back, rest}
-use Rattle.atomic_table.proofs.Lists.{at_set, set_here, set_else, set_again, one_turn}
+use Rattle.atomic_table.specs.Table.{step, keeps, takes, gives, Allows, put_back, rest}
+use Rattle.atomic_table.proofs.Lists.{set_here, set_again, one_turn}
 use Rattle.turn_lock.specs.declared.view.Beginning.{Beginning}
-use Rattle.turn_lock.specs.declared.view.JoinCheck.{JoinCheck}
 use Rattle.turn_lock.specs.declared.view.View.{View}
 use Rattle.turn_lock.specs.Story.{GoesOn, is_by, added_by, AddsUnder}
-use Rattle.turn_lock.specs.View.{is_live, waits, queued, took, gave, DrawsTicket, Holds, LooksAtServed, Serves}
-use Rattle.turn_lock.specs.Rule.{Whereabouts, seated, ended, due, free, Fits, Leads, InSlot, Kept}
-use Rattle.turn_lock.proofs.Stories.{goes_short, goes_self, goes_trans, goes_parts, by_parts, others_add_none}
+use Rattle.turn_lock.specs.View.{is_live, waits, queued, took, gave, DrawsTicket, LooksAtServed, Serves}
+use Rattle.turn_lock.specs.Rule.{Fits}
+use Rattle.turn_lock.proofs.Stories.{goes_short, goes_self, goes_trans, by_parts, others_add_none}
 use Rattle.turn_lock.proofs.Seats.{put, put_here, put_else, bit, at_within, one_place, count_set, count_same}
 use Rattle.turn_lock.proofs.Steps.{seat_number, kind, next_mod, heads_kept, taken_set, each_set, not_empty, St, M, K, slot_set, few_wait, fits_place, Goes, leads_set, spelled}
 

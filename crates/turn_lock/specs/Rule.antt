@@ -1,7 +1,7 @@
 -- What holds of a lock between any two steps: one story, from which every pass has seen a
 -- beginning, and in which each number has the entries of its own pass. Word 0 counts the numbers
 -- drawn, word 1 the tickets drawn and word 2 the tickets served, both modulo 2^64.
-use Rattle.std.specs.Prelude.{◌≡◌, ◌≢◌, ◌⊎◌, ◌↔◌, ℕ, ◌+◌, ◌%◌, ◌^◌, ◌<◌, ◌≤◌, ◌==◌, List, [], ◌∷◌, length, Bool, true, false, ◌||◌, ◌&&◌, not, Option, Some, None, if◌then◌else◌}
+use Rattle.std.specs.Prelude.{◌≡◌, ◌≢◌, ◌⊎◌, ◌↔◌, ℕ, ◌+◌, ◌%◌, ◌^◌, ◌<◌, ◌≤◌, List, [], ◌∷◌, length, Bool, true, false, ◌&&◌, not, Option, Some, None}
 use Rattle.std.specs.List.{count_by}
 use mathlib.Core.Option.{some, none}
 use mathlib.Core.Option as maybe

@@ -1,4 +1,4 @@
-use Rattle.std.proofs.Common.{arith, sym, ap, ◌∙◌, subst}
+use Rattle.std.proofs.Common.{arith, ap, ◌∙◌, subst}
 use Rattle.turn_lock.specs.View.{is_live, Holds}
 use Rattle.turn_lock.proofs.Tickets.{looks}
 use Rattle.turn_lock.proofs.wait.wait_for.Goals as goal

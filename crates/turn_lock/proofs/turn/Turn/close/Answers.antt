@@ -1,9 +1,9 @@
-use Rattle.std.proofs.Common.{arith, sym, ap, ◌∙◌, subst, Some, is_some, ◌≡◌, true, false, Bool, All, drop}
+use Rattle.std.proofs.Common.{sym, ap, ◌∙◌, subst, Some, is_some, ◌≡◌, true, false, All, drop}
 use Rattle.turn_lock.specs.Story.{GoesOn, added_by}
 use Rattle.turn_lock.specs.Pass.{entries_of, IsOneOf}
 use Rattle.turn_lock.specs.Rule.{beginning_of}
 use Rattle.turn_lock.proofs.Passes.{of_name, closed_value}
-use Rattle.turn_lock.proofs.Ends.{Closes, closes, whose}
+use Rattle.turn_lock.proofs.Ends.{closes, whose}
 use mathlib.Core.Option.{some-injective}
 use Rattle.turn_lock.proofs.turn.Turn.close.Goals as goal
 

@@ -1,8 +1,7 @@
-use Rattle.std.proofs.Common.{rules, arith, sym, ap, ap₂, ◌∙◌, subst, Some, None, is_some, ◌≡◌, [], ◌∷◌, true, false, refl, if◌then◌else◌, Bool, List, ℕ}
+use Rattle.std.proofs.Common.{arith, sym, ap, ap₂, ◌∙◌, subst, Some, None, is_some, [], ◌∷◌, false, refl, if◌then◌else◌, Bool}
 use Rattle.atomic_table.specs.Table.{rest}
 use Rattle.turn_lock.specs.Story.{AddsUnder, added_by}
 use Rattle.turn_lock.specs.View.{is_live, gave, start_of}
-use Rattle.turn_lock.specs.Rule.{beginning_of}
 use Rattle.turn_lock.specs.Pass.{IsPass}
 use Rattle.turn_lock.proofs.Passes.{of_turn, known_after}
 use Rattle.turn_lock.proofs.Stories.{goes_short}

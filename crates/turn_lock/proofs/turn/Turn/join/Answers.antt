@@ -1,9 +1,8 @@
-use Rattle.std.proofs.Common.{rules, arith, sym, ap, ap₂, ◌∙◌, subst, Some, None, is_some, ◌≡◌, [], ◌∷◌, true, if◌then◌else◌, Bool, List, ℕ, ◌≤◌, ◌+◌, ◌-◌, ◌≢◌, cond, refl}
+use Rattle.std.proofs.Common.{arith, sym, ap, ap₂, ◌∙◌, subst, None, [], ◌∷◌, if◌then◌else◌, Bool, ◌+◌, ◌-◌, ◌≢◌, cond, refl}
 use Rattle.turn_lock.specs.Story.{GoesOn, longer, added_by}
-use Rattle.turn_lock.specs.Pass.{IsPass, IsPassOf, pass_state, joined_with}
+use Rattle.turn_lock.specs.Pass.{IsPass, pass_state, joined_with}
 use Rattle.turn_lock.specs.View.{is_live, checked, united, start_of, is_among}
 use Rattle.turn_lock.proofs.Stories.{goes_short}
-use Rattle.turn_lock.specs.Rule.{beginning_of}
 use Rattle.turn_lock.proofs.Passes.{of_name, compared}
 use Rattle.turn_lock.proofs.Joins.{joins, compares}
 use Rattle.turn_lock.proofs.turn.Turn.join.Goals as goal

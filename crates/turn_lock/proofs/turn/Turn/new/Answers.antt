@@ -1,4 +1,4 @@
-use Rattle.std.proofs.Common.{rules, sym, ap, ◌∙◌, subst, List, ◌∷◌, [], Some, Option}
+use Rattle.std.proofs.Common.{sym, ap, ◌∙◌, subst, ◌∷◌, [], Some}
 use Rattle.atomic_table.specs.Table.{opening}
 use Rattle.turn_lock.specs.Rule.{Kept, beginning_of, first_view}
 use Rattle.turn_lock.proofs.Ends.{opens}

@@ -1,6 +1,5 @@
-use Rattle.std.proofs.Common.{rules, arith, sym, ap, ◌∙◌, Some, is_some, ◌≡◌, ◌+◌, ◌<◌, ◌^◌, true}
+use Rattle.std.proofs.Common.{arith, sym, ap, ◌∙◌, Some, is_some, ◌≡◌, ◌+◌, ◌<◌, ◌^◌, true}
 use Rattle.turn_lock.specs.View.{is_live}
-use Rattle.turn_lock.specs.Rule.{beginning_of}
 use Rattle.turn_lock.proofs.Passes.{of_turn}
 use Rattle.turn_lock.proofs.Numbers.{draws_number, splits}
 use Rattle.turn_lock.proofs.turn.Turn.split.Goals as goal

@@ -1,4 +1,4 @@
-use Rattle.std.proofs.Common.{rules, arith, sym, ap, ap₂, ◌∙◌, subst, Some, None, is_some, ◌≡◌, [], ◌∷◌, true, drop, length, Bool, List, ℕ, if◌then◌else◌}
+use Rattle.std.proofs.Common.{arith, sym, ap, ◌∙◌, subst, Some, is_some, ◌≡◌, [], ◌∷◌, drop, length}
 use Rattle.std.specs.List.{filter}
 use Rattle.atomic_table.specs.Table.{rest}
 use Rattle.turn_lock.specs.Story.{GoesOn, added_by, is_by}
