@@ -22,9 +22,7 @@ impl<R> StandardInput<R> {
 }
 
 impl<R: Read> Source for StandardInput<R> {
-    ghost left = { λ input. R.remaining input.reader };
-
-    ghost faults = { λ input. input.faults };
+    ghost state = { λ input. record { left = R.remaining input.reader; faults = input.faults } };
 
     /// Reads into the buffer itself, by one call of the reader.
     fn read(&mut self, buf: &mut [u8]) -> Result<usize, Failed> {

@@ -26,8 +26,10 @@ impl<W> StandardOutput<W> {
 /// Gives all of `bytes` to the writer, in as many calls as that takes, and flushes it. A call that
 /// takes none of them fails too.
 fn write_whole<W: Write>(writer: &mut W, bytes: &[u8]) -> Result<(), Failed>
-    ensures whole { OnOk result (Appends (W.contents writer.old) (W.contents writer.new) bytes.now) }
-    ensures part { OnErr result (AppendsPrefix (W.contents writer.old) (W.contents writer.new) bytes.now) }
+    ensures whole { OnOk result
+        (Appends (W.contents writer.old) (W.contents writer.new) bytes.now) }
+    ensures part { OnErr result
+        (AppendsPrefix (W.contents writer.old) (W.contents writer.new) bytes.now) }
 {
     let mut done = 0;
     while done < bytes.len() {
@@ -40,9 +42,7 @@ fn write_whole<W: Write>(writer: &mut W, bytes: &[u8]) -> Result<(), Failed>
 }
 
 impl<W: Write> Sink for StandardOutput<W> {
-    ghost held = { λ output. W.contents output.writer };
-
-    ghost faults = { λ output. output.faults };
+    ghost state = { λ output. record { held = W.contents output.writer; faults = output.faults } };
 
     /// Gives all of `bytes` to the writer, and flushes it.
     fn put(&mut self, bytes: &[u8]) -> Result<(), Failed> {

@@ -2,6 +2,7 @@ ghost use Rattle.std.specs.Prelude.{◌≡◌};
 
 use crate::input::StandardInput;
 use crate::output::StandardOutput;
+use crate::run::run;
 use edge_traits::{Failed, Sink, Source};
 use std::io::{self, Error, ErrorKind, Read, Write};
 use std::test::Fail;
@@ -44,6 +45,21 @@ impl Write for Narrow {
     }
 }
 
+/// A reader of one line without an LF, which has so many bytes, each of them 0.
+#[derive(Drop)]
+struct Zeros {
+    left: u64,
+}
+
+impl Read for Zeros {
+    /// The buffer of the server begins with zeros, and nothing else is ever read into it.
+    fn read(&mut self, buf: &mut [u8]) -> io::Result<usize> {
+        let count = (buf.len() as u64).min(self.left) as usize;
+        self.left = self.left.saturating_sub(count as u64);
+        Ok(count)
+    }
+}
+
 fn first<S: Source>(source: &mut S) -> (Result<usize, Failed>, [u8; 8]) {
     let mut buf = [b'.'; 8];
     (source.read(&mut buf), buf)
@@ -51,6 +67,13 @@ fn first<S: Source>(source: &mut S) -> (Result<usize, Failed>, [u8; 8]) {
 
 fn put_twice<K: Sink>(sink: &mut K) -> (Result<(), Failed>, Result<(), Failed>) {
     (sink.put(b"abcdefgh"), sink.put(b"ijklm"))
+}
+
+/// The exit status of the program without words, for a reader and a writer.
+fn exit_of<R: Read + Drop, W: Write + Drop>(rt: &HostRuntime, reader: R, writer: W) -> u8 {
+    let mut input = StandardInput::new(reader);
+    let mut output = StandardOutput::new(writer);
+    run(rt, rt.alloc(), &[], &mut input, &mut output)
 }
 
 #[test]
@@ -92,4 +115,43 @@ fn a_refusal_of_the_writer_is_a_fault(rt: HostRuntime) {
     let mut output = StandardOutput::new(Broken);
     assert_eq!(rt; put_twice(&mut output), (Err(Failed), Err(Failed)));
     assert_eq!(rt; output.faults(), 2);
+}
+
+#[test]
+fn a_word_is_refused_by_the_usage_line(rt: HostRuntime) -> Result<(), Fail> {
+    let words = vec![in rt.alloc(); String::from_str(rt.alloc(), "--help")?]?;
+    let mut held = Vec::new(rt.alloc());
+    let mut input = StandardInput::new(b"{\"cmd\":\"fly\"}\n".as_slice());
+    let mut output = StandardOutput::new(&mut held);
+    let code = run(&rt, rt.alloc(), &words, &mut input, &mut output);
+    assert_eq!(rt; code, 1);
+    assert_eq!(rt;
+        held.as_slice(),
+        b"usage: warm_migrate [--limit N] [--rig N]\n".as_slice()
+    );
+    Ok(())
+}
+
+#[test]
+fn each_end_has_its_exit_status(rt: HostRuntime) {
+    assert_eq!(rt; exit_of(&rt, b"".as_slice(), Broken), 0);
+    assert_eq!(rt; exit_of(&rt, Broken, Broken), 2);
+    assert_eq!(rt; exit_of(&rt, b"{\"cmd\":\"fly\"}\n".as_slice(), Broken), 4);
+}
+
+#[test]
+fn an_input_may_have_two_to_the_twenty_eighth_bytes(rt: HostRuntime) -> Result<(), Fail> {
+    let mut held = Vec::new(rt.alloc());
+    assert_eq!(rt; exit_of(&rt, Zeros { left: 1 << 28 }, &mut held), 0);
+    assert_eq!(rt;
+        held.as_slice(),
+        b"{\"error\":\"command\",\"ok\":false}\n".as_slice()
+    );
+    Ok(())
+}
+
+#[test]
+fn one_byte_more_ends_the_program(rt: HostRuntime) {
+    let left = (1 << 28) + 1;
+    assert_eq!(rt; exit_of(&rt, Zeros { left }, Broken), 6);
 }

@@ -1,9 +1,9 @@
 pub mod Parsing
 pub mod Pieces
-pub mod Copying
 pub mod Lists
-pub mod Sources
+pub mod DiskLemmas
 pub mod PartLines
-pub mod Filling
+pub mod Copying
+pub mod NewVolumes
 pub mod Complete
 pub mod Serving

@@ -9,14 +9,8 @@ use Rattle.sector_model.specs.Disk.{replaced}
 pub replaced_below : {X : Type 0} (xs ys : List X) (at k : ℕ) (d : X) → k < at → at ≤ length xs → get_or (replaced xs at ys) k d ≡ get_or xs k d
 replaced_below xs ys at k d below within = search (places, arith)
 
-pub replaced_within : {X : Type 0} (xs ys : List X) (at k : ℕ) (d : X) → at ≤ k → k < at + length ys → at ≤ length xs → get_or (replaced xs at ys) k d ≡ get_or ys (k - at) d
-replaced_within xs ys at k d from below within = search (places, arith)
-
 pub replaced_behind : {X : Type 0} (xs ys : List X) (at k : ℕ) (d : X) → at + length ys ≤ k → at + length ys ≤ length xs → get_or (replaced xs at ys) k d ≡ get_or xs k d
 replaced_behind xs ys at k d from within = search (places, arith)
-
-pub length-replaced : {X : Type 0} (xs ys : List X) (at : ℕ) → at + length ys ≤ length xs → length (replaced xs at ys) ≡ length xs
-length-replaced xs ys at within = search (places, arith)
 
 pub filter-range_more : (p : ℕ → Bool) (n : ℕ) → filter p (range_with_len 0 (n + 1)) ≡ filter p (range_with_len 0 n) ++ cond (p n) (n ∷ []) []
 filter-range_more p n =

@@ -5,7 +5,7 @@ use Rattle.serde_json.specs.Data.{Data, null, boolean, number, string, array, ob
 use Rattle.serde_json.specs.Find.{as_object}
 use Rattle.serde_json.specs.View.{items_view, members_view}
 use Rattle.serde_json.specs.declared.value.Value.{Value}
-use Rattle.migrate_server.specs.Commands.{write_of_items, members_among, has_only}
+use Rattle.migrate_server.specs.Parse.{write_of_items, members_among, has_only}
 
 pub fewer_than_three : (vs : List Value) → length vs < 3 → None ≡ write_of_items (items_view vs)
 fewer_than_three [] h = refl

@@ -3,9 +3,9 @@ use Rattle.std.proofs.Common.{◌≡◌, ℕ, ◌+◌, ◌-◌, ◌<◌, ◌≤�
 use Rattle.std.specs.List.{AllByRecursion, All}
 use Rattle.std.proofs.lemmas.Bool.{ltb-true, ltb-false, lt-ltb, le-ltb, cases_lt}
 use Rattle.std.proofs.lemmas.List.Elements.{recursion_from_All}
-use Rattle.sector_model.specs.Areas.{end_of, from_place, next_run, AreSpacedFrom, AreSpaced}
-use Rattle.sector_model.specs.declared.extents.Run.{Run}
-use Rattle.migrate_server.specs.Copies.{IsNext, NoneFrom}
+use Rattle.sector_model.specs.Run.{end_of, from_sector, next_run, AreSpacedFrom, AreSpaced}
+use Rattle.sector_model.specs.declared.run.Run.{Run}
+use Rattle.migrate_server.specs.Copy.{IsNext, NoneFrom}
 use Rattle.sector_model.proofs.Spacing.{none_in_gap, in_first, past_first}
 
 here : (b : Bool) (m at c : ℕ) (q : Run) (rs : List Run) → ltb q.first at ≡ b → AreSpacedFrom m (q ∷ rs) → end_of q ≤ c → at < end_of q
@@ -29,7 +29,7 @@ here false m at c q rs e spaced inside past =
       gap = λ s l h. none_in_gap m q rs s spaced h;
     }
 
-at_first : (at : ℕ) (q : Run) (rs : List Run) → at < end_of q → next_run at (q ∷ rs) ≡ Some (from_place at q)
+at_first : (at : ℕ) (q : Run) (rs : List Run) → at < end_of q → next_run at (q ∷ rs) ≡ Some (from_sector at q)
 at_first at q rs past = rw (lt-ltb at (end_of q) past) refl
 
 at_later : (at : ℕ) (q : Run) (rs : List Run) → end_of q ≤ at → next_run at (q ∷ rs) ≡ next_run at rs
@@ -46,7 +46,7 @@ next_some m at c [] r spaced inside found = cc
 next_some m at c (q ∷ rs) r spaced inside found =
     elim (cases_lt at (end_of q)) [
       | inl past ↦
-          let same = same_some (from_place at q) r (sym (at_first at q rs past) ∙ found) in
+          let same = same_some (from_sector at q) r (sym (at_first at q rs past) ∙ found) in
           subst (IsNext (q ∷ rs) at c) same (here (ltb q.first at) m at c q rs refl spaced inside.0 past)
       | inr over ↦
           let more = next_some (end_of q + 1) at c rs r spaced.2 inside.1 (sym (at_later at q rs over) ∙ found) in
@@ -63,7 +63,7 @@ pub next_none : (at : ℕ) (rs : List Run) → next_run at rs ≡ None → NoneF
 next_none at [] found s from = refl
 next_none at (q ∷ rs) found s from =
     elim (cases_lt at (end_of q)) [
-      | inl past ↦ let wrong = sym found ∙ at_first at q rs past in absurd (none_is_some (from_place at q) wrong)
+      | inl past ↦ let wrong = sym found ∙ at_first at q rs past in absurd (none_is_some (from_sector at q) wrong)
       | inr over ↦ past_first q rs s (omega arith) ∙ next_none at rs (sym (at_later at q rs over) ∙ found) s from
     ]
 

@@ -1,52 +1,85 @@
 -- Lines, their answers, and the session that they make.
-use Rattle.std.proofs.Common.{◌≡◌, ◌≢◌, ◌⊎◌, ℕ, suc, ◌+◌, ◌-◌, ◌<◌, ◌≤◌, Bool, true, false, MatchBool, not, if◌then◌else◌, ◌==◌, List, [], ◌∷◌, ◌++◌, length, take, drop, Option, Some, None, Result, Ok, Err, inl, inr, refl, sym, ap, subst, append_assoc, ◌∙◌, arith}
-use Rattle.std.specs.Prelude.{IfSome, OnOk, OnErr}
-use Rattle.std.proofs.KnownBytes.{Appends-nil, Appends-trans}
-use Rattle.std.proofs.lemmas.Bool.{false≢true, eqb-true}
-use Rattle.std.specs.List.{filter, flat_map}
+use Rattle.std.proofs.Common.{◌≡◌, ◌≢◌, ◌⊎◌, ℕ, suc, ◌+◌, ◌-◌, ◌<◌, ◌≤◌, Bool, true, false, MatchBool, cond, not, if◌then◌else◌, ◌==◌, List, [], ◌∷◌, ◌++◌, length, take, drop, Option, Some, None, Result, Ok, Err, inl, inr, refl, sym, ap, subst, append_assoc, ◌∙◌, arith}
+use Rattle.std.specs.Prelude.{IfSome, IsTrue, OnOk, OnErr, All, count_by, nat_le, ◌&&◌}
+use Rattle.std.proofs.KnownBytes.{Appends-nil, Appends-trans, Consumes-nil, Consumes-trans}
+use Rattle.std.proofs.lemmas.Bool.{false≢true, true≢false, eqb-true, lt-leb}
+use Rattle.std.specs.List.{filter, flat_map, list_all}
 use Rattle.std.specs.Io.KnownBytes.{Appends, Consumes, IsAtEnd}
-use Rattle.std.proofs.lemmas.List.{append-nil, length-append, take-append-drop}
-use Rattle.std.proofs.lemmas.List.Elements.{filter-append}
+use Rattle.std.proofs.lemmas.List.{append-nil, length-append, take-append-drop, take_at, take_all, drop_at}
+use Rattle.std.proofs.lemmas.List.Elements.{filter-append, All-head, All-tail, All-append}
+use Rattle.std.proofs.lemmas.List.Sums.{sum_by-append, sum_by-cons}
 use Rattle.std.proofs.lemmas.Grind.{flat_map-append}
-use Rattle.edge_traits.specs.Faults.{Rose}
-use Rattle.edge_traits.specs.Sink.{AppendsPrefix}
-use Rattle.target_volume.specs.Stores.{Shelf, AllStay}
+use Rattle.basics.specs.Faults.{Rose}
+use Rattle.migrate_server.specs.Counts.{HasRisen}
+use Rattle.edge_traits.specs.Source.{SourceState}
+use Rattle.edge_traits.specs.Sink.{SinkState, AppendsPrefix}
 use Rattle.migrate_server.specs.declared.line_buffer.LineBuffer.{LineBuffer}
-use Rattle.migrate_server.specs.declared.command.Line.TheVariants.{Unknown}
-use Rattle.migrate_server.specs.declared.reply.Refusal.TheVariants.{NotBuilt}
+use Rattle.migrate_server.specs.declared.line.Line.TheVariants.{Refuses}
+use Rattle.migrate_server.specs.declared.reader.TheConstants.{INPUT_LIMIT}
+use Rattle.migrate_server.specs.declared.reader.NoLine.{NoLine}
+use Rattle.migrate_server.specs.declared.reader.NoLine.TheVariants.{Fault as LineFault, Limit, NoMemory as NoLineMemory}
+use Rattle.migrate_server.specs.declared.reply.Refusal.{Refusal}
+use Rattle.migrate_server.specs.declared.reply.Refusal.TheVariants.{NotBuilt, NameTaken, Volume}
 use Rattle.migrate_server.specs.declared.reply.Reply.{Reply}
 use Rattle.migrate_server.specs.declared.reply.Reply.TheVariants.{Refused}
+use Rattle.migrate_server.specs.declared.serve.NoReply.{NoReply}
+use Rattle.migrate_server.specs.declared.serve.NoReply.TheVariants.{Fault, NoMemory as NoReplyMemory}
 use Rattle.migrate_server.specs.declared.status.Status.{Status}
-use Rattle.migrate_server.specs.declared.status.Status.TheVariants.{Ok as StatusOk, Usage, ReadFault, JournalFault, WriteFault, StrangeJournal, InputLimit, JournalFull, NoMemory}
-use Rattle.migrate_server.specs.Ends.{EndsFor, TellsUsage, usage_line}
-use Rattle.migrate_server.specs.Lines.{Means, is_blank, lines_of, before_first_line}
-use Rattle.migrate_server.specs.Replies.{reply_line}
-use Rattle.migrate_server.specs.Reading.{ReaderState, Holds, HasNoLf, IsIdle, TakesLine, TakesEnd, TakesSome, input_limit, budget}
-use Rattle.migrate_server.specs.States.{Stored, Stays}
-use Rattle.migrate_server.specs.Session.{Session, Step, Serves}
-use Rattle.migrate_server.specs.Answers.{Answers, Told, Cut, CutFor, bytes_of_reply}
-use Rattle.migrate_server.proofs.Complete.{session_complete}
-use Rattle.migrate_server.proofs.PartLines.{consumes_none, consumes_more}
+use Rattle.migrate_server.specs.declared.serve.Stop.{Stop}
+use Rattle.migrate_server.specs.declared.serve.Stop.TheVariants.{ReadFault, WriteFault, InputLimit, NoMemory}
+use Rattle.migrate_server.specs.EndsFor.{EndsFor, TellsUsage, usage_line}
+use Rattle.migrate_server.specs.declared.line.TheConstants.{LINE_LIMIT}
+use Rattle.migrate_server.specs.Line.{Means, is_space, is_blank, is_lf, lines_of, ended_lines, before_first_line, requests_among}
+use Rattle.migrate_server.specs.LineBuffer.{Holds}
+use Rattle.migrate_server.specs.Reply.{reply_line}
+use Rattle.migrate_server.specs.Reader.{ReaderState, HasNoLf, Takes, IsIdle, TakesLine, TakesEnd, HasNoLine, FailsInLine, PassesLimit, StopsInLine, budget}
+use Rattle.migrate_server.specs.Serve.{HasReply, ServesLine, FailsInReply, LacksReply, bytes_of_reply, stop_without_line, stop_without_reply, status_of}
+use Rattle.migrate_server.specs.Serves.{Serves, EndsLast}
+use Rattle.migrate_server.specs.Session.{State, state_of, Session, Step}
+use Rattle.migrate_server.specs.World.{World}
+use Rattle.migrate_server.proofs.Complete.{session_complete, session_sound, no_volume}
 
 -- ---- one line
 
-pub unknown_answers : (buffer : LineBuffer) (text : List ℕ) (old : Stored) → buffer.is_long ≡ false → Means buffer.bytes.items Unknown → Holds buffer text
-    → Answers text (Some (Refused NotBuilt)) old old
-unknown_answers buffer text old short means (inl held) = subst (λ line. Answers line (Some (Refused NotBuilt)) old old) held.1 (means.0, (Unknown, means, (refl, refl)))
-unknown_answers buffer text old short means (inr long) = let h = long.0 in cc
+not_blank : (why : Refusal) (line : List ℕ) → Means line (Refuses why) → is_blank line ≡ false
+not_blank NotBuilt line means = means.0
+not_blank NameTaken line means = absurd means
+not_blank Volume line means = absurd means
 
-pub told : (text : List ℕ) (held held_after : Option (List ℕ)) (old new : Stored) (some : Option Reply) (reply : Reply) (bytes : List ℕ) → some ≡ Some reply → Answers text some old new
-    → bytes ≡ reply_line reply → Appends held held_after bytes → Told text held held_after old new
-told text held held_after old new some reply bytes is answers same written = record {
+pub refuses_line : (buffer : LineBuffer) (text : List ℕ) (why : Refusal) (old : State) → buffer.is_long ≡ false → Means buffer.bytes.items (Refuses why) → Holds buffer text
+    → HasReply text (Some (Refused why)) old old
+refuses_line buffer text why old short means (inl held) =
+    subst (λ line. HasReply line (Some (Refused why)) old old) held.1 (not_blank why buffer.bytes.items means, (Refuses why, means, (refl, refl)))
+refuses_line buffer text why old short means (inr long) = let h = long.0 in cc
+
+and_false : (a b : Bool) → a ≡ false → (a && b) ≡ false
+and_false false b h = refl
+and_false true b h = cc
+
+-- a line that is too long is neither blank nor a command
+pub long_line : (buffer : LineBuffer) (text : List ℕ) (old : State) → buffer.is_long ≡ true → Holds buffer text → HasReply text (Some (Refused NotBuilt)) old old
+long_line buffer text old long (inl held) = let h = held.0 in cc
+long_line buffer text old long (inr held) =
+    let blank : is_blank text ≡ false = and_false (nat_le (length text) LINE_LIMIT) (list_all is_space text) (lt-leb (length text) LINE_LIMIT held.1) in
+    (blank, (Refuses NotBuilt, (blank, λ command spells. absurd (omega (arith, spells.fits, held.1))), (refl, refl)))
+
+pub serves_line : (text : List ℕ) (sink sink_after : SinkState) (old new : State) (some : Option Reply) (reply : Reply) (bytes : List ℕ) → some ≡ Some reply → HasReply text some old new → bytes ≡ reply_line reply
+    → Appends sink.held sink_after.held bytes → sink_after.faults ≡ sink.faults → ServesLine text sink sink_after old new
+serves_line text sink sink_after old new some reply bytes is answers same written steady = record {
   reply = Some reply;
-  answers = subst (λ (o : Option Reply). Answers text o old new) is answers;
-  written = subst (Appends held held_after) same written;
+  answers = subst (λ (o : Option Reply). HasReply text o old new) is answers;
+  written = subst (Appends sink.held sink_after.held) same written;
+  steady = steady;
 }
 
-pub cut_in_reply : (text : List ℕ) (held held_after : Option (List ℕ)) (old new : Stored) (some : Option Reply) (reply : Reply) (bytes : List ℕ) → some ≡ Some reply → Answers text some old new
-    → bytes ≡ reply_line reply → AppendsPrefix held held_after bytes → Cut text held held_after old new
-cut_in_reply text held held_after old new some reply bytes is answers same part =
-    inr (reply, subst (λ (o : Option Reply). Answers text o old new) is answers, subst (AppendsPrefix held held_after) same part)
+pub fails_in_reply : (text : List ℕ) (sink sink_after : SinkState) (old new : State) (some : Option Reply) (reply : Reply) (bytes : List ℕ) → some ≡ Some reply → HasReply text some old new → bytes ≡ reply_line reply
+    → AppendsPrefix sink.held sink_after.held bytes → sink.faults ≤ sink_after.faults → Rose sink.faults sink_after.faults → FailsInReply text sink sink_after old new
+fails_in_reply text sink sink_after old new some reply bytes is answers same part later rose = record {
+  reply = reply;
+  answers = subst (λ (o : Option Reply). HasReply text o old new) is answers;
+  part = subst (AppendsPrefix sink.held sink_after.held) same part;
+  rises = (later, rose);
+}
 
 -- ---- the lines of an input
 
@@ -61,24 +94,65 @@ not_true true h = absurd (h refl)
 no_lf : (b : ℕ) → b ≢ 10 → (b == 10) ≡ false
 no_lf b other = not_true (b == 10) (λ e. other (eqb-true b 10 e))
 
-first_byte : (b k : ℕ) (text : List ℕ) → HasNoLf (b ∷ text) → b ≢ 10
-first_byte b k text h = h 0 0 (omega arith)
+first_byte : (b : ℕ) (text : List ℕ) → HasNoLf (b ∷ text) → b ≢ 10
+first_byte b text h = All-head (λ x. x ≢ 10) b text h
 
 later_bytes : (b : ℕ) (text : List ℕ) → HasNoLf (b ∷ text) → HasNoLf text
-later_bytes b text h = λ k d w. h (suc k) d (omega (arith, w))
+later_bytes b text h = All-tail (λ x. x ≢ 10) b text h
 
 lf : (text rest : List ℕ) → HasNoLf text → lines_of (text ++ 10 ∷ rest) ≡ text ∷ lines_of rest
 lf [] rest h = refl
 lf (b ∷ text) rest h =
-    picked (b == 10) ([] ∷ lines_of (text ++ 10 ∷ rest)) (before_first_line b (lines_of (text ++ 10 ∷ rest))) (no_lf b (first_byte b 0 text h))
+    picked (b == 10) ([] ∷ lines_of (text ++ 10 ∷ rest)) (before_first_line b (lines_of (text ++ 10 ∷ rest))) (no_lf b (first_byte b text h))
     ∙ ap (before_first_line b) (lf text rest (later_bytes b text h))
 
 alone : (text : List ℕ) → HasNoLf text → 0 < length text → lines_of text ≡ text ∷ []
 alone [] h some = absurd (omega (arith, some))
-alone (b ∷ []) h some = picked (b == 10) ([] ∷ []) ((b ∷ []) ∷ []) (no_lf b (first_byte b 0 [] h))
+alone (b ∷ []) h some = picked (b == 10) ([] ∷ []) ((b ∷ []) ∷ []) (no_lf b (first_byte b [] h))
 alone (b ∷ c ∷ text) h some =
-    picked (b == 10) ([] ∷ lines_of (c ∷ text)) (before_first_line b (lines_of (c ∷ text))) (no_lf b (first_byte b 0 (c ∷ text) h))
+    picked (b == 10) ([] ∷ lines_of (c ∷ text)) (before_first_line b (lines_of (c ∷ text))) (no_lf b (first_byte b (c ∷ text) h))
     ∙ ap (before_first_line b) (alone (c ∷ text) (later_bytes b (c ∷ text) h) (omega arith))
+
+-- bytes have a line
+first_is_some : (b : ℕ) (lines : List (List ℕ)) → 0 < length (before_first_line b lines)
+first_is_some b [] = omega arith
+first_is_some b (line ∷ lines) = omega arith
+
+cond_some : (t : Bool) (xs ys : List (List ℕ)) → 0 < length xs → 0 < length ys → 0 < length (if t then xs else ys)
+cond_some true xs ys h k = h
+cond_some false xs ys h k = k
+
+some_line : (bytes : List ℕ) → 0 < length bytes → 0 < length (lines_of bytes)
+some_line [] some = some
+some_line (b ∷ bytes) some = cond_some (b == 10) ([] ∷ lines_of bytes) (before_first_line b (lines_of bytes)) (omega arith) (first_is_some b (lines_of bytes))
+
+abbrev lfs : List ℕ → ℕ
+lfs bytes = count_by is_lf bytes
+
+lfs_append : (xs ys : List ℕ) → lfs (xs ++ ys) ≡ lfs xs + lfs ys
+lfs_append xs ys = sum_by-append (λ x. cond (is_lf x) 1 0) xs ys
+
+lfs_cons : (b : ℕ) (bytes : List ℕ) → lfs (b ∷ bytes) ≡ cond (b == 10) 1 0 + lfs bytes
+lfs_cons b bytes = sum_by-cons (λ x. cond (is_lf x) 1 0) b bytes
+
+one_or_none : (t : Bool) → t ≡ false → ◌≡◌ {A = ℕ} (cond t 1 0) 0
+one_or_none true h = cc
+one_or_none false h = refl
+
+lfs_none : (text : List ℕ) → HasNoLf text → lfs text ≡ 0
+lfs_none [] h = refl
+lfs_none (b ∷ text) h =
+    let rest = lfs_none text (later_bytes b text h) in
+    let front = one_or_none (b == 10) (no_lf b (first_byte b text h)) in
+    omega (arith, lfs_cons b text, rest, front)
+
+lfs_line : (text rest : List ℕ) → HasNoLf text → lfs (text ++ 10 ∷ rest) ≡ 1 + lfs rest
+lfs_line text rest h = let none = lfs_none text h in omega (arith, lfs_append text (10 ∷ rest), lfs_cons 10 rest, none)
+
+-- what stands behind the lines has no LF, so they are those that were ended
+ended_whole : (bytes tail : List ℕ) (lines : List (List ℕ)) → lines_of bytes ≡ lines ++ lines_of tail → lfs bytes ≡ length lines → lines ≡ ended_lines bytes
+ended_whole bytes tail lines split count =
+    sym (ap (λ n. take n (lines_of bytes)) count ∙ ap (take (length lines)) split ∙ take_at lines (lines_of tail) (length lines) refl)
 
 -- these lines were taken
 pub record Heard (left left_now : Option (List ℕ)) (reader : ReaderState) (lines : List (List ℕ)) : Type 0 where
@@ -86,8 +160,9 @@ pub record Heard (left left_now : Option (List ℕ)) (reader : ReaderState) (lin
   pub consumes : Consumes left left_now consumed
   pub count : reader.total ≡ length consumed
   pub split : (rest : List ℕ) → (reader.ended ≡ true → rest ≡ []) → lines_of (consumed ++ rest) ≡ lines ++ lines_of (reader.pending ++ rest)
+  pub ends : reader.ended ≡ false → lfs consumed ≡ length lines + lfs reader.pending
   pub idle : IsIdle left_now reader
-  pub fits : reader.total ≤ input_limit
+  pub fits : reader.total ≤ INPUT_LIMIT
 
 abbrev pub fresh_reader : ReaderState
 fresh_reader = record { pending = []; total = 0; ended = false }
@@ -95,9 +170,10 @@ fresh_reader = record { pending = []; total = 0; ended = false }
 heard_none : (left : Option (List ℕ)) → Heard left left fresh_reader []
 heard_none left = record {
   consumed = [];
-  consumes = consumes_none left;
+  consumes = Consumes-nil left;
   count = refl;
   split = λ rest e. refl;
+  ends = λ e. refl;
   idle = λ e. absurd (false≢true e);
   fits = omega arith;
 }
@@ -132,67 +208,50 @@ line_split consumed given pending text after rest lines ended ended_after split 
     ∙ sym (append-nil (lines ++ text ∷ []))
     ∙ ap (λ l. (lines ++ text ∷ []) ++ lines_of l) (sym (ap (λ l. l ++ rest) (idle_after s.2) ∙ at_end s.2))
 
-heard_line : (left a b : Option (List ℕ)) (old new : ReaderState) (buffer : LineBuffer) (lines : List (List ℕ)) → Heard left a old lines → (t : TakesLine a b old new buffer)
-    → Heard left b new (lines ++ t.text ∷ [])
+was_running : (ended : Bool) (pending given bytes : List ℕ) → (ended ≡ true → pending ≡ []) → (ended ≡ true → given ≡ []) → 0 < length bytes → pending ++ given ≡ bytes → ended ≡ false
+was_running false pending given bytes idle none some same = refl
+was_running true pending given bytes idle none some same = absurd (no_bytes pending given bytes (idle refl) (none refl) some same)
+
+line_ends : (consumed given pending text after : List ℕ) (lines : List (List ℕ)) (ended ended_after : Bool)
+    → (ended ≡ false → lfs consumed ≡ length lines + lfs pending) → (ended ≡ true → pending ≡ []) → (ended ≡ true → given ≡ []) → HasNoLf text
+    → (pending ++ given ≡ text ++ 10 ∷ after) ⊎ ((pending ++ given ≡ text) × (0 < length text) × (ended_after ≡ true))
+    → ended_after ≡ false → lfs (consumed ++ given) ≡ length (lines ++ text ∷ []) + lfs after
+line_ends consumed given pending text after lines ended ended_after ends idle none one (inl s) running =
+    let before = ends (was_running ended pending given (text ++ 10 ∷ after) idle none (line_length text after) s) in
+    let all = sym (lfs_append pending given) ∙ ap lfs s ∙ lfs_line text after one in
+    omega (arith, lfs_append consumed given, before, all, length-append lines (text ∷ []))
+line_ends consumed given pending text after lines ended ended_after ends idle none one (inr s) running = absurd (true≢false (sym s.2 ∙ running))
+
+heard_line : (left : Option (List ℕ)) (a b : SourceState) (old new : ReaderState) (buffer : LineBuffer) (lines : List (List ℕ)) → Heard left a.left old lines → (t : TakesLine a b old new buffer)
+    → Heard left b.left new (lines ++ t.text ∷ [])
 heard_line left a b old new buffer lines h t = record {
   consumed = h.consumed ++ t.given;
-  consumes = consumes_more left a b h.consumed t.given h.consumes t.takes.whole;
+  consumes = Consumes-trans left a.left b.left h.consumed t.given h.consumes t.takes.whole;
   count = t.takes.count ∙ ap (λ n. n + length t.given) h.count ∙ sym (length-append h.consumed t.given);
   split = λ rest e. line_split h.consumed t.given old.pending t.text new.pending rest lines old.ended new.ended h.split (λ x. (h.idle x).0) t.takes.none t.one t.split (λ x. (t.idle x).0) e;
+  ends = λ running. line_ends h.consumed t.given old.pending t.text new.pending lines old.ended new.ended h.ends (λ x. (h.idle x).0) t.takes.none t.one t.split running;
   idle = t.idle;
   fits = t.fits;
 }
 
--- the lines of the whole input are these and more
-pub record Splits (left : Option (List ℕ)) (lines : List (List ℕ)) : Type 0 where
-  pub input : List ℕ
-  pub is_input : IfSome left (λ bytes. bytes ≡ input)
-  pub more : List (List ℕ)
-  pub whole : lines_of input ≡ lines ++ more
+-- ---- what is left of the input
 
-splits : (left a : Option (List ℕ)) (reader : ReaderState) (lines : List (List ℕ)) → Heard left a reader lines → Splits left lines
-splits None a reader lines h = record { input = h.consumed ++ []; is_input = tt; more = lines_of (reader.pending ++ []); whole = h.split [] (λ e. refl) }
-splits (Some bytes) None reader lines h = absurd h.consumes
-splits (Some bytes) (Some x) reader lines h = record {
-  input = bytes;
-  is_input = refl;
-  more = lines_of (reader.pending ++ x);
-  whole = ap lines_of h.consumes ∙ h.split x (λ e. (h.idle e).1);
-}
+abbrev rest_of : (left left_after : Option (List ℕ)) → List ℕ
+rest_of None left_after = []
+rest_of (Some bytes) None = []
+rest_of (Some bytes) (Some more) = more
 
-all_given : (x y given : List ℕ) → x ≡ given ++ y → y ≡ [] → x ≡ given
-all_given x y given h k = h ∙ ap (λ l. given ++ l) k ∙ append-nil given
+rest_whole : (a b : Option (List ℕ)) (taken : List ℕ) → Consumes a b taken → IfSome a (λ bytes. bytes ≡ taken ++ rest_of a b)
+rest_whole None b taken h = tt
+rest_whole (Some bytes) None taken h = absurd h
+rest_whole (Some bytes) (Some more) taken h = h
 
-splits_whole : (left a b : Option (List ℕ)) (old new : ReaderState) (lines : List (List ℕ)) → Heard left a old lines → TakesEnd a b old new
-    → (input : List ℕ) × IfSome left (λ bytes. bytes ≡ input) × (lines_of input ≡ lines)
-splits_whole None a b old new lines h t =
-    (h.consumed ++ t.given, tt, h.split t.given t.takes.none ∙ ap (λ l. lines ++ lines_of l) t.nothing ∙ append-nil lines)
-splits_whole (Some bytes) None b old new lines h t = absurd h.consumes
-splits_whole (Some bytes) (Some x) None old new lines h t = absurd t.takes.whole
-splits_whole (Some bytes) (Some x) (Some y) old new lines h t =
-    let all = all_given x y t.given t.takes.whole (t.idle t.ended).1 in
-    (bytes, refl, ap lines_of h.consumes ∙ h.split x (λ e. (h.idle e).1) ∙ ap (λ l. lines ++ lines_of (old.pending ++ l)) all ∙ ap (λ l. lines ++ lines_of l) t.nothing ∙ append-nil lines)
+rest_at_end : (a b : Option (List ℕ)) → IsAtEnd b → rest_of a b ≡ []
+rest_at_end None b h = refl
+rest_at_end (Some bytes) None h = refl
+rest_at_end (Some bytes) (Some more) h = h
 
-within_limit : (left a b : Option (List ℕ)) (old new : ReaderState) (lines : List (List ℕ)) → Heard left a old lines → TakesEnd a b old new
-    → IfSome left (λ bytes. length bytes ≤ input_limit)
-within_limit None a b old new lines h t = tt
-within_limit (Some bytes) None b old new lines h t = absurd h.consumes
-within_limit (Some bytes) (Some x) None old new lines h t = absurd t.takes.whole
-within_limit (Some bytes) (Some x) (Some y) old new lines h t =
-    let all = ap (length {A = ℕ}) (all_given x y t.given t.takes.whole (t.idle t.ended).1) in
-    let whole = ap (length {A = ℕ}) h.consumes ∙ length-append h.consumed x in
-    omega (arith, all, whole, h.count, t.takes.count, t.fits)
-
-over_limit : (left a b : Option (List ℕ)) (old new : ReaderState) (lines : List (List ℕ)) → Heard left a old lines → TakesSome a b old new → input_limit < new.total
-    → IfSome left (λ bytes. input_limit < length bytes)
-over_limit None a b old new lines h t over = tt
-over_limit (Some bytes) None b old new lines h t over = absurd h.consumes
-over_limit (Some bytes) (Some x) None old new lines h t over = absurd (t.1).whole
-over_limit (Some bytes) (Some x) (Some y) old new lines h t over =
-    let whole = ap (length {A = ℕ}) h.consumes ∙ length-append h.consumed x in
-    let part = ap (length {A = ℕ}) (t.1).whole ∙ length-append t.0 y in
-    let count = (t.1).count in
-    omega (arith, whole, part, h.count, count, over)
+-- ---- the budget of bytes
 
 falls_by : (total pending given text after limit total_after : ℕ) → total_after ≡ total + given → total_after ≤ limit → pending + given ≡ text + suc after
     → (limit + 1 - total_after) + after < (limit + 1 - total) + pending
@@ -202,40 +261,36 @@ falls_at_end : (total pending given text after limit total_after : ℕ) → tota
     → (limit + 1 - total_after) + after < (limit + 1 - total) + pending
 falls_at_end total pending given text after limit total_after count fits same some none = omega (arith, count, fits, same, some, none)
 
-budget_falls_by : (a b : Option (List ℕ)) (old new : ReaderState) (text given : List ℕ) → new.total ≡ old.total + length given → new.total ≤ input_limit
-    → (old.pending ++ given ≡ text ++ 10 ∷ new.pending) ⊎ ((old.pending ++ given ≡ text) × (0 < length text) × (new.ended ≡ true)) → IsIdle b new → budget new < budget old
-budget_falls_by a b old new text given count fits (inl s) idle =
+budget_falls_by : (left : Option (List ℕ)) (old new : ReaderState) (text given : List ℕ) → new.total ≡ old.total + length given → new.total ≤ INPUT_LIMIT
+    → (old.pending ++ given ≡ text ++ 10 ∷ new.pending) ⊎ ((old.pending ++ given ≡ text) × (0 < length text) × (new.ended ≡ true)) → IsIdle left new → budget new < budget old
+budget_falls_by left old new text given count fits (inl s) idle =
     let same = sym (length-append old.pending given) ∙ ap (length {A = ℕ}) s ∙ length-append text (10 ∷ new.pending) in
-    falls_by old.total (length old.pending) (length given) (length text) (length new.pending) input_limit new.total count fits same
-budget_falls_by a b old new text given count fits (inr s) idle =
+    falls_by old.total (length old.pending) (length given) (length text) (length new.pending) INPUT_LIMIT new.total count fits same
+budget_falls_by left old new text given count fits (inr s) idle =
     let same = sym (length-append old.pending given) ∙ ap (length {A = ℕ}) s.0 in
     let none = ap (length {A = ℕ}) (idle s.2).0 in
-    falls_at_end old.total (length old.pending) (length given) (length text) (length new.pending) input_limit new.total count fits same s.1 none
+    falls_at_end old.total (length old.pending) (length given) (length text) (length new.pending) INPUT_LIMIT new.total count fits same s.1 none
 
-pub budget_falls : (a b : Option (List ℕ)) (old new : ReaderState) (buffer : LineBuffer) → TakesLine a b old new buffer → budget new < budget old
-budget_falls a b old new buffer t = budget_falls_by a b old new t.text t.given t.takes.count t.fits t.split t.idle
+pub budget_falls : (a b : SourceState) (old new : ReaderState) (buffer : LineBuffer) → TakesLine a b old new buffer → budget new < budget old
+budget_falls a b old new buffer t = budget_falls_by b.left old new t.text t.given t.takes.count t.fits t.split t.idle
 
 -- ---- the session so far
 
-session_more : (old mid new : Stored) (asked : List (List ℕ)) (replies : List Reply) (line : List ℕ) (reply : Reply) → Session old asked replies mid → Step line reply mid new
-    → Session old (asked ++ line ∷ []) (replies ++ reply ∷ []) new
-session_more old mid new [] [] line reply h step = (new, subst (λ (s : Stored). Step line reply s new) h step, refl)
+session_more : (old mid new : State) (lines : List (List ℕ)) (replies : List Reply) (line : List ℕ) (reply : Reply) → Session old lines replies mid → Step line reply mid new
+    → Session old (lines ++ line ∷ []) (replies ++ reply ∷ []) new
+session_more old mid new [] [] line reply h step = (new, subst (λ (s : State). Step line reply s new) h step, refl)
 session_more old mid new [] (r ∷ replies) line reply h step = absurd h
-session_more old mid new (l ∷ asked) [] line reply h step = absurd h
-session_more old mid new (l ∷ asked) (r ∷ replies) line reply h step = (h.0, h.1, session_more h.0 mid new asked replies line reply h.2 step)
+session_more old mid new (l ∷ lines) [] line reply h step = absurd h
+session_more old mid new (l ∷ lines) (r ∷ replies) line reply h step = (h.0, h.1, session_more h.0 mid new lines replies line reply h.2 step)
 
--- the lines that have a reply
-abbrev asked_of : List (List ℕ) → List (List ℕ)
-asked_of lines = filter (λ line. not (is_blank line)) lines
-
-one_blank : (line : List ℕ) → is_blank line ≡ true → asked_of (line ∷ []) ≡ []
+one_blank : (line : List ℕ) → is_blank line ≡ true → requests_among (line ∷ []) ≡ []
 one_blank line h = ap (λ t. if (not t) then line ∷ [] else []) h
 
-one_asked : (line : List ℕ) → is_blank line ≡ false → asked_of (line ∷ []) ≡ line ∷ []
-one_asked line h = ap (λ t. if (not t) then line ∷ [] else []) h
+one_request : (line : List ℕ) → is_blank line ≡ false → requests_among (line ∷ []) ≡ line ∷ []
+one_request line h = ap (λ t. if (not t) then line ∷ [] else []) h
 
-asked_more : (lines more : List (List ℕ)) → asked_of (lines ++ more) ≡ asked_of lines ++ asked_of more
-asked_more lines more = filter-append (λ line. not (is_blank line)) lines more
+requests_more : (lines more : List (List ℕ)) → requests_among (lines ++ more) ≡ requests_among lines ++ requests_among more
+requests_more lines more = filter-append (λ line. not (is_blank line)) lines more
 
 abbrev text_of : List Reply → List ℕ
 text_of replies = flat_map reply_line replies
@@ -244,194 +299,343 @@ text_more : (replies : List Reply) (reply : Reply) → text_of (replies ++ reply
 text_more replies reply = flat_map-append reply_line replies (reply ∷ []) ∙ ap (λ l. text_of replies ++ l) (append-nil (reply_line reply))
 
 -- what was heard, answered and written so far
-pub record Progress (left left_now held held_now : Option (List ℕ)) (old now : Stored) (reader : ReaderState) : Type 0 where
+pub record Progress (old now : World) (reader : ReaderState) : Type 0 where
   pub lines : List (List ℕ)
-  pub heard : Heard left left_now reader lines
+  pub heard : Heard old.source.left now.source.left reader lines
   pub replies : List Reply
-  pub session : Session old (asked_of lines) replies now
-  pub written : Appends held held_now (text_of replies)
+  pub session : Session (state_of old) (requests_among lines) replies (state_of now)
+  pub written : Appends old.sink.held now.sink.held (text_of replies)
+  pub reads : now.source.faults ≡ old.source.faults
+  pub puts : now.sink.faults ≡ old.sink.faults
 
-pub progress_start : (left held : Option (List ℕ)) (old : Stored) → Progress left left held held old old fresh_reader
-progress_start left held old = record { lines = []; heard = heard_none left; replies = []; session = refl; written = Appends-nil held }
+pub progress_start : (old : World) → Progress old old fresh_reader
+progress_start old = record { lines = []; heard = heard_none old.source.left; replies = []; session = refl; written = Appends-nil old.sink.held; reads = refl; puts = refl }
 
-pub record Asked (lines : List (List ℕ)) (held held_now : Option (List ℕ)) (old now : Stored) : Type 0 where
+record Replied (lines : List (List ℕ)) (old : State) (sink : SinkState) (new : State) (sink_after : SinkState) : Type 0 where
   pub replies : List Reply
-  pub session : Session old (asked_of lines) replies now
-  pub written : Appends held held_now (text_of replies)
+  pub session : Session old (requests_among lines) replies new
+  pub written : Appends sink.held sink_after.held (text_of replies)
 
-asked_line : (text : List ℕ) (reply : Option Reply) (lines : List (List ℕ)) (replies : List Reply) (old now after : Stored) (held held_now held_after : Option (List ℕ))
-    → Session old (asked_of lines) replies now → Appends held held_now (text_of replies) → Answers text reply now after → Appends held_now held_after (bytes_of_reply reply)
-    → Asked (lines ++ text ∷ []) held held_after old after
-asked_line text None lines replies old now after held held_now held_after session written answers told = record {
+session_reply : (old now after : State) (lines : List (List ℕ)) (replies : List Reply) (text : List ℕ) (reply : Reply) → Session old (requests_among lines) replies now → HasReply text (Some reply) now after
+    → Session old (requests_among (lines ++ text ∷ [])) (replies ++ reply ∷ []) after
+session_reply old now after lines replies text reply session answers =
+    let same = requests_more lines (text ∷ []) ∙ ap (λ l. requests_among lines ++ l) (one_request text answers.0) in
+    subst (λ (l : List (List ℕ)). Session old l (replies ++ reply ∷ []) after) (sym same) (session_more old now after (requests_among lines) replies text reply session answers.1)
+
+replied_line : (text : List ℕ) (reply : Option Reply) (lines : List (List ℕ)) (replies : List Reply) (old now after : State) (sink sink_now sink_after : SinkState)
+    → Session old (requests_among lines) replies now → Appends sink.held sink_now.held (text_of replies) → HasReply text reply now after → Appends sink_now.held sink_after.held (bytes_of_reply reply)
+    → Replied (lines ++ text ∷ []) old sink after sink_after
+replied_line text None lines replies old now after sink sink_now sink_after session written answers told = record {
   replies = replies;
   session =
-      let same = asked_more lines (text ∷ []) ∙ ap (λ l. asked_of lines ++ l) (one_blank text answers.0) ∙ append-nil (asked_of lines) in
-      subst (λ (s : Stored). Session old (asked_of (lines ++ text ∷ [])) replies s) (sym answers.1)
-      (subst (λ (asked : List (List ℕ)). Session old asked replies now) (sym same) session);
-  written = subst (Appends held held_after) (append-nil (text_of replies)) (Appends-trans held held_now held_after (text_of replies) [] written told);
+      let same = requests_more lines (text ∷ []) ∙ ap (λ l. requests_among lines ++ l) (one_blank text answers.0) ∙ append-nil (requests_among lines) in
+      subst (λ (s : State). Session old (requests_among (lines ++ text ∷ [])) replies s) (sym answers.1)
+      (subst (λ (l : List (List ℕ)). Session old l replies now) (sym same) session);
+  written = subst (Appends sink.held sink_after.held) (append-nil (text_of replies)) (Appends-trans sink.held sink_now.held sink_after.held (text_of replies) [] written told);
 }
-asked_line text (Some reply) lines replies old now after held held_now held_after session written answers told = record {
+replied_line text (Some reply) lines replies old now after sink sink_now sink_after session written answers told = record {
   replies = replies ++ reply ∷ [];
-  session =
-      let same = asked_more lines (text ∷ []) ∙ ap (λ l. asked_of lines ++ l) (one_asked text answers.0) in
-      subst (λ (asked : List (List ℕ)). Session old asked (replies ++ reply ∷ []) after) (sym same) (session_more old now after (asked_of lines) replies text reply session answers.1);
-  written = subst (Appends held held_after) (sym (text_more replies reply)) (Appends-trans held held_now held_after (text_of replies) (reply_line reply) written told);
+  session = session_reply old now after lines replies text reply session answers;
+  written = subst (Appends sink.held sink_after.held) (sym (text_more replies reply)) (Appends-trans sink.held sink_now.held sink_after.held (text_of replies) (reply_line reply) written told);
 }
 
-pub progress_line : (left a b held held_now held_after : Option (List ℕ)) (old now after : Stored) (reader reader_after : ReaderState) (buffer : LineBuffer)
-    → Progress left a held held_now old now reader → (t : TakesLine a b reader reader_after buffer) → Told t.text held_now held_after now after
-    → Progress left b held held_after old after reader_after
-progress_line left a b held held_now held_after old now after reader reader_after buffer p t told =
-    let asked = asked_line t.text told.reply p.lines p.replies old now after held held_now held_after p.session p.written told.answers told.written in
+pub progress_line : (old now after : World) (reader reader_after : ReaderState) (buffer : LineBuffer) → Progress old now reader → (t : TakesLine now.source after.source reader reader_after buffer)
+    → ServesLine t.text now.sink after.sink (state_of now) (state_of after) → Progress old after reader_after
+progress_line old now after reader reader_after buffer p t serves =
+    let replied = replied_line t.text serves.reply p.lines p.replies (state_of old) (state_of now) (state_of after) old.sink now.sink after.sink p.session p.written serves.answers serves.written in
     record {
       lines = p.lines ++ t.text ∷ [];
-      heard = heard_line left a b reader reader_after buffer p.lines p.heard t;
-      replies = asked.replies;
-      session = asked.session;
-      written = asked.written;
+      heard = heard_line old.source.left now.source after.source reader reader_after buffer p.lines p.heard t;
+      replies = replied.replies;
+      session = replied.session;
+      written = replied.written;
+      reads = t.steady ∙ p.reads;
+      puts = serves.steady ∙ p.puts;
     }
 
 -- ---- where it ends
 
-all_stay : (volumes : Option Shelf) → AllStay volumes volumes
-all_stay None = tt
-all_stay (Some has) = λ name. refl
+-- a run came to its end
+pub record Ended (old new : World) (status : Result (Unit {0}) Stop) : Type 0 where
+  pub serves : Serves old new (status_of status)
+  pub ends : EndsFor old new (status_of status)
 
-pub stays_same : (now : Stored) → Stays now now
-stays_same now = record { volumes = all_stay now.volumes; loans = λ name. refl; later = omega arith }
+-- the world with its source after more was read
+abbrev pub read_on : World → SourceState → World
+read_on now source = record { source = source; sink = now.sink; disk = now.disk; store = now.store }
 
-pub serves_so_far : (left a held held_now : Option (List ℕ)) (old now new : Stored) (reader : ReaderState) (whole : Type 0) → Progress left a held held_now old now reader
-    → Stays now new → (whole → ⊥) → Serves left held held_now old new whole
-serves_so_far left a held held_now old now new reader whole p stays unmet =
-    let s = splits left a reader p.lines p.heard in
+-- no reader could be made
+pub ended_at_once : (old : World) → Ended old old (Err NoMemory)
+ended_at_once old = record {
+  serves = record {
+    taken = [];
+    rest = rest_of old.source.left old.source.left;
+    takes = Consumes-nil old.source.left;
+    whole = rest_whole old.source.left old.source.left [] (Consumes-nil old.source.left);
+    count = omega arith;
+    lines = [];
+    more = lines_of (rest_of old.source.left old.source.left);
+    all_lines = refl;
+    replies = [];
+    session = refl;
+    complete = λ tells. tt;
+    no_volume = λ sound. λ k d within. absurd (omega arith);
+    written = [];
+    unwritten = [];
+    appends = Appends-nil old.sink.held;
+    all_bytes = refl;
+    comes_to = inl refl;
+    leaves = inl refl;
+  };
+  ends = record { serving = tt; reads = refl; puts = refl };
+}
+
+-- the input was served to its end
+pub ended_whole_input : (old now : World) (source : SourceState) (reader reader_after : ReaderState) → Progress old now reader → TakesEnd now.source source reader reader_after
+    → Ended old (read_on now source) (Ok tt)
+ended_whole_input old now source reader reader_after p t =
+    let taken = p.heard.consumed ++ t.given in
+    let end = (t.idle t.ended).1 in
+    let takes = Consumes-trans old.source.left now.source.left source.left p.heard.consumed t.given p.heard.consumes t.takes.whole in
+    let none = rest_at_end old.source.left source.left end in
     record {
-      input = s.input;
-      is_input = s.is_input;
-      asked = asked_of p.lines;
-      more = asked_of s.more;
-      requests = ap asked_of s.whole ∙ asked_more p.lines s.more;
-      replies = p.replies;
-      state = now;
-      session = p.session;
-      stays = stays;
-      complete = session_complete old now new (asked_of p.lines) p.replies p.session stays;
-      written = text_of p.replies;
-      unwritten = [];
-      appended = p.written;
-      front = append-nil (text_of p.replies);
-      finished = λ w. absurd (unmet w);
+      serves = record {
+        taken = taken;
+        rest = rest_of old.source.left source.left;
+        takes = takes;
+        whole = rest_whole old.source.left source.left taken takes;
+        count = omega (arith, length-append p.heard.consumed t.given, p.heard.count, t.takes.count, t.fits);
+        lines = p.lines;
+        more = [];
+        all_lines = ap (λ l. lines_of (taken ++ l)) none ∙ ap lines_of (append-nil taken) ∙ p.heard.split t.given t.takes.none ∙ ap (λ l. p.lines ++ lines_of l) t.nothing;
+        replies = p.replies;
+        session = p.session;
+        complete = session_complete (state_of old) (state_of now) (requests_among p.lines) p.replies p.session;
+        no_volume = λ sound. no_volume (state_of old) (state_of now) (requests_among p.lines) p.replies p.session sound;
+        written = text_of p.replies;
+        unwritten = [];
+        appends = p.written;
+        all_bytes = append-nil (text_of p.replies);
+        comes_to = (refl, end);
+        leaves = refl;
+      };
+      ends = record { serving = tt; reads = t.steady ∙ p.reads; puts = p.puts };
     }
 
--- a line without its reply, or with one that wasn't written whole
-cut_by : (left a b held held_now held_after : Option (List ℕ)) (old now new : Stored) (reader reader_after : ReaderState) (buffer : LineBuffer) (whole : Type 0)
-    → Progress left a held held_now old now reader → (t : TakesLine a b reader reader_after buffer) → Cut t.text held_now held_after now new → (whole → ⊥)
-    → Serves left held held_after old new whole
-cut_by left a b held held_now held_after old now new reader reader_after buffer whole p t (inl cut) unmet =
-    let written = subst (Appends held held_after) (append-nil (text_of p.replies)) (Appends-trans held held_now held_after (text_of p.replies) [] p.written cut.1) in
-    serves_so_far left a held held_after old now new reader whole (record { lines = p.lines; heard = p.heard; replies = p.replies; session = p.session; written = written }) cut.0 unmet
-cut_by left a b held held_now held_after old now new reader reader_after buffer whole p t (inr cut) unmet =
-    let reply = cut.0 in
-    let line = reply_line reply in
-    let n = (cut.2).0 in
-    let asked = p.lines ++ t.text ∷ [] in
-    let s = splits left b reader_after asked (heard_line left a b reader reader_after buffer p.lines p.heard t) in
-    let same = asked_more p.lines (t.text ∷ []) ∙ ap (λ l. asked_of p.lines ++ l) (one_asked t.text (cut.1).0) in
-    let session = subst (λ (l : List (List ℕ)). Session old l (p.replies ++ reply ∷ []) new) (sym same) (session_more old now new (asked_of p.lines) p.replies t.text reply p.session (cut.1).1) in
+lines_behind : (left left_now : Option (List ℕ)) (reader : ReaderState) (lines : List (List ℕ)) (given rest : List ℕ) → (h : Heard left left_now reader lines) → reader.ended ≡ false
+    → lines_of ((h.consumed ++ given) ++ rest) ≡ lines ++ lines_of (reader.pending ++ (given ++ rest))
+lines_behind left left_now reader lines given rest h running =
+    ap lines_of (append_assoc h.consumed given rest) ∙ h.split (given ++ rest) (λ e. absurd (true≢false (sym e ∙ running)))
+
+-- no LF is in what was read and not taken
+all_ended : (left left_now : Option (List ℕ)) (reader : ReaderState) (lines : List (List ℕ)) (given : List ℕ) → (h : Heard left left_now reader lines) → reader.ended ≡ false → HasNoLf (reader.pending ++ given)
+    → lines ≡ ended_lines (h.consumed ++ given)
+all_ended left left_now reader lines given h running one =
+    let none = lfs_none (reader.pending ++ given) one in
+    ended_whole (h.consumed ++ given) (reader.pending ++ given) lines
+    (h.split given (λ e. absurd (true≢false (sym e ∙ running))))
+    (omega (arith, lfs_append h.consumed given, h.ends running, lfs_append reader.pending given, none))
+
+-- no line came
+pub ended_without_line : (old now : World) (source : SourceState) (reader reader_after : ReaderState) (why : NoLine) → Progress old now reader → HasNoLine why now.source source reader reader_after
+    → Ended old (read_on now source) (Err (stop_without_line why))
+ended_without_line old now source reader reader_after LineFault p f =
+    let taken = p.heard.consumed ++ f.given in
+    let rest = rest_of old.source.left source.left in
+    let takes = Consumes-trans old.source.left now.source.left source.left p.heard.consumed f.given p.heard.consumes f.takes.whole in
     record {
-      input = s.input;
-      is_input = s.is_input;
-      asked = asked_of asked;
-      more = asked_of s.more;
-      requests = ap asked_of s.whole ∙ asked_more asked s.more;
-      replies = p.replies ++ reply ∷ [];
-      state = new;
-      session = session;
-      stays = stays_same new;
-      complete = session_complete old new new (asked_of asked) (p.replies ++ reply ∷ []) session (stays_same new);
-      written = text_of p.replies ++ take n line;
-      unwritten = drop n line;
-      appended = Appends-trans held held_now held_after (text_of p.replies) (take n line) p.written ((cut.2).2);
-      front = append_assoc (text_of p.replies) (take n line) (drop n line) ∙ ap (λ l. text_of p.replies ++ l) (take-append-drop n line) ∙ sym (text_more p.replies reply);
-      finished = λ w. absurd (unmet w);
+      serves = record {
+        taken = taken;
+        rest = rest;
+        takes = takes;
+        whole = rest_whole old.source.left source.left taken takes;
+        count = omega (arith, length-append p.heard.consumed f.given, p.heard.count, f.takes.count, f.fits);
+        lines = p.lines;
+        more = lines_of (reader.pending ++ (f.given ++ rest));
+        all_lines = lines_behind old.source.left now.source.left reader p.lines f.given rest p.heard f.running;
+        replies = p.replies;
+        session = p.session;
+        complete = session_complete (state_of old) (state_of now) (requests_among p.lines) p.replies p.session;
+        no_volume = λ sound. no_volume (state_of old) (state_of now) (requests_among p.lines) p.replies p.session sound;
+        written = text_of p.replies;
+        unwritten = [];
+        appends = p.written;
+        all_bytes = append-nil (text_of p.replies);
+        comes_to = all_ended old.source.left now.source.left reader p.lines f.given p.heard f.running f.one;
+        leaves = refl;
+      };
+      ends = record { serving = tt; reads = subst (λ (n : ℕ). HasRisen n source.faults) p.reads f.rises; puts = p.puts };
+    }
+ended_without_line old now source reader reader_after Limit p f =
+    let read = p.heard.consumed ++ f.given in
+    let given = f.given ++ f.past ∷ [] in
+    let taken = p.heard.consumed ++ given in
+    let rest = rest_of old.source.left source.left in
+    let takes = Consumes-trans old.source.left now.source.left source.left p.heard.consumed given p.heard.consumes f.takes.whole in
+    let long : length taken ≡ INPUT_LIMIT + 1 = omega (arith, length-append p.heard.consumed given, p.heard.count, f.takes.count, f.over) in
+    let front : take INPUT_LIMIT taken ≡ read =
+    ap (take INPUT_LIMIT) (sym (append_assoc p.heard.consumed f.given (f.past ∷ [])))
+    ∙ take_at read (f.past ∷ []) INPUT_LIMIT (omega (arith, long, length-append p.heard.consumed given, length-append f.given (f.past ∷ []), length-append p.heard.consumed f.given)) in
+    record {
+      serves = record {
+        taken = taken;
+        rest = rest;
+        takes = takes;
+        whole = rest_whole old.source.left source.left taken takes;
+        count = long;
+        lines = p.lines;
+        more = lines_of (reader.pending ++ (given ++ rest));
+        all_lines = lines_behind old.source.left now.source.left reader p.lines given rest p.heard f.running;
+        replies = p.replies;
+        session = p.session;
+        complete = session_complete (state_of old) (state_of now) (requests_among p.lines) p.replies p.session;
+        no_volume = λ sound. no_volume (state_of old) (state_of now) (requests_among p.lines) p.replies p.session sound;
+        written = text_of p.replies;
+        unwritten = [];
+        appends = p.written;
+        all_bytes = append-nil (text_of p.replies);
+        comes_to = all_ended old.source.left now.source.left reader p.lines f.given p.heard f.running f.one ∙ ap ended_lines (sym front);
+        leaves = refl;
+      };
+      ends = record { serving = tt; reads = f.steady ∙ p.reads; puts = p.puts };
+    }
+ended_without_line old now source reader reader_after NoLineMemory p f =
+    let taken = p.heard.consumed ++ f.given in
+    let rest = rest_of old.source.left source.left in
+    let takes = Consumes-trans old.source.left now.source.left source.left p.heard.consumed f.given p.heard.consumes f.takes.whole in
+    let behind = reader.pending ++ (f.given ++ rest) in
+    let some : 0 < length behind =
+    omega (arith, ap (length {A = ℕ}) (append_assoc reader.pending f.given rest), length-append (reader.pending ++ f.given) rest, f.some) in
+    record {
+      serves = record {
+        taken = taken;
+        rest = rest;
+        takes = takes;
+        whole = rest_whole old.source.left source.left taken takes;
+        count = omega (arith, length-append p.heard.consumed f.given, p.heard.count, f.takes.count, f.fits);
+        lines = p.lines;
+        more = lines_of behind;
+        all_lines = lines_behind old.source.left now.source.left reader p.lines f.given rest p.heard f.running;
+        replies = p.replies;
+        session = p.session;
+        complete = session_complete (state_of old) (state_of now) (requests_among p.lines) p.replies p.session;
+        no_volume = λ sound. no_volume (state_of old) (state_of now) (requests_among p.lines) p.replies p.session sound;
+        written = text_of p.replies;
+        unwritten = [];
+        appends = p.written;
+        all_bytes = append-nil (text_of p.replies);
+        comes_to = inr (inl (some_line behind some));
+        leaves = inl refl;
+      };
+      ends = record { serving = tt; reads = f.steady ∙ p.reads; puts = p.puts };
     }
 
-pub serves_cut : (left a b held held_now held_after : Option (List ℕ)) (old now new : Stored) (reader reader_after : ReaderState) (buffer : LineBuffer) (whole : Type 0)
-    → Progress left a held held_now old now reader → (t : TakesLine a b reader reader_after buffer) → Cut t.text held_now held_after now new → (whole → ⊥)
-    → Serves left held held_after old new whole
-serves_cut left a b held held_now held_after old now new reader reader_after buffer whole p t cut unmet =
-    cut_by left a b held held_now held_after old now new reader reader_after buffer whole p t cut unmet
+-- ---- a line that has no reply, or not a whole one
 
-pub serves_end : (left a b held held_now : Option (List ℕ)) (old now : Stored) (reader reader_after : ReaderState) (whole : Type 0) → Progress left a held held_now old now reader
-    → TakesEnd a b reader reader_after → Serves left held held_now old now whole
-serves_end left a b held held_now old now reader reader_after whole p t =
-    let s = splits_whole left a b reader reader_after p.lines p.heard t in
+reply_some : (reply : Reply) → 0 < length (reply_line reply)
+reply_some reply = omega arith
+
+cut_bytes : (replies : List Reply) (reply : Reply) (place : ℕ) → (text_of replies ++ take place (reply_line reply)) ++ drop place (reply_line reply) ≡ text_of (replies ++ reply ∷ [])
+cut_bytes replies reply place =
+    append_assoc (text_of replies) (take place (reply_line reply)) (drop place (reply_line reply))
+    ∙ ap (λ l. text_of replies ++ l) (take-append-drop place (reply_line reply)) ∙ sym (text_more replies reply)
+
+all_heard : (left left_now : Option (List ℕ)) (reader : ReaderState) (lines : List (List ℕ)) → (h : Heard left left_now reader lines)
+    → lines_of (h.consumed ++ rest_of left left_now) ≡ lines ++ lines_of (reader.pending ++ rest_of left left_now)
+all_heard left left_now reader lines h = h.split (rest_of left left_now) (λ e. rest_at_end left left_now (h.idle e).1)
+
+ended_at_fault : (old now after : World) (reader reader_after : ReaderState) (buffer : LineBuffer) → Progress old now reader → (t : TakesLine now.source after.source reader reader_after buffer)
+    → FailsInReply t.text now.sink after.sink (state_of now) (state_of after) → Ended old after (Err WriteFault)
+ended_at_fault old now after reader reader_after buffer p t f =
+    let heard = heard_line old.source.left now.source after.source reader reader_after buffer p.lines p.heard t in
+    let session = session_reply (state_of old) (state_of now) (state_of after) p.lines p.replies t.text f.reply p.session f.answers in
+    let place = f.part.0 in
     record {
-      input = s.0;
-      is_input = s.1;
-      asked = asked_of p.lines;
-      more = [];
-      requests = ap asked_of s.2 ∙ sym (append-nil (asked_of p.lines));
-      replies = p.replies;
-      state = now;
-      session = p.session;
-      stays = stays_same now;
-      complete = session_complete old now now (asked_of p.lines) p.replies p.session (stays_same now);
-      written = text_of p.replies;
-      unwritten = [];
-      appended = p.written;
-      front = append-nil (text_of p.replies);
-      finished = λ w. (refl, refl);
+      serves = record {
+        taken = heard.consumed;
+        rest = rest_of old.source.left after.source.left;
+        takes = heard.consumes;
+        whole = rest_whole old.source.left after.source.left heard.consumed heard.consumes;
+        count = omega (arith, heard.count, heard.fits);
+        lines = p.lines ++ t.text ∷ [];
+        more = lines_of (reader_after.pending ++ rest_of old.source.left after.source.left);
+        all_lines = all_heard old.source.left after.source.left reader_after (p.lines ++ t.text ∷ []) heard;
+        replies = p.replies ++ f.reply ∷ [];
+        session = session;
+        complete = session_complete (state_of old) (state_of after) (requests_among (p.lines ++ t.text ∷ [])) (p.replies ++ f.reply ∷ []) session;
+        no_volume = λ sound. no_volume (state_of old) (state_of after) (requests_among (p.lines ++ t.text ∷ [])) (p.replies ++ f.reply ∷ []) session sound;
+        written = text_of p.replies ++ take place (reply_line f.reply);
+        unwritten = drop place (reply_line f.reply);
+        appends = Appends-trans old.sink.held now.sink.held after.sink.held (text_of p.replies) (take place (reply_line f.reply)) p.written f.part.2;
+        all_bytes = cut_bytes p.replies f.reply place;
+        comes_to = tt;
+        leaves = (place, record { before = p.replies; last = f.reply; is_last = refl; within = f.part.1; rest = refl });
+      };
+      ends = record { serving = tt; reads = t.steady ∙ p.reads; puts = subst (λ (n : ℕ). HasRisen n after.sink.faults) p.puts f.rises };
     }
 
-pub ends_whole : (left a b held held_now : Option (List ℕ)) (old now : Stored) (reader reader_after : ReaderState) → Progress left a held held_now old now reader
-    → TakesEnd a b reader reader_after → IsAtEnd b × IfSome left (λ bytes. length bytes ≤ input_limit)
-ends_whole left a b held held_now old now reader reader_after p t = ((t.idle t.ended).1, within_limit left a b reader reader_after p.lines p.heard t)
+-- memory ran out, and nothing of the line's reply was written
+ended_before_reply : (old now after : World) (reader reader_after : ReaderState) (buffer : LineBuffer) → Progress old now reader → (t : TakesLine now.source after.source reader reader_after buffer)
+    → after.sink ≡ now.sink → (state_of after ≡ state_of now) ⊎ ((reply : Reply) × HasReply t.text (Some reply) (state_of now) (state_of after)) → Ended old after (Err NoMemory)
+ended_before_reply old now after reader reader_after buffer p t sink (inl stays) =
+    let heard = heard_line old.source.left now.source after.source reader reader_after buffer p.lines p.heard t in
+    let session = subst (Session (state_of old) (requests_among p.lines) p.replies) (sym stays) p.session in
+    let behind = lines_of (reader_after.pending ++ rest_of old.source.left after.source.left) in
+    record {
+      serves = record {
+        taken = heard.consumed;
+        rest = rest_of old.source.left after.source.left;
+        takes = heard.consumes;
+        whole = rest_whole old.source.left after.source.left heard.consumed heard.consumes;
+        count = omega (arith, heard.count, heard.fits);
+        lines = p.lines;
+        more = t.text ∷ behind;
+        all_lines = all_heard old.source.left after.source.left reader_after (p.lines ++ t.text ∷ []) heard ∙ append_assoc p.lines (t.text ∷ []) behind;
+        replies = p.replies;
+        session = session;
+        complete = session_complete (state_of old) (state_of after) (requests_among p.lines) p.replies session;
+        no_volume = λ sound. no_volume (state_of old) (state_of after) (requests_among p.lines) p.replies session sound;
+        written = text_of p.replies;
+        unwritten = [];
+        appends = subst (λ (s : SinkState). Appends old.sink.held s.held (text_of p.replies)) (sym sink) p.written;
+        all_bytes = append-nil (text_of p.replies);
+        comes_to = inr (inl (omega arith));
+        leaves = inl refl;
+      };
+      ends = record { serving = tt; reads = t.steady ∙ p.reads; puts = ap (λ (s : SinkState). s.faults) sink ∙ p.puts };
+    }
+ended_before_reply old now after reader reader_after buffer p t sink (inr r) =
+    let heard = heard_line old.source.left now.source after.source reader reader_after buffer p.lines p.heard t in
+    let reply = r.0 in
+    let session = session_reply (state_of old) (state_of now) (state_of after) p.lines p.replies t.text reply p.session r.1 in
+    record {
+      serves = record {
+        taken = heard.consumed;
+        rest = rest_of old.source.left after.source.left;
+        takes = heard.consumes;
+        whole = rest_whole old.source.left after.source.left heard.consumed heard.consumes;
+        count = omega (arith, heard.count, heard.fits);
+        lines = p.lines ++ t.text ∷ [];
+        more = lines_of (reader_after.pending ++ rest_of old.source.left after.source.left);
+        all_lines = all_heard old.source.left after.source.left reader_after (p.lines ++ t.text ∷ []) heard;
+        replies = p.replies ++ reply ∷ [];
+        session = session;
+        complete = session_complete (state_of old) (state_of after) (requests_among (p.lines ++ t.text ∷ [])) (p.replies ++ reply ∷ []) session;
+        no_volume = λ sound. no_volume (state_of old) (state_of after) (requests_among (p.lines ++ t.text ∷ [])) (p.replies ++ reply ∷ []) session sound;
+        written = text_of p.replies;
+        unwritten = reply_line reply;
+        appends = subst (λ (s : SinkState). Appends old.sink.held s.held (text_of p.replies)) (sym sink) p.written;
+        all_bytes = sym (text_more p.replies reply);
+        comes_to = inr (inr (reply_some reply));
+        leaves = inr (record { before = p.replies; last = reply; is_last = refl; within = omega arith; rest = refl });
+      };
+      ends = record { serving = tt; reads = t.steady ∙ p.reads; puts = ap (λ (s : SinkState). s.faults) sink ∙ p.puts };
+    }
 
-pub ends_at_limit : (left a b held held_now : Option (List ℕ)) (old now : Stored) (reader reader_after : ReaderState) → Progress left a held held_now old now reader
-    → TakesSome a b reader reader_after → input_limit < reader_after.total → IfSome left (λ bytes. input_limit < length bytes)
-ends_at_limit left a b held held_now old now reader reader_after p t over = over_limit left a b reader reader_after p.lines p.heard t over
-
--- ---- the status
-
-abbrev IsDone : Status → Type 0
-IsDone StatusOk = Unit {0}
-IsDone Usage = ⊥
-IsDone ReadFault = ⊥
-IsDone JournalFault = ⊥
-IsDone WriteFault = ⊥
-IsDone (StrangeJournal n) = ⊥
-IsDone InputLimit = ⊥
-IsDone JournalFull = ⊥
-IsDone NoMemory = ⊥
-
-pub not_done : (status : Status) → (IsDone status → ⊥) → status ≡ StatusOk → ⊥
-not_done status h same = h (subst IsDone (sym same) tt)
-
-pub cut_not_done : (put put_after : ℕ) (status : Status) → CutFor put put_after status → IsDone status → ⊥
-cut_not_done put put_after StatusOk h d = h
-cut_not_done put put_after Usage h d = h
-cut_not_done put put_after ReadFault h d = h
-cut_not_done put put_after JournalFault h d = h
-cut_not_done put put_after WriteFault h d = d
-cut_not_done put put_after (StrangeJournal n) h d = h
-cut_not_done put put_after InputLimit h d = h
-cut_not_done put put_after JournalFull h d = h
-cut_not_done put put_after NoMemory h d = d
-
-pub rose_from : (before mid now : ℕ) → before ≤ mid → Rose mid now → Rose before now
-rose_from before mid now later rose = omega arith
-
-pub ends_cut : (left left_after : Option (List ℕ)) (read read_after put put_now put_after : ℕ) (status : Status) → put ≤ put_now → CutFor put_now put_after status
-    → EndsFor left left_after read read_after put put_after status
-ends_cut left left_after read read_after put put_now put_after StatusOk later h = absurd h
-ends_cut left left_after read read_after put put_now put_after Usage later h = h
-ends_cut left left_after read read_after put put_now put_after ReadFault later h = absurd h
-ends_cut left left_after read read_after put put_now put_after JournalFault later h = h
-ends_cut left left_after read read_after put put_now put_after WriteFault later h = rose_from put put_now put_after later h
-ends_cut left left_after read read_after put put_now put_after (StrangeJournal n) later h = h
-ends_cut left left_after read read_after put put_now put_after InputLimit later h = absurd h
-ends_cut left left_after read read_after put put_now put_after JournalFull later h = h
-ends_cut left left_after read read_after put put_now put_after NoMemory later h = tt
+pub ended_without_reply : (old now after : World) (reader reader_after : ReaderState) (buffer : LineBuffer) (why : NoReply) → Progress old now reader
+    → (t : TakesLine now.source after.source reader reader_after buffer) → LacksReply why t.text now.sink after.sink (state_of now) (state_of after) → Ended old after (Err (stop_without_reply why))
+ended_without_reply old now after reader reader_after buffer Fault p t f = ended_at_fault old now after reader reader_after buffer p t f
+ended_without_reply old now after reader reader_after buffer NoReplyMemory p t f = ended_before_reply old now after reader reader_after buffer p t f.0 f.1
 
 pub took_line : (A B : Type 0) (more : Bool) → more ≡ true → MatchBool more A B → A
 took_line A B true e h = h
@@ -443,7 +647,12 @@ took_none A B false e h = h
 
 -- ---- the usage line
 
-pub tells_usage : {E : Type 0} (result : Result (Unit {0}) E) (held held_after : Option (List ℕ)) (faults faults_after : ℕ) (bytes : List ℕ) → bytes ≡ usage_line
-    → OnOk result (Appends held held_after bytes) → OnErr result (AppendsPrefix held held_after bytes) → OnErr result (Rose faults faults_after) → TellsUsage held held_after faults faults_after
-tells_usage (Ok v) held held_after faults faults_after bytes same whole part rose = inl (subst (Appends held held_after) same whole)
-tells_usage (Err e) held held_after faults faults_after bytes same whole part rose = inr (subst (AppendsPrefix held held_after) same part, rose)
+pub tells_usage : {E : Type 0} (result : Result (Unit {0}) E) (old new : SinkState) (bytes : List ℕ) → bytes ≡ usage_line
+    → OnOk result (Appends old.held new.held bytes) → OnErr result (AppendsPrefix old.held new.held bytes) → OnOk result (new.faults ≡ old.faults) → old.faults ≤ new.faults → OnErr result (Rose old.faults new.faults) → TellsUsage old new
+tells_usage (Ok v) old new bytes same whole part steady later rose = inl (subst (Appends old.held new.held) same whole, steady)
+tells_usage (Err e) old new bytes same whole part steady later rose = inr (subst (AppendsPrefix old.held new.held) same part, (later, rose))
+
+-- ---- a sound store
+
+pub serves_sound : (old new : World) (status : Status) → Serves old new status → IsTrue old.store.sound → (new.store.sound ≡ true) × (new.store.faults ≡ old.store.faults)
+serves_sound old new status s sound = session_sound (state_of old) (state_of new) (requests_among s.lines) s.replies s.session sound

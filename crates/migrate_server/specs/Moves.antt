@@ -1,16 +1,42 @@
--- A move as writes of its source disk.
-use Rattle.std.specs.Prelude.{ℕ, List, map, replicate}
-use Rattle.sector_model.specs.Sectors.{filled}
-use Rattle.sector_model.specs.Disk.{Write, fold_writes}
-use Rattle.sector_model.specs.declared.contents.Sector.{Sector}
+-- The command `move`: when it is refused, what it answers, and what it leaves of the store. It
+-- needs no machine, so the store alone says whether the name is taken, where it tells its volumes.
+use Rattle.std.specs.Prelude.{◌≡◌, ◌⊎◌, ℕ, List, length, is_some, if◌then◌else◌, Option, Some, None, IfSome, IsSomeAnd}
+use Rattle.target_volume.specs.VolumeName.{find_volume}
+use Rattle.target_volume.specs.VolumeStore.{StoreState, StoredVolume}
+use Rattle.target_volume.specs.declared.volume_name.VolumeName.{VolumeName}
+use Rattle.target_volume.specs.declared.volume_name.VolumeName.TheVariants.{Given}
+use Rattle.migrate_server.specs.NewVolume.{with_new_volume, copied_volume, FailsInCopy}
+use Rattle.migrate_server.specs.WrittenDisk.{written_disk}
 use Rattle.migrate_server.specs.declared.command.MoveWrite.{MoveWrite}
+use Rattle.migrate_server.specs.declared.reply.Refusal.{Refusal}
+use Rattle.migrate_server.specs.declared.reply.Refusal.TheVariants.{NameTaken}
+use Rattle.migrate_server.specs.declared.reply.Reply.{Reply}
+use Rattle.migrate_server.specs.declared.reply.Reply.TheVariants.{Moved}
 
-abbrev pub disk_write : MoveWrite → Write
-disk_write w = record { first = w.first; sectors = replicate w.count (filled w.fill) }
+abbrev pub name_refusal : (name : List ℕ) → List (VolumeName × StoredVolume) → Option Refusal
+name_refusal name volumes =
+    if is_some (find_volume (Given name) volumes) then Some NameTaken else None
 
-abbrev pub disk_writes : List MoveWrite → List Write
-disk_writes writes = map disk_write writes
+-- the name is taken, or nothing refuses the move; a store that tells its volumes says which of them
+abbrev pub MoveRefusal : (name : List ℕ) → Option Refusal → StoreState → Type 0
+MoveRefusal name refusal store = ((refusal ≡ None) ⊎ (refusal ≡ Some NameTaken))
+    × IfSome store.volumes (λ volumes. refusal ≡ name_refusal name volumes)
 
--- what the source disk of a move holds: the fold of its writes
-abbrev pub source_of : ℕ → List MoveWrite → List Sector
-source_of sectors writes = fold_writes sectors (disk_writes writes)
+abbrev pub move_reply : (sectors : ℕ) → List MoveWrite → Reply
+move_reply sectors writes = Moved (length writes) sectors
+
+-- the volume of a move: its disk is what the writes leave of one of zeros
+abbrev pub moved_volume : (sectors : ℕ) → List MoveWrite → StoredVolume
+moved_volume sectors writes = copied_volume (written_disk sectors writes) sectors
+
+abbrev pub after_move : (name : List ℕ) (sectors : ℕ) → List MoveWrite → StoreState → StoreState
+after_move name sectors writes store =
+    with_new_volume (Given name) (moved_volume sectors writes) store
+
+abbrev pub MoveFails : (name : List ℕ) (sectors : ℕ) (old new : StoreState) → Type 0
+MoveFails name sectors old new = FailsInCopy (Given name) sectors old new
+
+-- the volume of the move is in the store
+abbrev pub HasMoved : (name : List ℕ) (sectors : ℕ) → List MoveWrite → StoreState → Type 0
+HasMoved name sectors writes store = IsSomeAnd store.volumes
+    (λ volumes. find_volume (Given name) volumes ≡ Some (moved_volume sectors writes))

@@ -1,10 +1,10 @@
-//! The commands, and what a line can be.
+//! The commands.
 ghost use Rattle.std.specs.Prelude.{◌≡◌};
 
+use basics::Name;
 use std::marker::Model;
-use target_volume::Name;
 
-/// A write of a move: `count` sectors from `first` on, all bytes of which are `fill`.
+/// A write of a move: `count` sectors from sector `first` on, all bytes of which are `fill`.
 #[derive(Clone, Copy, Debug, PartialEq, Eq)]
 pub(crate) struct MoveWrite {
     pub first: u64,
@@ -44,21 +44,10 @@ impl MoveWrites {
 /// What a client asks for.
 #[derive(Debug, Drop)]
 pub(crate) enum Command {
-    /// Fill a fresh source disk of so many sectors by the writes, and copy it to a volume of that name.
+    /// Apply the writes to a fresh disk of so many sectors, and copy it to a volume of that name.
     Move {
         name: Name,
         sectors: u64,
         writes: MoveWrites,
     },
-}
-
-/// What a line is.
-#[derive(Debug, Drop)]
-pub(crate) enum Line {
-    /// Nothing that has a reply.
-    Blank,
-    /// A command.
-    Asks(Command),
-    /// Anything else.
-    Unknown,
 }

@@ -1,24 +1,27 @@
 //! The server of migrations: it reads commands, one JSON value a line, and writes a reply for each.
 #![tactic(auto)]
 
-ghost use Rattle.std.specs.Prelude.{◌≡◌, ◌<◌, ◌↔◌, length};
-ghost use Rattle.migrate_server.specs.Session.{Serves};
-ghost use Rattle.migrate_server.specs.Ends.{EndsFor, TellsUsage};
+ghost use Rattle.std.specs.Prelude.{◌≡◌, ◌<◌, ◌↔◌, length, IsTrue};
+ghost use Rattle.migrate_server.specs.World.{world_of};
+ghost use Rattle.migrate_server.specs.Serve.{status_of};
+ghost use Rattle.migrate_server.specs.Serves.{Serves};
+ghost use Rattle.migrate_server.specs.EndsFor.{EndsFor, TellsUsage};
 
 mod command;
 mod copy;
+mod line;
 mod line_buffer;
 mod moves;
 mod parse;
 mod reader;
 mod reply;
 mod serve;
-mod source;
 mod status;
 #[cfg(test)]
 mod tests;
+mod written_disk;
 
-use crate::serve::serve;
+use crate::serve::{Stop, serve};
 use edge_traits::{Disk, Sink, Source};
 pub use status::Status;
 use std::alloc::Global;
@@ -27,10 +30,12 @@ use target_volume::VolumeStore;
 /// The line that is written where the words are none that the program takes.
 const USAGE: &str = "usage: warm_migrate [--limit N] [--rig N]\n";
 
-/// What the migrations of a process stand on: the disk of its journal, and the store of the target volumes.
+/// What the migrations of a process stand on.
 #[derive(Debug, Drop)]
 pub struct Devices<D, T> {
+    /// Where the journal is kept.
     pub disk: D,
+    /// The store of the target volumes.
     pub volumes: T,
 }
 
@@ -51,17 +56,26 @@ pub trait Gate {}
 /// How a run ended, and all that it was given.
 #[derive(Debug, Drop)]
 pub struct Outcome<D, T> {
+    /// How it ended.
     pub status: Status,
+    /// The disk of the devices.
     pub disk: D,
+    /// The store of the devices.
     pub volumes: T,
+    /// The fleet, as it was given.
     pub fleet: Fleet,
 }
 
-/// Serves the commands of an input until its end: one reply for each line that isn't blank, by one `put`.
+/// Serves the commands of an input until its end: one reply for each line that isn't blank, which
+/// is put before the next byte is read.
 ///
-/// A line has at most 2^20 bytes, and an input at most 2^28. There are no words that it takes: with any it writes the
-/// usage line, and the status is `Usage`. `ReadFault` comes only where the input failed, `WriteFault` only where `out`
-/// did, and `InputLimit` only where the input is too long. The devices and the fleet come back with every status.
+/// A line has at most 2^20 bytes, and an input at most 2^28. There are no words that it takes: with
+/// any it writes the usage line, and the status is [`Status::Usage`]. [`Status::ReadFault`] comes
+/// only where the input failed, [`Status::WriteFault`] only where `out` did, and
+/// [`Status::InputLimit`] only where one byte comes past the limit. With [`Status::NoMemory`] the
+/// line that met it has no reply, and may have been carried out. A move is refused as `volume` only
+/// where the store failed in it, which a sound store doesn't. Whatever the status is, the outcome
+/// has the devices and the fleet.
 pub fn migrate<R, S: Source, K: Sink, D: Disk, T: VolumeStore, G: Gate>(
     _rt: &R,
     alloc: Global,
@@ -73,21 +87,31 @@ pub fn migrate<R, S: Source, K: Sink, D: Disk, T: VolumeStore, G: Gate>(
     _gate: &G,
 ) -> Outcome<D, T>
     ensures usage { (result.status ≡ Status.Usage) ↔ (0 < length words.now) }
-    ensures told { 0 < length words.now → TellsUsage (K.held out.old) (K.held out.new) (K.faults out.old) (K.faults out.new) }
-    ensures untouched { 0 < length words.now → (input.new ≡ input.old) × (result.volumes ≡ devices.volumes) }
-    ensures served { length words.now ≡ 0 → Serves (S.left input.old) (K.held out.old) (K.held out.new)
-        (record { volumes = T.volumes devices.volumes; loans = T.loans devices.volumes; faults = T.faults devices.volumes })
-        (record { volumes = T.volumes result.volumes; loans = T.loans result.volumes; faults = T.faults result.volumes })
-        (result.status ≡ Status.Ok) }
-    ensures ends { length words.now ≡ 0 → EndsFor (S.left input.old) (S.left input.new) (S.faults input.old) (S.faults input.new) (K.faults out.old) (K.faults out.new) result.status }
+    ensures told { 0 < length words.now → TellsUsage (K.state out.old) (K.state out.new) }
+    ensures untouched { 0 < length words.now
+        → (input.new ≡ input.old) × (result.volumes ≡ devices.volumes) }
+    ensures served { length words.now ≡ 0 → Serves
+        (world_of (S.state input.old) (K.state out.old)
+        (D.state devices.disk) (T.state devices.volumes))
+        (world_of (S.state input.new) (K.state out.new)
+        (D.state result.disk) (T.state result.volumes)) result.status }
+    ensures ends { length words.now ≡ 0 → EndsFor
+        (world_of (S.state input.old) (K.state out.old)
+        (D.state devices.disk) (T.state devices.volumes))
+        (world_of (S.state input.new) (K.state out.new)
+        (D.state result.disk) (T.state result.volumes)) result.status }
+    ensures sound { IsTrue (T.state devices.volumes).sound
+        → IsTrue (T.state result.volumes).sound
+        × ((T.state result.volumes).faults ≡ (T.state devices.volumes).faults) }
     ensures same { (result.disk ≡ devices.disk) × (result.fleet ≡ fleet) }
 {
-    let Devices { disk, mut volumes } = devices;
+    let mut devices = devices;
     let status = if words.is_empty() {
-        serve(alloc, input, out, &mut volumes)
+        status_of(serve(alloc, input, out, &mut devices))
     } else {
         refuse_words(out)
     };
+    let Devices { disk, volumes } = devices;
     Outcome {
         status,
         disk,
@@ -96,10 +120,23 @@ pub fn migrate<R, S: Source, K: Sink, D: Disk, T: VolumeStore, G: Gate>(
     }
 }
 
+/// The status of a run whose input was served so.
+fn status_of(served: Result<(), Stop>) -> Status
+    ensures { result ≡ status_of served }
+{
+    match served {
+        Ok(()) => Status::Ok,
+        Err(Stop::ReadFault) => Status::ReadFault,
+        Err(Stop::WriteFault) => Status::WriteFault,
+        Err(Stop::InputLimit) => Status::InputLimit,
+        Err(Stop::NoMemory) => Status::NoMemory,
+    }
+}
+
 /// Writes the usage line. The status is `Usage` also where that fails.
 fn refuse_words<K: Sink>(out: &mut K) -> Status
     ensures status { result ≡ Status.Usage }
-    ensures told { TellsUsage (K.held out.old) (K.held out.new) (K.faults out.old) (K.faults out.new) }
+    ensures told { TellsUsage (K.state out.old) (K.state out.new) }
 {
     let _ = out.put(USAGE.as_bytes());
     Status::Usage

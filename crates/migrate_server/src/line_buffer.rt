@@ -1,8 +1,9 @@
 //! A line while it is read.
-ghost use Rattle.std.specs.Prelude.{◌≡◌, ◌≤◌, ◌++◌, ◌==◌, List, ℕ, [], length, OnOk};
+ghost use Rattle.std.specs.Prelude.{◌≡◌, ◌<◌, ◌≤◌, ◌++◌, ◌==◌, List, ℕ, [], length, OnOk, OnErr};
+ghost use Rattle.migrate_server.specs.declared.line.TheConstants.{LINE_LIMIT};
 
-use crate::parse::LINE_LIMIT;
-use sector_model::NoMemory;
+use crate::line::LINE_LIMIT;
+use basics::NoMemory;
 use std::alloc::Global;
 
 /// A line as far as it was read. Of one that is too long only that is kept.
@@ -10,11 +11,11 @@ use std::alloc::Global;
 pub(crate) struct LineBuffer {
     bytes: Vec<u8>,
     is_long: bool,
-    ghost within: { length bytes.items ≤ 1048576 },
+    ghost within: { length bytes.items ≤ LINE_LIMIT },
 }
 
 impl LineBuffer {
-    ghost use Rattle.migrate_server.specs.Reading.{Holds};
+    ghost use Rattle.migrate_server.specs.LineBuffer.{Holds};
 
     pub(crate) fn new(alloc: Global) -> LineBuffer
         ensures { Holds result [] }
@@ -35,7 +36,7 @@ impl LineBuffer {
     /// The bytes of a line that isn't too long.
     pub(crate) fn as_slice(&self) -> &[u8]
         ensures bytes { result.now ≡ self.now.bytes.items }
-        ensures within { length result.now ≤ 1048576 }
+        ensures within { length result.now ≤ LINE_LIMIT }
     {
         self.bytes.as_slice()
     }
@@ -53,13 +54,15 @@ impl LineBuffer {
         self.is_long = false;
     }
 
-    /// Adds a part of the line.
+    /// Adds a part of the line. It answers only want of memory, and that for no empty part.
     pub(crate) fn push(&mut self, part: &[u8]) -> Result<(), NoMemory>
-        ensures { OnOk result ((line : List ℕ) → Holds self.old line → Holds self.new (line ++ part.now)) }
+        ensures added { OnOk result ((line : List ℕ) → Holds self.old line
+            → Holds self.new (line ++ part.now)) }
+        ensures some { OnErr result (0 < length part.now) }
     {
         if self.is_long || part.len() > LINE_LIMIT - self.bytes.len().min(LINE_LIMIT) {
             self.is_long = true;
-        } else {
+        } else if !part.is_empty() {
             self.bytes.extend_from_slice(part)?;
         }
         Ok(())

@@ -1,23 +1,22 @@
-//! A move: a fresh source disk, copied in full to a fresh volume.
+//! A move: a fresh disk, written as the line says, and copied in full to a fresh volume.
 ghost use Rattle.std.specs.Prelude.{◌≡◌, ◌+◌, ◌≤◌, All, IfOk, OnErr, length};
-ghost use Rattle.target_volume.specs.Faults.{Rose};
-ghost use Rattle.target_volume.specs.declared.names.VolumeName.{VolumeName};
-ghost use Rattle.sector_model.specs.Areas.{AreSpaced, end_of};
-ghost use Rattle.migrate_server.specs.Copies.{IsClearOutside};
-ghost use Rattle.migrate_server.specs.Session.{MoveAnswers};
-ghost use Rattle.migrate_server.specs.States.{Stays};
-ghost use Rattle.migrate_server.specs.Fills.{FillAnswers};
+ghost use Rattle.sector_model.specs.Run.{AreSpaced, end_of};
+ghost use Rattle.migrate_server.specs.Copy.{IsClearOutside};
+ghost use Rattle.migrate_server.specs.NewVolume.{CopyAnswers};
+ghost use Rattle.migrate_server.specs.Session.{serving, Answers};
+ghost use Rattle.migrate_server.specs.declared.command.Command.TheVariants.{Move};
 
 use crate::command::MoveWrite;
 use crate::copy::copy_full;
 use crate::reply::{Refusal, Reply};
-use crate::source::{touched_areas, written_sectors};
-use sector_model::{NoMemory, Runs, Sector};
+use crate::written_disk::{touched_areas, written_sectors};
+use basics::{Name, NoMemory};
+use sector_model::{Runs, Sector};
 use std::alloc::Global;
-use target_volume::{Name, StoreRefused, VolumeName, VolumeStore};
+use target_volume::{StoreRefused, VolumeName, VolumeStore};
 
-/// Fills a fresh source disk by the writes and copies it to a fresh volume of that name. It answers only want of
-/// memory, and has then changed nothing.
+/// Applies the writes to a fresh disk, and copies it to a fresh volume of that name. It answers
+/// only want of memory, and has then changed nothing.
 pub(crate) fn run_move<T: VolumeStore>(
     alloc: Global,
     name: Name,
@@ -26,17 +25,14 @@ pub(crate) fn run_move<T: VolumeStore>(
     store: &mut T,
 ) -> Result<Reply, NoMemory>
     requires { All (λ w. w.first + w.count ≤ sectors) writes.now }
-    ensures reply { IfOk result (λ reply. MoveAnswers name sectors writes.now reply
-        (record { volumes = T.volumes store.old; loans = T.loans store.old; faults = T.faults store.old })
-        (record { volumes = T.volumes store.new; loans = T.loans store.new; faults = T.faults store.new })) }
-    ensures err { OnErr result (Stays
-        (record { volumes = T.volumes store.old; loans = T.loans store.old; faults = T.faults store.old })
-        (record { volumes = T.volumes store.new; loans = T.loans store.new; faults = T.faults store.new })) }
+    ensures reply { IfOk result (λ reply. Answers (Move name sectors writes.now) reply
+        (serving (T.state store.old)) (serving (T.state store.new))) }
+    ensures err { OnErr result (T.state store.new ≡ T.state store.old) }
 {
-    let source = written_sectors(alloc, sectors, writes)?;
+    let disk = written_sectors(alloc, sectors, writes)?;
     let allocated = touched_areas(alloc, sectors, writes)?;
     let name = VolumeName::Given(name);
-    match fill_volume(&source, &allocated, &name, sectors, store) {
+    match copy_to_new_volume(&disk, &allocated, &name, sectors, store) {
         Ok(()) => Ok(Reply::Moved {
             writes: writes.len() as u64,
             written: sectors,
@@ -47,24 +43,23 @@ pub(crate) fn run_move<T: VolumeStore>(
     }
 }
 
-/// Makes a volume, copies the source to it, and gives it back to the store, also where the copy failed.
-fn fill_volume<T: VolumeStore>(
-    source: &[Sector],
+/// Makes a volume, copies the disk to it, and gives it back to the store, also where the copy
+/// failed.
+fn copy_to_new_volume<T: VolumeStore>(
+    disk: &[Sector],
     allocated: &Runs,
     name: &VolumeName,
     sectors: u64,
     store: &mut T,
 ) -> Result<(), StoreRefused>
-    requires sized { length source.now ≡ sectors }
+    requires sized { length disk.now ≡ sectors }
     requires spaced { AreSpaced allocated.now }
     requires inside { All (λ run. end_of run ≤ sectors) allocated.now }
-    requires clear { IsClearOutside allocated.now source.now }
-    ensures { FillAnswers source.now name.now sectors result
-        (record { volumes = T.volumes store.old; loans = T.loans store.old; faults = T.faults store.old })
-        (record { volumes = T.volumes store.new; loans = T.loans store.new; faults = T.faults store.new }) }
+    requires clear { IsClearOutside allocated.now disk.now }
+    ensures { CopyAnswers disk.now name.now sectors result (T.state store.old) (T.state store.new) }
 {
     let mut volume = store.create(name, sectors)?;
-    let copied = copy_full(source, allocated, &mut volume);
+    let copied = copy_full(disk, allocated, &mut volume);
     store.keep_back(volume);
     copied?;
     Ok(())

@@ -1,73 +1,30 @@
-//! What a line asks for.
+//! What a JSON value asks for.
 ghost use Rattle.std.specs.Prelude.{◌≡◌, ◌+◌, ◌-◌, ◌≤◌, ◌^◌, min, true, All, length, IfOk, IfSome, option_map, nat_le, string_bytes};
 ghost use Rattle.std.specs.BTreeMap.{keys};
 ghost use Rattle.std.specs.List.{list_all, list_any, sum_by};
 ghost use Rattle.std.specs.Str.{bytes_eq};
 ghost use Rattle.serde_json.specs.View.{view, items_view, members_view};
-ghost use Rattle.migrate_server.specs.Commands.{is_name, is_name_byte, name_of, number_of, write_of, write_of_items, write_of_three, writes_of, are_within, has_only, move_members, move_of, command_of};
-ghost use Rattle.migrate_server.specs.Lines.{is_space, is_blank, Means, IsSoundLine, IsSoundCommand};
+ghost use Rattle.migrate_server.specs.Parse.{is_name, is_name_byte, name_of, number_of, write_of, write_of_items, write_of_three, writes_of, are_within, has_only, move_members, move_of, command_of};
+ghost use Rattle.migrate_server.specs.Line.{FitsDisk};
 
-use crate::command::{Command, Line, MoveWrite, MoveWrites};
-use sector_model::NoMemory;
+use crate::command::{Command, MoveWrite, MoveWrites};
+use basics::{MAX_NAME_BYTES, Name, NoMemory};
 use serde_json::{Map, Value};
 use std::alloc::Global;
-use target_volume::Name;
 
-/// The most bytes of a line.
-pub(crate) const LINE_LIMIT: usize = 1 << 20;
+/// The most sectors of a disk: 256 GiB.
+const MOST_DISK_SECTORS: u64 = 1 << 29;
 
-/// The most sectors of a disk.
-const DISK_LIMIT: u64 = 1 << 29;
+/// The most sectors of a write: 64 KiB.
+const MOST_SECTORS: u64 = 128;
 
-/// The most sectors of a write, and of all writes of a move.
-const WRITE_LIMIT: u64 = 128;
-
-const WRITTEN_LIMIT: u64 = 1 << 16;
-
-/// Says what a line is. It answers only want of memory.
-pub(crate) fn read_line(alloc: Global, line: &[u8]) -> Result<Line, NoMemory>
-    requires { length line.now ≤ 1048576 }
-    ensures means { IfOk result (Means line.now) }
-    ensures sound { IfOk result IsSoundLine }
-{
-    if is_blank(line) {
-        return Ok(Line::Blank);
-    }
-    let value = match Value::from_slice(alloc, line) {
-        Ok(value) => value,
-        Err(error) if error.is_memory() => return Err(NoMemory),
-        Err(_) => return Ok(Line::Unknown),
-    };
-    match read_command(alloc, &value)? {
-        Some(command) => Ok(Line::Asks(command)),
-        None => Ok(Line::Unknown),
-    }
-}
-
-/// Whether all bytes are spaces, tabs and CRs.
-fn is_blank(line: &[u8]) -> bool
-    requires { length line.now ≤ 1048576 }
-    ensures { result ≡ is_blank line.now }
-{
-    all_spaces(line)
-}
-
-fn all_spaces(bytes: &[u8]) -> bool
-    ensures { result ≡ list_all is_space bytes.now }
-{
-    bytes.iter().all(|byte| is_space(*byte))
-}
-
-fn is_space(byte: u8) -> bool
-    ensures { result ≡ is_space byte }
-{
-    byte == b' ' || byte == b'\t' || byte == b'\r'
-}
+/// The most sectors of all writes of a move in sum: 32 MiB.
+const MOST_WRITTEN: u64 = 1 << 16;
 
 /// The command that a value spells, if it does.
-fn read_command(alloc: Global, value: &Value) -> Result<Option<Command>, NoMemory>
+pub(crate) fn read_command(alloc: Global, value: &Value) -> Result<Option<Command>, NoMemory>
     ensures command { IfOk result (λ command. command ≡ command_of (view value.now)) }
-    ensures sound { IfOk result (λ command. IfSome command IsSoundCommand) }
+    ensures sound { IfOk result (λ command. IfSome command FitsDisk) }
 {
     match value.get("cmd").and_then(Value::as_str) {
         Some(name) if name == "move" => read_move(alloc, value),
@@ -78,7 +35,7 @@ fn read_command(alloc: Global, value: &Value) -> Result<Option<Command>, NoMemor
 /// The move that a value spells, if it does.
 fn read_move(alloc: Global, value: &Value) -> Result<Option<Command>, NoMemory>
     ensures command { IfOk result (λ command. command ≡ move_of (view value.now)) }
-    ensures sound { IfOk result (λ command. IfSome command IsSoundCommand) }
+    ensures sound { IfOk result (λ command. IfSome command FitsDisk) }
 {
     let Some(name) = value.get("name").and_then(name_of) else {
         return Ok(None);
@@ -106,7 +63,8 @@ fn read_move(alloc: Global, value: &Value) -> Result<Option<Command>, NoMemory>
 /// The text of a value that is a name: 1 to 32 bytes of `a` to `z`, `0` to `9` and `-`.
 fn name_of(value: &Value) -> Option<&str>
     ensures name { option_map (λ text. text.now) result ≡ name_of (view value.now) }
-    ensures length { IfSome result (λ text. (1 ≤ length text.now) × (length text.now ≤ 32)) }
+    ensures length { IfSome result (λ text.
+        (1 ≤ length text.now) × (length text.now ≤ MAX_NAME_BYTES)) }
 {
     let text = value.as_str()?;
     if is_name(text) { Some(text) } else { None }
@@ -115,7 +73,7 @@ fn name_of(value: &Value) -> Option<&str>
 fn is_name(text: &str) -> bool
     ensures { result ≡ is_name text.now }
 {
-    1 <= text.len() && text.len() <= 32 && all_name_bytes(text.as_bytes())
+    1 <= text.len() && text.len() <= MAX_NAME_BYTES && all_name_bytes(text.as_bytes())
 }
 
 fn all_name_bytes(bytes: &[u8]) -> bool
@@ -143,14 +101,15 @@ fn number_of(value: &Value, low: u64, high: u64) -> Option<u64>
 }
 
 fn sectors_of(value: &Value) -> Option<u64>
-    ensures { result ≡ number_of 1 (2 ^ 29) (view value.now) }
+    ensures { result ≡ number_of 1 MOST_DISK_SECTORS (view value.now) }
 {
-    number_of(value, 1, DISK_LIMIT)
+    number_of(value, 1, MOST_DISK_SECTORS)
 }
 
 /// The writes of a list, if each of its items is one.
 fn writes_of(alloc: Global, items: &[Value]) -> Result<Option<Vec<MoveWrite>>, NoMemory>
-    ensures { IfOk result (λ found. option_map (λ writes. writes.items) found ≡ writes_of (items_view items.now)) }
+    ensures { IfOk result (λ found.
+        option_map (λ writes. writes.items) found ≡ writes_of (items_view items.now)) }
 {
     let mut writes = Vec::new(alloc);
     for item in items {
@@ -182,7 +141,7 @@ fn write_of_three(first: &Value, count: &Value, fill: &Value) -> Option<MoveWrit
     ensures { result ≡ write_of_three (view first.now) (view count.now) (view fill.now) }
 {
     let first = number_of(first, 0, u64::MAX)?;
-    let count = number_of(count, 1, WRITE_LIMIT)?;
+    let count = number_of(count, 1, MOST_SECTORS)?;
     let fill = number_of(fill, 0, 255)?;
     Some(MoveWrite {
         first,
@@ -196,7 +155,7 @@ fn are_within(sectors: u64, writes: &[MoveWrite]) -> bool
     ensures value { result ≡ are_within sectors writes.now }
     ensures within { result ≡ true → All (λ w. w.first + w.count ≤ sectors) writes.now }
 {
-    all_end_by(sectors, writes) && written_by(writes) <= WRITTEN_LIMIT
+    all_end_by(sectors, writes) && written_by(writes) <= MOST_WRITTEN
 }
 
 fn all_end_by(sectors: u64, writes: &[MoveWrite]) -> bool
@@ -234,7 +193,9 @@ fn has_only_move_members(value: &Value) -> bool
 }
 
 fn are_move_members(members: &Map<String, Value>) -> bool
-    ensures { result ≡ list_all (λ name. list_any (bytes_eq (string_bytes name)) move_members) (keys members.now) }
+    ensures { result
+        ≡ list_all (λ name. list_any (bytes_eq (string_bytes name)) move_members)
+            (keys members.now) }
 {
     members.keys().all(|name| is_move_member(name.as_str()))
 }

@@ -1,8 +1,8 @@
 //! The replies, and their text.
 ghost use Rattle.std.specs.Prelude.{◌≡◌, IfOk, string_bytes};
-ghost use Rattle.migrate_server.specs.Replies.{refusal_text, reply_line};
+ghost use Rattle.migrate_server.specs.Reply.{refusal_text, reply_line};
 
-use sector_model::NoMemory;
+use basics::NoMemory;
 use std::alloc::Global;
 
 /// Why a command was refused.
@@ -31,7 +31,7 @@ impl Refusal {
 /// What is answered to a line.
 #[derive(Clone, Copy, Debug, PartialEq, Eq)]
 pub(crate) enum Reply {
-    /// A move is complete: how many writes its source had, and how many sectors were written to its volume.
+    /// A move is complete: how many writes it had, and how many sectors were written to its volume.
     Moved { writes: u64, written: u64 },
     /// The command was refused.
     Refused(Refusal),

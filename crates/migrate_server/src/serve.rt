@@ -1,118 +1,172 @@
 //! The lines of an input, answered one after another.
-ghost use Rattle.std.specs.Prelude.{◌≡◌, ◌≤◌, ℕ, List, IfOk, OnOk, OnErr, IfErr};
-ghost use Rattle.migrate_server.specs.Reading.{Holds};
-ghost use Rattle.migrate_server.specs.States.{Stays};
-ghost use Rattle.migrate_server.specs.Session.{Serves, CommandAnswers};
-ghost use Rattle.migrate_server.specs.Lines.{IsSoundCommand};
-ghost use Rattle.migrate_server.specs.Answers.{Answers, Told, Cut, CutFor};
-ghost use Rattle.migrate_server.specs.Ends.{EndsFor};
+ghost use Rattle.std.specs.Prelude.{◌≡◌, ℕ, List, IfOk, OnOk, OnErr, IfErr, length};
+ghost use Rattle.migrate_server.specs.LineBuffer.{Holds};
+ghost use Rattle.migrate_server.specs.Line.{FitsDisk};
+ghost use Rattle.migrate_server.specs.Session.{serving, Answers};
+ghost use Rattle.migrate_server.specs.Serve.{HasReply, ServesLine, LacksReply, status_of};
+ghost use Rattle.migrate_server.specs.World.{world_of};
+ghost use Rattle.migrate_server.specs.Serves.{Serves};
+ghost use Rattle.migrate_server.specs.EndsFor.{EndsFor};
 
-use crate::command::{Command, Line};
+use crate::Devices;
+use crate::command::Command;
+use crate::line::{Line, read_line};
 use crate::line_buffer::LineBuffer;
 use crate::moves::run_move;
-use crate::parse::read_line;
-use crate::reader::{LineReader, Stop};
+use crate::reader::{LineReader, NoLine};
 use crate::reply::{Refusal, Reply};
-use crate::status::Status;
-use edge_traits::{Sink, Source};
-use sector_model::NoMemory;
+use basics::NoMemory;
+use edge_traits::{Disk, Sink, Source};
 use std::alloc::Global;
 use target_volume::VolumeStore;
 
-/// Answers the lines of an input until it ends, or until something stops it.
-pub(crate) fn serve<S: Source, K: Sink, T: VolumeStore>(
-    alloc: Global,
-    input: &mut S,
-    out: &mut K,
-    store: &mut T,
-) -> Status
-    ensures served { Serves (S.left input.old) (K.held out.old) (K.held out.new)
-        (record { volumes = T.volumes store.old; loans = T.loans store.old; faults = T.faults store.old })
-        (record { volumes = T.volumes store.new; loans = T.loans store.new; faults = T.faults store.new })
-        (result ≡ Status.Ok) }
-    ensures ends { EndsFor (S.left input.old) (S.left input.new) (S.faults input.old) (S.faults input.new) (K.faults out.old) (K.faults out.new) result }
-{
-    let Ok(mut reader) = LineReader::new(alloc) else {
-        return Status::NoMemory;
-    };
-    let mut line = LineBuffer::new(alloc);
-    loop {
-        match reader.next(&mut line, input) {
-            Ok(true) => {}
-            Ok(false) => return Status::Ok,
-            Err(Stop::Fault) => return Status::ReadFault,
-            Err(Stop::Limit) => return Status::InputLimit,
-            Err(Stop::NoMemory) => return Status::NoMemory,
-        }
-        if let Err(status) = serve_line(alloc, &line, out, store) {
-            return status;
+/// Why the serving of an input stopped before its end.
+#[derive(Clone, Copy, Debug, PartialEq, Eq)]
+pub(crate) enum Stop {
+    /// The source failed.
+    ReadFault,
+    /// The sink failed.
+    WriteFault,
+    /// The input goes on past its limit.
+    InputLimit,
+    /// Memory ran out.
+    NoMemory,
+}
+
+impl From<NoLine> for Stop {
+    ghost use Rattle.std.specs.Prelude.{◌≡◌};
+    ghost use Rattle.migrate_server.specs.Serve.{stop_without_line};
+
+    ghost from_gives = { λ why stop. stop ≡ stop_without_line why };
+
+    fn from(why: NoLine) -> Stop {
+        match why {
+            NoLine::Fault => Stop::ReadFault,
+            NoLine::Limit => Stop::InputLimit,
+            NoLine::NoMemory => Stop::NoMemory,
         }
     }
 }
 
-/// Answers a line, and writes the reply by one `put`.
+/// Why a line has no reply, or not a whole one.
+#[derive(Clone, Copy, Debug, PartialEq, Eq)]
+pub(crate) enum NoReply {
+    /// The sink failed.
+    Fault,
+    /// Memory ran out.
+    NoMemory,
+}
+
+impl From<NoMemory> for NoReply {
+    ghost use Rattle.std.specs.Prelude.{◌≡◌};
+    ghost use Rattle.migrate_server.specs.declared.serve.NoReply.TheVariants.{NoMemory};
+
+    ghost from_gives = { λ _ why. why ≡ NoMemory };
+
+    fn from(_refused: NoMemory) -> NoReply {
+        NoReply::NoMemory
+    }
+}
+
+impl From<NoReply> for Stop {
+    ghost use Rattle.std.specs.Prelude.{◌≡◌};
+    ghost use Rattle.migrate_server.specs.Serve.{stop_without_reply};
+
+    ghost from_gives = { λ why stop. stop ≡ stop_without_reply why };
+
+    fn from(why: NoReply) -> Stop {
+        match why {
+            NoReply::Fault => Stop::WriteFault,
+            NoReply::NoMemory => Stop::NoMemory,
+        }
+    }
+}
+
+/// Answers the lines of an input until it ends, or until something stops it.
+pub(crate) fn serve<S: Source, K: Sink, D: Disk, T: VolumeStore>(
+    alloc: Global,
+    input: &mut S,
+    out: &mut K,
+    devices: &mut Devices<D, T>,
+) -> Result<(), Stop>
+    ensures served { Serves
+        (world_of (S.state input.old) (K.state out.old)
+        (D.state devices.old.disk) (T.state devices.old.volumes))
+        (world_of (S.state input.new) (K.state out.new)
+        (D.state devices.new.disk) (T.state devices.new.volumes))
+        (status_of result) }
+    ensures ends { EndsFor
+        (world_of (S.state input.old) (K.state out.old)
+        (D.state devices.old.disk) (T.state devices.old.volumes))
+        (world_of (S.state input.new) (K.state out.new)
+        (D.state devices.new.disk) (T.state devices.new.volumes))
+        (status_of result) }
+    ensures disk { devices.new.disk ≡ devices.old.disk }
+{
+    let Ok(mut reader) = LineReader::new(alloc) else {
+        return Err(Stop::NoMemory);
+    };
+    let mut line = LineBuffer::new(alloc);
+    loop {
+        if !reader.next(&mut line, input)? {
+            return Ok(());
+        }
+        serve_line(alloc, &line, out, &mut devices.volumes)?;
+    }
+}
+
+/// Answers a line, and puts the reply.
 fn serve_line<K: Sink, T: VolumeStore>(
     alloc: Global,
     line: &LineBuffer,
     out: &mut K,
     store: &mut T,
-) -> Result<(), Status>
-    ensures told { OnOk result ((text : List ℕ) → Holds line.now text → Told text (K.held out.old) (K.held out.new)
-        (record { volumes = T.volumes store.old; loans = T.loans store.old; faults = T.faults store.old })
-        (record { volumes = T.volumes store.new; loans = T.loans store.new; faults = T.faults store.new })) }
-    ensures cut { OnErr result ((text : List ℕ) → Holds line.now text → Cut text (K.held out.old) (K.held out.new)
-        (record { volumes = T.volumes store.old; loans = T.loans store.old; faults = T.faults store.old })
-        (record { volumes = T.volumes store.new; loans = T.loans store.new; faults = T.faults store.new })) }
-    ensures cause { IfErr result (CutFor (K.faults out.old) (K.faults out.new)) }
-    ensures later { K.faults out.old ≤ K.faults out.new }
+) -> Result<(), NoReply>
+    ensures served { OnOk result ((text : List ℕ) → Holds line.now text
+        → ServesLine text (K.state out.old) (K.state out.new)
+        (serving (T.state store.old)) (serving (T.state store.new))) }
+    ensures lacks { IfErr result (λ why. (text : List ℕ) → Holds line.now text
+        → LacksReply why text (K.state out.old) (K.state out.new)
+        (serving (T.state store.old)) (serving (T.state store.new))) }
 {
-    let Ok(reply) = answer(alloc, line, store) else {
-        return Err(Status::NoMemory);
-    };
-    let Some(reply) = reply else {
+    let Some(reply) = reply_to(alloc, line, store)? else {
         return Ok(());
     };
-    let Ok(bytes) = reply.line(alloc) else {
-        return Err(Status::NoMemory);
-    };
+    let bytes = reply.line(alloc)?;
     match out.put(bytes.as_bytes()) {
         Ok(()) => Ok(()),
-        Err(_) => Err(Status::WriteFault),
+        Err(_) => Err(NoReply::Fault),
     }
 }
 
-/// The reply to a line, and none to a blank one. It answers only want of memory.
-fn answer<T: VolumeStore>(
+/// The reply to a line, and none to a blank one. It answers only want of memory, and has then
+/// changed nothing.
+fn reply_to<T: VolumeStore>(
     alloc: Global,
     line: &LineBuffer,
     store: &mut T,
 ) -> Result<Option<Reply>, NoMemory>
-    ensures reply { IfOk result (λ reply. (text : List ℕ) → Holds line.now text → Answers text reply
-        (record { volumes = T.volumes store.old; loans = T.loans store.old; faults = T.faults store.old })
-        (record { volumes = T.volumes store.new; loans = T.loans store.new; faults = T.faults store.new })) }
-    ensures stays { OnErr result (Stays
-        (record { volumes = T.volumes store.old; loans = T.loans store.old; faults = T.faults store.old })
-        (record { volumes = T.volumes store.new; loans = T.loans store.new; faults = T.faults store.new })) }
+    ensures reply { IfOk result (λ reply. (text : List ℕ) → Holds line.now text
+        → HasReply text reply
+        (serving (T.state store.old)) (serving (T.state store.new))) }
+    ensures err { OnErr result (T.state store.new ≡ T.state store.old) }
 {
     if line.is_long() {
         return Ok(Some(Reply::Refused(Refusal::NotBuilt)));
     }
     match read_line(alloc, line.as_slice())? {
         Line::Blank => Ok(None),
-        Line::Unknown => Ok(Some(Reply::Refused(Refusal::NotBuilt))),
+        Line::Refuses(why) => Ok(Some(Reply::Refused(why))),
         Line::Asks(command) => Ok(Some(run(alloc, command, store)?)),
     }
 }
 
 /// Carries out a command. It answers only want of memory, and has then changed nothing.
 fn run<T: VolumeStore>(alloc: Global, command: Command, store: &mut T) -> Result<Reply, NoMemory>
-    requires { IsSoundCommand command }
-    ensures reply { IfOk result (λ reply. CommandAnswers command reply
-        (record { volumes = T.volumes store.old; loans = T.loans store.old; faults = T.faults store.old })
-        (record { volumes = T.volumes store.new; loans = T.loans store.new; faults = T.faults store.new })) }
-    ensures stays { OnErr result (Stays
-        (record { volumes = T.volumes store.old; loans = T.loans store.old; faults = T.faults store.old })
-        (record { volumes = T.volumes store.new; loans = T.loans store.new; faults = T.faults store.new })) }
+    requires { FitsDisk command }
+    ensures reply { IfOk result (λ reply. Answers command reply
+        (serving (T.state store.old)) (serving (T.state store.new))) }
+    ensures err { OnErr result (T.state store.new ≡ T.state store.old) }
 {
     match command {
         Command::Move {

@@ -1,11 +1,11 @@
 //! How a run of the program ends.
 ghost use Rattle.std.specs.Prelude.{◌≡◌};
-ghost use Rattle.migrate_server.specs.Ends.{status_code};
+ghost use Rattle.migrate_server.specs.Status.{status_code};
 
 /// How a run ended.
 #[derive(Clone, Copy, Debug, PartialEq, Eq)]
 pub enum Status {
-    /// The input was read to its end, and each line that isn't blank has its reply.
+    /// Each line of the input was answered, to its end.
     Ok,
     /// The words are none that the program takes.
     Usage,

@@ -1,6 +1,7 @@
 use crate::{Devices, Fleet, Gate, Outcome, Status, migrate};
-use edge_traits::{MemDisk, MemSink, MemSource};
-use sector_model::{NoMemory, Sector};
+use basics::NoMemory;
+use edge_traits::{Failed, MemDisk, MemSink, MemSource, Source};
+use sector_model::Sector;
 use std::alloc::Global;
 use std::test::Fail;
 use target_volume::{MemVolumes, Name, Volume, VolumeName, VolumeStore};
@@ -33,10 +34,11 @@ const SOUND: Setting<'static> = Setting {
     failing_calls: &[],
 };
 
-/// How a run ended, what was written, and the store.
+/// How a run ended, what is left of the input, what was written, and the store.
 #[derive(Drop)]
 struct EndedRun {
     status: Status,
+    source: MemSource,
     sink: MemSink,
     volumes: MemVolumes,
 }
@@ -73,6 +75,7 @@ fn served_in(
     } = outcome;
     Ok(EndedRun {
         status,
+        source,
         sink,
         volumes,
     })
@@ -112,8 +115,8 @@ fn a_move_without_writes_gives_zeros_and_takes_its_name(rt: HostRuntime) -> Resu
     let lines = "{\"cmd\":\"move\",\"name\":\"t\",\"sectors\":256,\"writes\":[]}\n\
                  {\"cmd\":\"move\",\"name\":\"t\",\"sectors\":256,\"writes\":[]}\n";
     let run = served(&rt, lines)?;
-    let whole =
-        "{\"ok\":true,\"state\":\"complete\",\"writes\":0,\"written\":256}\n{\"error\":\"name-taken\",\"ok\":false}\n";
+    let whole = "{\"ok\":true,\"state\":\"complete\",\"writes\":0,\"written\":256}\n\
+                 {\"error\":\"name-taken\",\"ok\":false}\n";
     assert_eq!(rt; held(&run), whole.as_bytes());
     assert!(rt; read_back(rt.alloc(), run.volumes)? == [Sector::filled(0); 256]);
     Ok(())
@@ -122,8 +125,9 @@ fn a_move_without_writes_gives_zeros_and_takes_its_name(rt: HostRuntime) -> Resu
 #[test]
 fn a_line_has_one_reply_and_a_blank_one_none(rt: HostRuntime) -> Result<(), Fail> {
     let run = served(&rt, "\n \t\r\nmove\n{\"cmd\":\"move\"}\n{\"cmd\":\"stop\"}")?;
-    let whole =
-        "{\"error\":\"command\",\"ok\":false}\n{\"error\":\"command\",\"ok\":false}\n{\"error\":\"command\",\"ok\":false}\n";
+    let whole = "{\"error\":\"command\",\"ok\":false}\n\
+                 {\"error\":\"command\",\"ok\":false}\n\
+                 {\"error\":\"command\",\"ok\":false}\n";
     assert_eq!(rt; held(&run), whole.as_bytes());
     assert_eq!(rt; run.status, Status::Ok);
     Ok(())
@@ -162,6 +166,38 @@ fn a_line_that_a_fault_cuts_has_no_reply(rt: HostRuntime) -> Result<(), Fail> {
     assert_eq!(rt; held(&run), b"".as_slice());
     assert_eq!(rt; run.status, Status::ReadFault);
     assert_eq!(rt; run.status.code(), 2);
+    Ok(())
+}
+
+#[test]
+fn the_replies_to_lines_before_a_fault_are_written(rt: HostRuntime) -> Result<(), Fail> {
+    let setting = Setting {
+        piece: 5,
+        failing_reads: &[2],
+        ..SOUND
+    };
+    let run = served_in(&rt, &setting, &[], b"a\nb\nc\n")?;
+    let two = "{\"error\":\"command\",\"ok\":false}\n{\"error\":\"command\",\"ok\":false}\n";
+    assert_eq!(rt; held(&run), two.as_bytes());
+    assert_eq!(rt; run.status, Status::ReadFault);
+    Ok(())
+}
+
+#[test]
+fn no_byte_is_read_behind_a_line_that_has_no_reply_yet(rt: HostRuntime) -> Result<(), Fail> {
+    let setting = Setting {
+        piece: 2,
+        failing_reads: &[2],
+        failing_puts: &[1],
+        ..SOUND
+    };
+    let mut run = served_in(&rt, &setting, &[], b"a\nb\n")?;
+    assert_eq!(rt; run.status, Status::WriteFault);
+    assert_eq!(rt; run.source.faults(), 0);
+    let mut rest = [0; 4];
+    assert_eq!(rt; run.source.read(&mut rest), Err(Failed));
+    assert_eq!(rt; run.source.read(&mut rest), Ok(2));
+    assert_eq!(rt; rest, *b"b\n\0\0");
     Ok(())
 }
 
@@ -208,6 +244,32 @@ fn a_line_may_have_two_to_the_twentieth_bytes(rt: HostRuntime) -> Result<(), Fai
     assert_eq!(rt; held(&run), MOVED.as_bytes());
     let too_long = padded(rt.alloc(), (1 << 20) + 1)?;
     let run = served_in(&rt, &SOUND, &[], &too_long)?;
+    assert_eq!(rt; held(&run), NOT_BUILT.as_bytes());
+    Ok(())
+}
+
+/// The line of a move of 256 sectors to `u`, with so many writes of the most sectors.
+fn long_move(alloc: Global, count: u64) -> Result<String, NoMemory> {
+    let head = "{\"cmd\":\"move\",\"name\":\"u\",\"sectors\":256,\"writes\":[";
+    let mut line = String::from_str(alloc, head)?;
+    let mut comma = "";
+    for _ in 0..count {
+        line.push_str(comma)?;
+        line.push_str("[0,128,1]")?;
+        comma = ",";
+    }
+    line.push_str("]}\n")?;
+    Ok(line)
+}
+
+#[test]
+fn a_move_has_at_most_two_to_the_sixteenth_sectors_written(rt: HostRuntime) -> Result<(), Fail> {
+    let most = long_move(rt.alloc(), 512)?;
+    let run = served(&rt, most.as_str())?;
+    let moved = "{\"ok\":true,\"state\":\"complete\",\"writes\":512,\"written\":256}\n";
+    assert_eq!(rt; held(&run), moved.as_bytes());
+    let more = long_move(rt.alloc(), 513)?;
+    let run = served(&rt, more.as_str())?;
     assert_eq!(rt; held(&run), NOT_BUILT.as_bytes());
     Ok(())
 }

@@ -1,16 +1,12 @@
-use Rattle.std.proofs.Common.{◌≡◌, ◌-◌, ◌^◌, ◌<◌, ◌≤◌, IfSome, option_map}
-use Rattle.migrate_server.specs.Copies.{image_copied_to}
+use Rattle.std.proofs.Common.{◌≡◌, ◌-◌, ◌≤◌}
+use Rattle.migrate_server.specs.Copy.{copied_to}
 use Rattle.migrate_server.proofs.copy.copy_full.Given as goal
 
 abbrev pub invariant-loop-at : goal.invariant-loop-at
-invariant-loop-at g l =
-    record {
-      image : IfSome (g.V.Volume.image l.fn.volume) (λ i. i.written < 2 ^ 64) → g.V.Volume.image l.volume ≡ option_map (image_copied_to l.source l.at) (g.V.Volume.image l.fn.volume);
-      name : g.V.Volume.name l.volume ≡ g.V.Volume.name l.fn.volume;
-      capacity : g.V.Volume.capacity l.volume ≡ g.V.Volume.capacity l.fn.volume;
-      later : g.V.Volume.faults l.fn.volume ≤ g.V.Volume.faults l.volume;
-      within : l.at ≤ l.capacity;
-    }
+invariant-loop-at g l = record {
+  state : g.V.Volume.state l.volume ≡ copied_to l.disk l.at (g.V.Volume.state l.fn.volume);
+  within : l.at ≤ l.capacity;
+}
 
 abbrev pub decreases-loop-at : goal.decreases-loop-at
 decreases-loop-at g l = l.capacity - l.at

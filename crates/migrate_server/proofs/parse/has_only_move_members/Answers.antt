@@ -1,6 +1,6 @@
 use Rattle.std.proofs.Common.{◌∙◌}
 use Rattle.serde_json.specs.View.{view, members_view}
-use Rattle.migrate_server.specs.Commands.{move_members}
+use Rattle.migrate_server.specs.Parse.{move_members}
 use Rattle.migrate_server.proofs.Parsing.{members_by_names, only_of_object}
 use Rattle.migrate_server.proofs.parse.has_only_move_members.Goals as goal
 

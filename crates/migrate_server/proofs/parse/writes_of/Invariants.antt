@@ -1,6 +1,6 @@
 use Rattle.std.proofs.Common.{◌≡◌, ◌++◌, drop, option_map}
 use Rattle.serde_json.specs.View.{items_view}
-use Rattle.migrate_server.specs.Commands.{writes_of}
+use Rattle.migrate_server.specs.Parse.{writes_of}
 use Rattle.migrate_server.proofs.parse.writes_of.Given as goal
 
 -- the writes so far and those of what is left are those of all

@@ -1,85 +1,55 @@
-use Rattle.std.proofs.Common.{Err, ap, sym, subst, arith}
-use Rattle.migrate_server.specs.declared.status.Status.TheVariants.{ReadFault, InputLimit, NoMemory}
-use Rattle.migrate_server.specs.Reading.{ReaderState}
-use Rattle.migrate_server.specs.States.{Stored}
-use Rattle.migrate_server.proofs.Serving.{Progress, progress_start, progress_line, stays_same, serves_so_far, serves_cut, serves_end, ends_whole, ends_at_limit, ends_cut, rose_from, not_done, cut_not_done, budget_falls, took_line, took_none}
+use Rattle.std.proofs.Common.{sym, subst}
+use Rattle.std.proofs.lemmas.Result.{err_from_is_err_and}
+use Rattle.migrate_server.specs.Reader.{ReaderState}
+use Rattle.migrate_server.specs.World.{World, world_of}
+use Rattle.migrate_server.proofs.Serving.{Progress, progress_start, progress_line, ended_at_once, ended_whole_input, ended_without_line, ended_without_reply, budget_falls, took_line, took_none}
 use Rattle.migrate_server.proofs.serve.serve.Goals as goal
 
 pub returns-in_default-clause-served : goal.returns-in_default-clause-served
-returns-in_default-clause-served g c =
-    serves_so_far (g.S.Source.left c.args.input.now) (g.S.Source.left c.args.input.now) (g.K.Sink.held c.args.out.now) (g.K.Sink.held c.args.out.now) _ _ _ _ _
-    (progress_start (g.S.Source.left c.args.input.now) (g.K.Sink.held c.args.out.now) _) (stays_same _) (not_done NoMemory (λ d. d))
+returns-in_default-clause-served g c = (ended_at_once _).serves
 
 pub loop-line-init : goal.loop-line-init
 loop-line-init g c =
-    let store = g.T.VolumeStore in
-    let old : Stored = record { volumes = store.volumes c.args.store.now; loans = store.loans c.args.store.now; faults = store.faults c.args.store.now } in
-    let left = g.S.Source.left c.args.input.now in
-    let held = g.K.Sink.held c.args.out.now in
-    record {
-      progress = subst (λ (r : ReaderState). Progress left left held held old old r) (sym c.in-Ok.ensures) (progress_start left held old);
-      reads = omega arith;
-      puts = omega arith;
-    }
+    let old = world_of (g.S.Source.state c.args.input.now) (g.K.Sink.state c.args.out.now) (g.D.Disk.state c.args.devices.now.disk) (g.T.VolumeStore.state c.args.devices.now.volumes) in
+    record { progress = subst (λ (r : ReaderState). Progress old old r) (sym c.in-Ok.ensures) (progress_start old); disk = λ i. c.args.devices.now.disk }
 
-pub next-requires-clause-within : goal.next-requires-clause-within
-next-requires-clause-within g c = c.loop-line.invariant.progress.heard.fits
+pub returns-in_err-next-clause-served : goal.returns-in_err-next-clause-served
+returns-in_err-next-clause-served g c =
+    let old = world_of (g.S.Source.state c.args.input.now) (g.K.Sink.state c.args.out.now) (g.D.Disk.state c.args.devices.now.disk) (g.T.VolumeStore.state c.args.devices.now.volumes) in
+    let now = world_of (g.S.Source.state c.loop-line.input) (g.K.Sink.state c.loop-line.out) (g.D.Disk.state c.loop-line.devices.disk) (g.T.VolumeStore.state c.loop-line.devices.volumes) in
+    let ended = ended_without_line old now (g.S.Source.state c.next.new.source) c.loop-line.reader c.next.new.self c.in_err-next.field-0.0 c.loop-line.invariant.progress c.in_err-next.ensures.none in
+    let p = err_from_is_err_and c.from_residual.result c.from_residual.ensures.1 in
+    rw (p.1, p.2) ended.serves
 
-pub next-requires-clause-idle : goal.next-requires-clause-idle
-next-requires-clause-idle g c = c.loop-line.invariant.progress.heard.idle
-
-pub returns-in-Ok-false-clause-served : goal.returns-in-Ok-false-clause-served
-returns-in-Ok-false-clause-served g c =
-    let end = took_none _ _ c.in-Ok-false.field-0 c.in-Ok-false.field-0-test c.in-Ok-false.ensures.taken in
-    serves_end (g.S.Source.left c.args.input.now) (g.S.Source.left c.loop-line.input) (g.S.Source.left c.next.new.source) (g.K.Sink.held c.args.out.now) (g.K.Sink.held c.loop-line.out) _ _ c.loop-line.reader c.next.new.self _ c.loop-line.invariant.progress end
-
-pub returns-in-Ok-false-clause-ends : goal.returns-in-Ok-false-clause-ends
-returns-in-Ok-false-clause-ends g c =
-    let end = took_none _ _ c.in-Ok-false.field-0 c.in-Ok-false.field-0-test c.in-Ok-false.ensures.taken in
-    ends_whole (g.S.Source.left c.args.input.now) (g.S.Source.left c.loop-line.input) (g.S.Source.left c.next.new.source) (g.K.Sink.held c.args.out.now) (g.K.Sink.held c.loop-line.out) _ _ c.loop-line.reader c.next.new.self c.loop-line.invariant.progress end
-
-pub returns-in-Err-Fault-clause-served : goal.returns-in-Err-Fault-clause-served
-returns-in-Err-Fault-clause-served g c =
-    serves_so_far (g.S.Source.left c.args.input.now) (g.S.Source.left c.loop-line.input) (g.K.Sink.held c.args.out.now) (g.K.Sink.held c.loop-line.out) _ _ _ c.loop-line.reader _ c.loop-line.invariant.progress (stays_same _) (not_done ReadFault (λ d. d))
-
-pub returns-in-Err-Fault-clause-ends : goal.returns-in-Err-Fault-clause-ends
-returns-in-Err-Fault-clause-ends g c =
-    rose_from (g.S.Source.faults c.args.input.now) (g.S.Source.faults c.loop-line.input) (g.S.Source.faults c.next.new.source) c.loop-line.invariant.reads (c.in-Err-Fault.ensures.fault (ap Err c.in-Err-Fault.field-0-is))
-
-pub returns-in-Err-Limit-clause-served : goal.returns-in-Err-Limit-clause-served
-returns-in-Err-Limit-clause-served g c =
-    serves_so_far (g.S.Source.left c.args.input.now) (g.S.Source.left c.loop-line.input) (g.K.Sink.held c.args.out.now) (g.K.Sink.held c.loop-line.out) _ _ _ c.loop-line.reader _ c.loop-line.invariant.progress (stays_same _) (not_done InputLimit (λ d. d))
-
-pub returns-in-Err-Limit-clause-ends : goal.returns-in-Err-Limit-clause-ends
-returns-in-Err-Limit-clause-ends g c =
-    ends_at_limit (g.S.Source.left c.args.input.now) (g.S.Source.left c.loop-line.input) (g.S.Source.left c.next.new.source) (g.K.Sink.held c.args.out.now) (g.K.Sink.held c.loop-line.out) _ _ c.loop-line.reader c.next.new.self c.loop-line.invariant.progress c.in-Err-Limit.ensures.cut (c.in-Err-Limit.ensures.limit (ap Err c.in-Err-Limit.field-0-is))
-
-pub returns-in-Err-NoMemory-clause-served : goal.returns-in-Err-NoMemory-clause-served
-returns-in-Err-NoMemory-clause-served g c =
-    serves_so_far (g.S.Source.left c.args.input.now) (g.S.Source.left c.loop-line.input) (g.K.Sink.held c.args.out.now) (g.K.Sink.held c.loop-line.out) _ _ _ c.loop-line.reader _ c.loop-line.invariant.progress (stays_same _) (not_done NoMemory (λ d. d))
-
-pub returns-in-Err-clause-served : goal.returns-in-Err-clause-served
-returns-in-Err-clause-served g c =
-    let line = took_line _ _ c.in-Ok-true.field-0 c.in-Ok-true.field-0-test c.in-Ok-true.ensures.taken in
-    serves_cut (g.S.Source.left c.args.input.now) (g.S.Source.left c.loop-line.input) (g.S.Source.left c.next.new.source) (g.K.Sink.held c.args.out.now) (g.K.Sink.held c.loop-line.out) (g.K.Sink.held c.serve_line.new.out) _ _ _ c.loop-line.reader c.next.new.self c.next.new.line _
-    c.loop-line.invariant.progress line (c.in-Err.ensures.cut line.text line.held)
-    (not_done c.in-Err.status (cut_not_done (g.K.Sink.faults c.loop-line.out) (g.K.Sink.faults c.serve_line.new.out) c.in-Err.status c.in-Err.ensures.cause))
-
-pub returns-in-Err-clause-ends : goal.returns-in-Err-clause-ends
-returns-in-Err-clause-ends g c =
-    ends_cut _ _ _ _ (g.K.Sink.faults c.args.out.now) (g.K.Sink.faults c.loop-line.out) (g.K.Sink.faults c.serve_line.new.out) c.in-Err.status c.loop-line.invariant.puts c.in-Err.ensures.cause
+pub returns-then-not-branch-clause-served : goal.returns-then-not-branch-clause-served
+returns-then-not-branch-clause-served g c =
+    let old = world_of (g.S.Source.state c.args.input.now) (g.K.Sink.state c.args.out.now) (g.D.Disk.state c.args.devices.now.disk) (g.T.VolumeStore.state c.args.devices.now.volumes) in
+    let now = world_of (g.S.Source.state c.loop-line.input) (g.K.Sink.state c.loop-line.out) (g.D.Disk.state c.loop-line.devices.disk) (g.T.VolumeStore.state c.loop-line.devices.volumes) in
+    let end = took_none _ _ c.in_ok-next.field-0 c.if-not-branch.true c.in_ok-next.ensures.taken in
+    (ended_whole_input old now (g.S.Source.state c.next.new.source) c.loop-line.reader c.next.new.self c.loop-line.invariant.progress end).serves
 
 pub loop-line-smaller : goal.loop-line-smaller
 loop-line-smaller g c =
-    let line = took_line _ _ c.in-Ok-true.field-0 c.in-Ok-true.field-0-test c.in-Ok-true.ensures.taken in
-    budget_falls (g.S.Source.left c.loop-line.input) (g.S.Source.left c.next.new.source) c.loop-line.reader c.next.new.self c.next.new.line line
+    let line = took_line _ _ c.in_ok-next.field-0 c.if-not-branch.false c.in_ok-next.ensures.taken in
+    budget_falls (g.S.Source.state c.loop-line.input) (g.S.Source.state c.next.new.source) c.loop-line.reader c.next.new.self c.next.new.line line
 
 pub loop-line-preserved : goal.loop-line-preserved
 loop-line-preserved g c =
-    let line = took_line _ _ c.in-Ok-true.field-0 c.in-Ok-true.field-0-test c.in-Ok-true.ensures.taken in
+    let old = world_of (g.S.Source.state c.args.input.now) (g.K.Sink.state c.args.out.now) (g.D.Disk.state c.args.devices.now.disk) (g.T.VolumeStore.state c.args.devices.now.volumes) in
+    let now = world_of (g.S.Source.state c.loop-line.input) (g.K.Sink.state c.loop-line.out) (g.D.Disk.state c.loop-line.devices.disk) (g.T.VolumeStore.state c.loop-line.devices.volumes) in
+    let after = world_of (g.S.Source.state c.next.new.source) (g.K.Sink.state c.serve_line.new.out) (g.D.Disk.state c.loop-line.devices.disk) (g.T.VolumeStore.state c.serve_line.new.store) in
+    let line = took_line _ _ c.in_ok-next.field-0 c.if-not-branch.false c.in_ok-next.ensures.taken in
     record {
-      progress = progress_line (g.S.Source.left c.args.input.now) (g.S.Source.left c.loop-line.input) (g.S.Source.left c.next.new.source) (g.K.Sink.held c.args.out.now) (g.K.Sink.held c.loop-line.out) (g.K.Sink.held c.serve_line.new.out) _ _ _ c.loop-line.reader c.next.new.self c.next.new.line
-          c.loop-line.invariant.progress line (c.in_default-serve_line.ensures.told line.text line.held);
-      reads = let h = c.next.ensures.later in omega (arith, h, c.loop-line.invariant.reads);
-      puts = let h = c.serve_line.ensures.later in omega (arith, h, c.loop-line.invariant.puts);
+      progress = progress_line old now after c.loop-line.reader c.next.new.self c.next.new.line c.loop-line.invariant.progress line (c.in_ok-serve_line.ensures.served line.text line.held);
+      disk = c.loop-line.invariant.disk;
     }
+
+pub returns-in_err-serve_line-clause-served : goal.returns-in_err-serve_line-clause-served
+returns-in_err-serve_line-clause-served g c =
+    let old = world_of (g.S.Source.state c.args.input.now) (g.K.Sink.state c.args.out.now) (g.D.Disk.state c.args.devices.now.disk) (g.T.VolumeStore.state c.args.devices.now.volumes) in
+    let now = world_of (g.S.Source.state c.loop-line.input) (g.K.Sink.state c.loop-line.out) (g.D.Disk.state c.loop-line.devices.disk) (g.T.VolumeStore.state c.loop-line.devices.volumes) in
+    let after = world_of (g.S.Source.state c.next.new.source) (g.K.Sink.state c.serve_line.new.out) (g.D.Disk.state c.loop-line.devices.disk) (g.T.VolumeStore.state c.serve_line.new.store) in
+    let line = took_line _ _ c.in_ok-next.field-0 c.if-not-branch.false c.in_ok-next.ensures.taken in
+    let ended = ended_without_reply old now after c.loop-line.reader c.next.new.self c.next.new.line c.in_err-serve_line.field-0.0 c.loop-line.invariant.progress line (c.in_err-serve_line.ensures.lacks line.text line.held) in
+    let p = err_from_is_err_and c.from_residual-in_err-serve_line.result c.from_residual-in_err-serve_line.ensures.1 in
+    rw (p.1, p.2) ended.serves

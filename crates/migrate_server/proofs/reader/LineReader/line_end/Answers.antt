@@ -1,5 +1,5 @@
 use Rattle.std.proofs.Common.{◌≡◌, ◌+◌, ◌-◌, ℕ, List, ◌∷◌, take, drop, MatchOption, ap, subst, ◌∙◌, arith}
-use Rattle.migrate_server.specs.Reading.{ReaderState, HasNoLf}
+use Rattle.migrate_server.specs.Reader.{ReaderState, HasNoLf}
 use Rattle.migrate_server.proofs.PartLines.{pending_is}
 use Rattle.migrate_server.proofs.reader.LineReader.line_end.Goals as goal
 

@@ -1,0 +1,49 @@
+-- What the program makes of its words, its source and its sink, and the exit status that it ends
+-- with. What begins is fixed: a store without a volume, none of whose calls fails.
+use Rattle.std.specs.Prelude.{◌≡◌, ◌⊎◌, ◌↔◌, ◌<◌, ℕ, [], true, Some}
+use Rattle.edge_traits.specs.Source.{SourceState}
+use Rattle.edge_traits.specs.Sink.{SinkState}
+use Rattle.edge_traits.specs.Disk.{DiskState}
+use Rattle.target_volume.specs.VolumeStore.{StoreState}
+use Rattle.migrate_server.specs.World.{world_of}
+use Rattle.migrate_server.specs.Serves.{Serves}
+use Rattle.migrate_server.specs.EndsFor.{EndsFor, TellsUsage}
+use Rattle.migrate_server.specs.Status.{status_code}
+use Rattle.migrate_server.specs.declared.status.Status.{Status}
+use Rattle.migrate_server.specs.declared.status.Status.TheVariants.{Usage, NoMemory}
+
+-- the store that the program begins with: it has no volume, and no call of it fails
+abbrev pub empty_store : StoreState
+empty_store = record { volumes = Some []; loans = []; faults = 0; sound = true }
+
+-- the disk, which isn't used
+abbrev pub unused_disk : DiskState
+unused_disk = record { faults = 0 }
+
+-- with so many words the program ended with this status
+pub record Ends (words : ℕ) (source source_after : SourceState) (sink sink_after : SinkState)
+    (code : ℕ) : Type 0 where
+  pub status : Status
+  pub exits : code ≡ status_code status
+  -- what it left of the store
+  pub store : StoreState
+  pub usage : (status ≡ Usage) ↔ (0 < words)
+  pub told : 0 < words → TellsUsage sink sink_after
+  pub unread : 0 < words → source_after ≡ source
+  pub served : words ≡ 0 → Serves (world_of source sink unused_disk empty_store)
+      (world_of source_after sink_after unused_disk store) status
+  pub ends : words ≡ 0 → EndsFor (world_of source sink unused_disk empty_store)
+      (world_of source_after sink_after unused_disk store) status
+
+-- there was no memory for the store or the disk
+pub record NeverBegins (source source_after : SourceState) (sink sink_after : SinkState)
+    (code : ℕ) : Type 0 where
+  pub exits : code ≡ status_code NoMemory
+  pub unread : source_after ≡ source
+  pub unwritten : sink_after ≡ sink
+
+abbrev pub ExitsFor : (words : ℕ) (source source_after : SourceState) (sink sink_after : SinkState)
+    (code : ℕ) → Type 0
+ExitsFor words source source_after sink sink_after code =
+    Ends words source source_after sink sink_after code
+    ⊎ NeverBegins source source_after sink sink_after code

@@ -1,0 +1,118 @@
+-- The source disk of a move, write by write.
+use Rattle.std.proofs.Common.{◌≡◌, ℕ, zero, suc, ◌+◌, ◌*◌, ◌/◌, ◌<◌, ◌≤◌, min, max, Bool, true, false, cond, ltb, eqb, ◌||◌, ◌&&◌, List, [], ◌∷◌, length, get_or, take, inl, inr, refl, sym, ap, subst, ◌∙◌, arith}
+use Rattle.std.specs.Prelude.{replicate, All}
+use Rattle.std.specs.List.{list_any, fold, filter, range_with_len, AllByRecursion}
+use Rattle.std.proofs.lemmas.Bool.{or_parts, cases_lt, cases_eq, ltb-false, lt-ltb, eq-eqb}
+use Rattle.std.proofs.lemmas.Grind.{fold-append}
+use Rattle.std.proofs.lemmas.List.{map_more, length-replicate, get_or-replicate}
+use Rattle.std.proofs.lemmas.List.Folds.{list_any-append}
+use Rattle.std.proofs.lemmas.List.Elements.{recursion_from_All}
+use Rattle.sector_model.specs.Sector.{zero_sector, filled}
+use Rattle.sector_model.specs.Disk.{Write, after_write, fresh_disk}
+use Rattle.sector_model.specs.Run.{block_count, touches, touched_blocks, in_blocks, areas_of}
+use Rattle.sector_model.specs.declared.sector.Sector.{Sector}
+use Rattle.sector_model.proofs.Exact.{in_runs_of}
+use Rattle.migrate_server.specs.declared.command.MoveWrite.{MoveWrite}
+use Rattle.migrate_server.specs.WrittenDisk.{disk_write, disk_writes, written_disk}
+use Rattle.migrate_server.specs.WrittenDisk.{AreFlagged, FlagsAfter, meets}
+use Rattle.migrate_server.specs.Copy.{IsClearOutside}
+use Rattle.sector_model.proofs.Replaced.{length-replaced}
+use Rattle.migrate_server.proofs.Lists.{replaced_below, replaced_behind, filter-range_same}
+
+-- ---- sectors
+
+length-after_write : (disk : List Sector) (w : MoveWrite) → w.first + w.count ≤ length disk → length (after_write disk (disk_write w)) ≡ length disk
+length-after_write disk w within = length-replaced disk (replicate w.count (filled w.fill)) w.first (let e = length-replicate w.count (filled w.fill) in omega arith)
+
+pub length-fold : (ws : List MoveWrite) (disk : List Sector) (c : ℕ) → length disk ≡ c → AllByRecursion (λ w. w.first + w.count ≤ c) ws
+    → length (fold after_write disk (disk_writes ws)) ≡ c
+length-fold [] disk c long within = long
+length-fold (w ∷ ws) disk c long within = length-fold ws (after_write disk (disk_write w)) c (length-after_write disk w (omega (arith, within.0)) ∙ long) within.1
+
+pub disk-more : (c : ℕ) (ws : List MoveWrite) (i : ℕ) (d : MoveWrite) → i < length ws
+    → after_write (written_disk c (take i ws)) (disk_write (get_or ws i d)) ≡ written_disk c (take (i + 1) ws)
+disk-more c ws i d within =
+    sym (ap (fold after_write (fresh_disk c)) (map_more disk_write ws i d within) ∙ fold-append after_write (fresh_disk c) (disk_writes (take i ws)) (disk_write (get_or ws i d) ∷ []))
+
+-- a write that doesn't touch the sector's block leaves the sector
+untouched_by : (disk : List Sector) (w : MoveWrite) (s : ℕ) → w.first + w.count ≤ length disk → touches (s / 128) (disk_write w) ≡ false
+    → get_or (after_write disk (disk_write w)) s zero_sector ≡ get_or disk s zero_sector
+untouched_by disk w s within none =
+    let long = length-replicate w.count (filled w.fill) in
+    let apart = ltb-false (max (128 * (s / 128)) w.first) (min (128 * (s / 128) + 128) (w.first + length (replicate w.count (filled w.fill)))) none in
+    elim (cases_lt s w.first) [
+      | inl below ↦ replaced_below disk (replicate w.count (filled w.fill)) w.first s zero_sector below (omega arith)
+      | inr from ↦ replaced_behind disk (replicate w.count (filled w.fill)) w.first s zero_sector (omega arith) (omega arith)
+    ]
+
+untouched : (ws : List MoveWrite) (disk : List Sector) (s : ℕ) → AllByRecursion (λ w. w.first + w.count ≤ length disk) ws → list_any (touches (s / 128)) (disk_writes ws) ≡ false
+    → get_or (fold after_write disk (disk_writes ws)) s zero_sector ≡ get_or disk s zero_sector
+untouched [] disk s within none = refl
+untouched (w ∷ ws) disk s within none =
+    let parts = or_parts (touches (s / 128) (disk_write w)) (list_any (touches (s / 128)) (disk_writes ws)) none in
+    let same = length-after_write disk w within.0 in
+    untouched ws (after_write disk (disk_write w)) s (subst (λ (n : ℕ). AllByRecursion (λ w. w.first + w.count ≤ n) ws) (sym same) within.1) parts.1
+    ∙ untouched_by disk w s within.0 parts.0
+
+or_false : (b : Bool) → (b || false) ≡ b
+or_false true = refl
+or_false false = refl
+
+at_head : (b : Bool) (a : ℕ) (xs : List ℕ) → b ≡ b → list_any (eqb a) (cond b (a ∷ xs) xs) ≡ false → b ≡ false
+at_head false a xs same none = refl
+at_head true a xs same none = sym (ap (λ x. x || list_any (eqb a) xs) (eq-eqb a a refl)) ∙ none
+
+none_in_tail : (b : Bool) (x a : ℕ) (xs : List ℕ) → list_any (eqb x) (cond b (a ∷ xs) xs) ≡ false → list_any (eqb x) xs ≡ false
+none_in_tail true x a xs none = (or_parts (eqb x a) (list_any (eqb x) xs) none).1
+none_in_tail false x a xs none = none
+
+true_then_none : (p : ℕ → Bool) (x a n : ℕ) → a ≤ x → x < a + n → list_any (eqb x) (filter p (range_with_len a n)) ≡ false → p x ≡ false
+true_then_none p x a zero from below none = absurd (omega arith)
+true_then_none p x a (suc n) from below none =
+    elim (cases_eq x a) [
+      | inl same ↦ subst (λ (y : ℕ). p y ≡ false) (sym same) (at_head (p a) a (filter p (range_with_len (a + 1) n)) refl (subst (λ (y : ℕ). list_any (eqb y) (filter p (range_with_len a (suc n))) ≡ false) same none))
+      | inr other ↦ true_then_none p x (a + 1) n (omega (arith, other)) (omega arith) (none_in_tail (p a) x a (filter p (range_with_len (a + 1) n)) none)
+    ]
+
+-- no write touches the block of a sector that is of no touched block
+none_touches : (c : ℕ) (writes : List Write) (s : ℕ) → s < c → in_blocks (touched_blocks c writes) s ≡ false → list_any (touches (s / 128)) writes ≡ false
+none_touches c writes s inside none = true_then_none (λ b. list_any (touches b) writes) (s / 128) 0 (block_count c) (omega arith) (omega arith) none
+
+pub disk_clear : (c : ℕ) (ws : List MoveWrite) → All (λ w. w.first + w.count ≤ c) ws → IsClearOutside (areas_of c (touched_blocks c (disk_writes ws))) (written_disk c ws)
+disk_clear c ws within s below outside =
+    let long : length (fresh_disk c) ≡ c = length-replicate c zero_sector in
+    let each = recursion_from_All (λ w. w.first + w.count ≤ c) ws within in
+    let inside : s < c = let e = length-fold ws (fresh_disk c) c long each in omega arith in
+    let blocks = touched_blocks c (disk_writes ws) in
+    let not_in : in_blocks blocks s ≡ false = sym (ap (λ b. b && in_blocks blocks s) (lt-ltb s c inside)) ∙ sym (in_runs_of (in_blocks blocks) c s) ∙ outside in
+    untouched ws (fresh_disk c) s (subst (λ (n : ℕ). AllByRecursion (λ w. w.first + w.count ≤ n) ws) (sym long) each) (none_touches c (disk_writes ws) s inside not_in)
+    ∙ get_or-replicate c s zero_sector zero_sector inside
+
+-- ---- flags
+
+pub flags-none : (c n : ℕ) → n ≡ block_count c → AreFlagged c [] (replicate n false)
+flags-none c n is = record {
+  long = length-replicate n false ∙ is;
+  each = λ b below. get_or-replicate n b false false (omega arith);
+}
+
+pub flags-more : (c : ℕ) (ws : List MoveWrite) (i : ℕ) (d : MoveWrite) (old new : List Bool) → i < length ws
+    → AreFlagged c (disk_writes (take i ws)) old → FlagsAfter (get_or ws i d).first (get_or ws i d).count old new → AreFlagged c (disk_writes (take (i + 1) ws)) new
+flags-more c ws i d old new within flagged after =
+    let w = get_or ws i d in
+    let split = map_more disk_write ws i d within in
+    record {
+      long = after.long ∙ flagged.long;
+      each = λ b below.
+          let size = length-replicate w.count (filled w.fill) in
+          after.each b (let e = flagged.long in omega arith)
+          ∙ ap (λ x. x || meets b w.first w.count) (flagged.each b below)
+          ∙ sym (ap (list_any (touches b)) split ∙ list_any-append (touches b) (disk_writes (take i ws)) (disk_write w ∷ [])
+          ∙ ap (λ x. list_any (touches b) (disk_writes (take i ws)) || x) (or_false (touches b (disk_write w)) ∙ ap (λ k. ltb (max (128 * b) w.first) (min (128 * b + 128) (w.first + k))) size));
+    }
+
+pub flagged_areas : (c : ℕ) (ws : List MoveWrite) (flags : List Bool) → AreFlagged c (disk_writes ws) flags
+    → filter (λ b. get_or flags b false) (range_with_len 0 (length flags)) ≡ touched_blocks c (disk_writes ws)
+flagged_areas c ws flags flagged =
+    ap (λ n. filter (λ b. get_or flags b false) (range_with_len 0 n)) flagged.long
+    ∙ filter-range_same (λ b. get_or flags b false) (λ b. list_any (touches b) (disk_writes ws)) 0 (block_count c) (λ b from below. flagged.each b (omega arith))
