@@ -1,5 +1,5 @@
--- The names that commands and records may carry. They need no quotes and no escapes in a command line,
--- a file name or a reply.
+-- The names that commands and records may carry. They need no quotes and no escapes in a command
+-- line, a file name or a reply.
 use Rattle.std.specs.Prelude.{◌≡◌, ℕ, ◌≤◌, ◌⊎◌, List, length, All}
 use Rattle.basics.specs.declared.name.TheConstants.{MAX_NAME_BYTES}
 

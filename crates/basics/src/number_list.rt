@@ -1,5 +1,5 @@
-//! A list of numbers of machines, as plans and records have it. It keeps its memory to itself, so that
-//! callers see the numbers and nothing else.
+//! A list of numbers of machines, as plans and records have it. It keeps its memory to itself, so
+//! that callers see the numbers and nothing else.
 ghost use Rattle.std.specs.Prelude.{◌≡◌, IfOk};
 
 use crate::NoMemory;
@@ -43,4 +43,3 @@ impl NumberList {
         self.numbers.as_slice()
     }
 }
-

@@ -1,4 +1,4 @@
-use crate::{Calls, Failed, Name, is_name};
+use crate::{Calls, Failed, Name, NumberList, is_name};
 use std::test::Fail;
 
 #[test]
@@ -54,4 +54,13 @@ fn names_have_letters_digits_and_hyphens_alone(rt: HostRuntime) {
     for other in others {
         assert!(rt; !is_name(other.as_bytes()), "{other}");
     }
+}
+
+#[test]
+fn a_list_of_numbers_keeps_them_in_order(rt: HostRuntime) -> Result<(), Fail> {
+    let list = NumberList::of(rt.alloc(), &[3, 1, 3]).or(Err("no memory"))?;
+    assert_eq!(rt; list.as_slice(), [3, 1, 3].as_slice());
+    let list = NumberList::from_vec(vec![in rt.alloc(); 7]?);
+    assert_eq!(rt; list.as_slice(), [7].as_slice());
+    Ok(())
 }

@@ -1,5 +1,5 @@
--- The table of a migration's phases as a list of rows. Each phase that isn't an end leads to Cancelled
--- and to Failed besides, so these rows are made from the list of such phases.
+-- The table of a migration's phases as a list of rows. Each phase that isn't an end leads to
+-- Cancelled and to Failed besides, so these rows are made from the list of such phases.
 use Rattle.std.specs.Prelude.{List, [], ◌∷◌, ◌++◌, map, not, Option}
 use Rattle.std.specs.List.{filter}
 use Rattle.phase_table.specs.declared.phases.Phase.{Phase}

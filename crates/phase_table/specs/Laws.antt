@@ -1,5 +1,5 @@
--- What holds of the table of successors and of every path through it. The successors stand here once
--- more, phase by phase, so that a row in the wrong place of the table breaks a law.
+-- What holds of the table of successors and of every path through it. The successors stand here
+-- once more, phase by phase, so that a row in the wrong place of the table breaks a law.
 use Rattle.std.specs.Prelude.{◌≡◌, ◌↔◌, List, [], ◌∷◌, ◌++◌, Some, None, IsTrue, Contains}
 use Rattle.phase_table.specs.declared.phases.Phase.{Phase}
 use Rattle.phase_table.specs.declared.phases.Phase.TheVariants.{Started, CreateInitialSnapshot, StoreInitialIds, CreateVolumes, AddFirstCheckpoint, CopyDisks, CopyingPaused, RemovePreviousSnapshot, CreateSnapshot, StoreIds, AddCheckpoint, StorePowerState, PowerOffSource, WaitForPowerOff, RemovePenultimateSnapshot, CreateFinalSnapshot, AddFinalCheckpoint, CopyFinal, RemoveFinalSnapshot, Completed, Cancelled, Failed}

@@ -1,5 +1,5 @@
--- Paths through the table: lists of phases in which each comes after the one before it. A path goes by
--- phases and not by facts, so that what holds of all paths holds whatever a migration sees.
+-- Paths through the table: lists of phases in which each comes after the one before it. A path goes
+-- by phases and not by facts, so that what holds of all paths holds whatever a migration sees.
 use Rattle.std.specs.Prelude.{◌≡◌, ◌<◌, List, [], ◌∷◌, ◌++◌, Some, None}
 use Rattle.std.specs.List.{last_or}
 use Rattle.phase_table.specs.declared.phases.Phase.{Phase}

@@ -1,5 +1,5 @@
--- The phases one by one: their numbers, which tell them apart, their names as replies show them, and
--- which of them are ends, in which a migration is no longer live.
+-- The phases one by one: their numbers, which tell them apart, their names as replies show them,
+-- and which of them are ends, in which a migration is no longer live.
 use Rattle.std.specs.Prelude.{ℕ, Bool, true, false, List, [], ◌∷◌, codes}
 use Rattle.phase_table.specs.declared.phases.Phase.{Phase}
 use Rattle.phase_table.specs.declared.phases.Phase.TheVariants.{Started, CreateInitialSnapshot, StoreInitialIds, CreateVolumes, AddFirstCheckpoint, CopyDisks, CopyingPaused, RemovePreviousSnapshot, CreateSnapshot, StoreIds, AddCheckpoint, StorePowerState, PowerOffSource, WaitForPowerOff, RemovePenultimateSnapshot, CreateFinalSnapshot, AddFinalCheckpoint, CopyFinal, RemoveFinalSnapshot, Completed, Cancelled, Failed}

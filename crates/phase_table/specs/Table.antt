@@ -1,5 +1,5 @@
--- What a table of successors gives. Of rows that fit the one that stands first counts, so a table is a
--- function of phase and fact, whatever rows it has.
+-- What a table of successors gives. Of rows that fit the one that stands first counts, so a table
+-- is a function of phase and fact, whatever rows it has.
 use Rattle.std.specs.Prelude.{◌≡◌, ℕ, ◌==◌, ◌&&◌, Bool, List, Option, option_map, All}
 use Rattle.std.specs.List.{find}
 use Rattle.phase_table.specs.declared.phases.Phase.{Phase}

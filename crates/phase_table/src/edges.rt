@@ -6,8 +6,8 @@ ghost use Rattle.phase_table.specs.Table.{successor_in};
 
 use crate::{Fact, Phase};
 
-/// The phase that a migration in `phase` is in after it has seen `fact`. None where `phase` is an end,
-/// and where `fact` isn't one that leads out of it.
+/// The phase that a migration in `phase` is in after it has seen `fact`. None where `phase` is an
+/// end, and where `fact` isn't one that leads out of it.
 pub fn next(phase: Phase, fact: Fact) -> Option<Phase>
     ensures { result ≡ successor_in all_rows phase fact }
 {

@@ -8,8 +8,8 @@ pub fn successors_are_those()
     ensures ends { EndsHaveNoSuccessor }
 {}
 
-/// A row counts where it is of the phase and the fact that were asked for, a table gives none exactly
-/// where no row counts, and the numbers of phases tell them apart.
+/// A row counts where it is of the phase and the fact that were asked for, a table gives none
+/// exactly where no row counts, and the numbers of phases tell them apart.
 pub fn rows_are_told_apart()
     ensures fits { FitsMeans }
     ensures none { NoneWhereNoRowFits }

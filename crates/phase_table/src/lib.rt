@@ -1,6 +1,6 @@
-//! The 22 phases of a migration and the finite table of their successors, by what was seen in a phase.
-//! The controller goes through the table one record a step. From every phase but the three ends a
-//! migration can also be cancelled or fail.
+//! The 22 phases of a migration and the finite table of their successors, by what was seen in a
+//! phase. The controller goes through the table one record a step. From every phase but the three
+//! ends a migration can also be cancelled or fail.
 #![tactic(auto)]
 
 mod edges;

@@ -1,5 +1,5 @@
-//! The phases that a migration goes through, one by one. What comes after each stands in the table of
-//! edges; here is what they are called and which of them end a migration.
+//! The phases that a migration goes through, one by one. What comes after each stands in the table
+//! of edges; here is what they are called and which of them end a migration.
 ghost use Rattle.std.specs.Prelude.{◌≡◌};
 ghost use Rattle.phase_table.specs.Phases.{phase_number, phase_name, is_end};
 

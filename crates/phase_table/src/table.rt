@@ -1,5 +1,5 @@
-//! A table of successors: rows of a phase, a fact and the phase that comes then. A table may have any
-//! number of rows in any order; where two rows are of one phase and one fact, the first counts.
+//! A table of successors: rows of a phase, a fact and the phase that comes then. A table may have
+//! any number of rows in any order; where two rows are of one phase and one fact, the first counts.
 ghost use Rattle.std.specs.Prelude.{◌≡◌, ◌↔◌, IsTrue, IsNone};
 ghost use Rattle.phase_table.specs.Table.{Fits, fits, NoRowFits, successor_in};
 

@@ -1,5 +1,5 @@
 -- From what the parts of the decoder answer to what the decoder answers.
-use Rattle.std.proofs.Common.{◌≡◌, ℕ, zero, suc, ◌-◌, ◌<◌, Bool, true, false, List, [], ◌∷◌, ◌++◌, Option, Some, None, Result, Ok, Err, refl, sym, ap, ◌∙◌, subst, ◌↔◌, cond, length, arith, eq-eqb, lit<}
+use Rattle.std.proofs.Common.{◌≡◌, ℕ, zero, suc, ◌-◌, ◌<◌, Bool, true, false, List, [], ◌∷◌, Option, Some, None, Result, Ok, Err, refl, sym, ap, ◌∙◌, subst, ◌↔◌, cond, length, arith, eq-eqb, lit<}
 use Rattle.std.specs.Prelude.{nat_lt, ◌==◌, slice_index_or}
 use Rattle.std.specs.List.{find}
 use Rattle.std.specs.Option.{ok_or}
@@ -7,8 +7,8 @@ use Rattle.record_codec.specs.declared.parse.CodecRefused.{CodecRefused}
 use Rattle.record_codec.specs.declared.parse.CodecRefused.TheVariants.{Bad, NoMemory}
 use Rattle.record_codec.specs.declared.record.Record.{Record}
 use Rattle.record_codec.specs.declared.record.Kind.{Kind}
-use Rattle.record_codec.specs.declared.record.Kind.TheVariants.{PlanMade as PlanMadeKind, MigrationStarted as MigrationStartedKind, Chosen as ChosenKind, SnapTaken as SnapTakenKind, IdsStored as IdsStoredKind, VolumesMade as VolumesMadeKind, CheckpointAdded as CheckpointAddedKind, StageBegun as StageBegunKind, StageDone as StageDoneKind, Paused as PausedKind, SnapRemoved as SnapRemovedKind, CutoverSet as CutoverSetKind, PowerStored as PowerStoredKind, PoweredOff as PoweredOffKind, OffSeen as OffSeenKind, FinalSnapTaken as FinalSnapTakenKind, CancelAsked as CancelAskedKind, Ended as EndedKind}
-use Rattle.record_codec.specs.Record.{kind_of, kind_byte, all_kinds, spelling, spelled_fields, fields_of, HasSpelling, Spells}
+use Rattle.record_codec.specs.declared.record.Kind.TheVariants.{PlanMade as PlanMadeKind, IdsStored as IdsStoredKind}
+use Rattle.record_codec.specs.Record.{kind_of, kind_byte, all_kinds, spelled_fields, fields_of, Spells}
 use Rattle.record_codec.specs.Parse.{fixed_size, parse_fixed, Reads}
 use Rattle.record_codec.specs.Decoded.{IsDecoded}
 use Rattle.record_codec.proofs.Numbers.{IsBytes}

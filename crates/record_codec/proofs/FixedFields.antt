@@ -1,15 +1,14 @@
 -- Records whose fields have a fixed size: what stands in such bytes, and what is read of a spelling.
-use Rattle.std.proofs.Common.{◌≡◌, ℕ, zero, suc, ◌+◌, ◌*◌, ◌^◌, ◌<◌, ◌≤◌, Bool, true, false, cond, List, [], ◌∷◌, ◌++◌, length, drop, Option, Some, None, refl, sym, ap, ◌∙◌, subst, arith, eq-eqb}
-use Rattle.std.specs.Prelude.{◌==◌, nat_lt, nat_le, ◌&&◌, ◌||◌, slice_index, slice_index_or, option_map, if◌then◌else◌}
+use Rattle.std.proofs.Common.{◌≡◌, ℕ, zero, suc, ◌+◌, ◌<◌, ◌≤◌, Bool, true, false, List, [], ◌∷◌, ◌++◌, length, drop, Option, Some, None, refl, sym, ap, ◌∙◌, subst, arith, eq-eqb}
+use Rattle.std.specs.Prelude.{◌==◌, nat_lt, nat_le, ◌&&◌, ◌||◌, slice_index_or, option_map, if◌then◌else◌}
 use Rattle.std.specs.List.{AllByRecursion}
 use Rattle.std.proofs.lemmas.Bool.Decides.{nat_tests}
 use Rattle.std.proofs.lemmas.List.{length-drop}
-use Rattle.change_id.specs.declared.ChangeId.{ChangeId}
 use Rattle.record_codec.specs.declared.record.Record.{Record}
 use Rattle.record_codec.specs.declared.record.Record.TheVariants.{PlanMade, MigrationStarted, Chosen, SnapTaken, IdsStored, VolumesMade, CheckpointAdded, StageBegun, StageDone, Paused, SnapRemoved, CutoverSet, PowerStored, PoweredOff, OffSeen, FinalSnapTaken, CancelAsked, Ended}
 use Rattle.record_codec.specs.declared.record.Kind.{Kind}
 use Rattle.record_codec.specs.declared.record.Kind.TheVariants.{PlanMade as PlanMadeKind, MigrationStarted as MigrationStartedKind, Chosen as ChosenKind, SnapTaken as SnapTakenKind, IdsStored as IdsStoredKind, VolumesMade as VolumesMadeKind, CheckpointAdded as CheckpointAddedKind, StageBegun as StageBegunKind, StageDone as StageDoneKind, Paused as PausedKind, SnapRemoved as SnapRemovedKind, CutoverSet as CutoverSetKind, PowerStored as PowerStoredKind, PoweredOff as PoweredOffKind, OffSeen as OffSeenKind, FinalSnapTaken as FinalSnapTakenKind, CancelAsked as CancelAskedKind, Ended as EndedKind}
-use Rattle.record_codec.specs.Record.{Field, Byte, Word, Long, Flag, Text, Words, Ids, word_bytes, long_bytes, flag_byte, field_bytes, HasRange, kind_of, kind_byte, all_kinds, fields_of, KeepsRule, HasSpelling, spelled_fields, spelling, Spells}
+use Rattle.record_codec.specs.Record.{Field, Byte, Word, Long, Flag, word_bytes, long_bytes, flag_byte, HasRange, kind_of, kind_byte, all_kinds, fields_of, KeepsRule, spelled_fields, Spells}
 use Rattle.record_codec.specs.Parse.{word_at, long_at, byte_at, flag_of, flag_at, fixed_size, fixed_record, fixed_rule, where_kept, parse_fixed}
 use Rattle.record_codec.proofs.Numbers.{IsBytes, drop_bytes, word_split, long_split, word_fits, long_fits, word_back, long_back}
 

@@ -1,7 +1,6 @@
 -- Pieces of bytes in a row: what one item more adds, and how long they are.
-use Rattle.std.proofs.Common.{◌≡◌, ℕ, zero, suc, ◌+◌, ◌*◌, ◌<◌, List, [], ◌∷◌, ◌++◌, length, map, take, slice_index_or, refl, sym, ap, ◌∙◌, arith, add-one, append_assoc, append-nil, length-append}
+use Rattle.std.proofs.Common.{◌≡◌, ℕ, zero, suc, ◌+◌, ◌*◌, ◌<◌, List, [], ◌∷◌, ◌++◌, length, map, take, slice_index_or, sym, ap, ◌∙◌, arith, add-one, append_assoc, append-nil, length-append}
 use Rattle.std.specs.List.{concat}
-use Rattle.std.proofs.lemmas.Grind.{common_steps}
 
 concat_suc : {A : Type 0} (f : A → List ℕ) (xs : List A) (i : ℕ) (d : A) → i < length xs
     → concat (map f (take (suc i) xs)) ≡ concat (map f (take i xs)) ++ f (slice_index_or xs i d)

@@ -1,5 +1,5 @@
 -- Rows of numbers and of identifiers, read item by item.
-use Rattle.std.proofs.Common.{◌≡◌, ℕ, zero, suc, ◌+◌, ◌-◌, ◌*◌, ◌<◌, ◌≤◌, List, [], ◌∷◌, ◌++◌, drop, refl, sym, ap, ◌∙◌, arith, append_assoc, append-nil}
+use Rattle.std.proofs.Common.{◌≡◌, ℕ, suc, ◌+◌, ◌-◌, ◌<◌, ◌≤◌, List, [], ◌∷◌, ◌++◌, drop, sym, ap, ◌∙◌, arith, append_assoc, append-nil}
 use Rattle.change_id.specs.declared.ChangeId.{ChangeId}
 use Rattle.record_codec.specs.Parse.{word_at, id_at, words_in, ids_in}
 

@@ -1,21 +1,19 @@
 -- Plans and identifiers: what stands in bytes that meet the needs, and that the bytes of such a record
 -- meet them.
-use Rattle.std.proofs.Common.{◌≡◌, ℕ, zero, suc, ◌+◌, ◌-◌, ◌*◌, ◌^◌, ◌<◌, ◌≤◌, Bool, true, false, List, [], ◌∷◌, ◌++◌, length, take, drop, map, Option, Some, None, Result, Ok, Err, refl, sym, ap, ◌∙◌, subst, arith, append_assoc, append-nil, length-append, eq-eqb}
+use Rattle.std.proofs.Common.{◌≡◌, ℕ, zero, suc, ◌+◌, ◌-◌, ◌*◌, ◌^◌, ◌<◌, ◌≤◌, true, false, List, [], ◌∷◌, ◌++◌, length, take, drop, Option, Some, Ok, Err, refl, sym, ap, ◌∙◌, subst, arith, append_assoc, append-nil, length-append, eq-eqb}
 use Rattle.std.specs.Prelude.{slice_index, ◌==◌}
-use Rattle.std.specs.List.{AllByRecursion, concat}
+use Rattle.std.specs.List.{AllByRecursion}
 use Rattle.std.proofs.lemmas.List.{length-drop, length-take-le, take-append-drop}
 use Rattle.basics.specs.Spelled.{IsName}
 use Rattle.change_id.specs.declared.ChangeId.{ChangeId}
-use Rattle.record_codec.specs.declared.record.TheConstants.{MAX_INTERVAL}
 use Rattle.record_codec.specs.declared.record.Record.{Record}
 use Rattle.record_codec.specs.declared.record.Record.TheVariants.{PlanMade, MigrationStarted, Chosen, SnapTaken, IdsStored, VolumesMade, CheckpointAdded, StageBegun, StageDone, Paused, SnapRemoved, CutoverSet, PowerStored, PoweredOff, OffSeen, FinalSnapTaken, CancelAsked, Ended}
-use Rattle.record_codec.specs.Record.{Field, Byte, Word, Long, Flag, Text, Words, Ids, word_bytes, long_bytes, uuid_bytes, id_bytes, all_word_bytes, all_id_bytes, HasRange, IdHasRange, IsPlan, kind_of, kind_byte, fields_of, HasSpelling, spelled_fields, spelling, Spells}
-use Rattle.record_codec.specs.Parse.{word_at, long_at, uuid_at, byte_at, id_at, words_in, ids_in, behind_name_len, name_len, plan_name, behind_name, plan_interval, plan_count, plan_vms, plan_at, PlanNeeds, ids_count, ids_row, ids_at, IdsNeed, fixed_record}
+use Rattle.record_codec.specs.Record.{word_bytes, long_bytes, uuid_bytes, id_bytes, all_word_bytes, all_id_bytes, IdHasRange, IsPlan, kind_of, kind_byte, fields_of, HasSpelling, spelled_fields, spelling, Spells}
+use Rattle.record_codec.specs.Parse.{word_at, long_at, uuid_at, id_at, words_in, ids_in, behind_name_len, name_len, plan_name, behind_name, plan_interval, plan_count, plan_vms, plan_at, PlanNeeds, ids_count, ids_row, ids_at, IdsNeed, fixed_record}
 use Rattle.record_codec.proofs.Numbers.{IsBytes, drop_bytes, word_split, long_split, uuid_split, word_fits, long_fits, uuid_fits, word_back, long_back, uuid_back, length-word_bytes, length-long_bytes, length-uuid_bytes, word_rest, long_rest, uuid_rest}
 use Rattle.record_codec.proofs.Pieces.{length-concat}
 use Rattle.record_codec.specs.declared.record.Kind.{Kind}
 use Rattle.record_codec.specs.declared.record.Kind.TheVariants.{PlanMade as PlanMadeKind, MigrationStarted as MigrationStartedKind, Chosen as ChosenKind, SnapTaken as SnapTakenKind, IdsStored as IdsStoredKind, VolumesMade as VolumesMadeKind, CheckpointAdded as CheckpointAddedKind, StageBegun as StageBegunKind, StageDone as StageDoneKind, Paused as PausedKind, SnapRemoved as SnapRemovedKind, CutoverSet as CutoverSetKind, PowerStored as PowerStoredKind, PoweredOff as PoweredOffKind, OffSeen as OffSeenKind, FinalSnapTaken as FinalSnapTakenKind, CancelAsked as CancelAskedKind, Ended as EndedKind}
-use Rattle.record_codec.specs.declared.parse.CodecRefused.{CodecRefused}
 use Rattle.record_codec.specs.declared.parse.CodecRefused.TheVariants.{Bad, NoMemory}
 use Rattle.record_codec.specs.Laws.{SpellingsDiffer, SpelledIsRead}
 use Rattle.record_codec.proofs.FixedFields.{byte_split, fixed_forth, kinds_differ, tail_same, head_same}
@@ -68,7 +66,7 @@ length-ids_in : (count : ℕ) (bytes : List ℕ) → length (ids_in count bytes)
 length-ids_in zero bytes = refl
 length-ids_in (suc count) bytes = let e = length-ids_in count (drop 8 (drop 16 bytes)) in omega arith
 
-length-id_bytes : (id : ChangeId) → length (id_bytes id) ≡ 24
+pub length-id_bytes : (id : ChangeId) → length (id_bytes id) ≡ 24
 length-id_bytes id =
     length-append (uuid_bytes id.uuid) (long_bytes id.seq)
     ∙ (let u = length-uuid_bytes id.uuid in let l = length-long_bytes id.seq in omega arith)

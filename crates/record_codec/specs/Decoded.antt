@@ -5,7 +5,8 @@ use Rattle.record_codec.specs.declared.parse.CodecRefused.{CodecRefused}
 use Rattle.record_codec.specs.declared.parse.CodecRefused.TheVariants.{Bad, NoMemory}
 use Rattle.record_codec.specs.Record.{Spells}
 
--- the record that the body spells; Bad where it spells none; want of memory only where it spells one
+-- the record that the body spells; Bad where it spells none; want of memory only where it spells
+-- one
 abbrev pub IsDecoded : List ℕ → Result Record CodecRefused → Type 0
 IsDecoded body (Ok r) = Spells body r
 IsDecoded body (Err Bad) = (r : Record) → ¬ (Spells body r)

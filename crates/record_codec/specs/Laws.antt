@@ -1,10 +1,10 @@
--- What holds of every record and its bytes: a spelling is one record's alone, so what was written is read
--- as nothing else, and no answer of the decoder but want of memory stands between the two.
-use Rattle.std.specs.Prelude.{◌≡◌, ℕ, List, Result, Ok, Err}
+-- What holds of every record and its bytes: a spelling is one record's alone, so what was written
+-- is read as nothing else, and no answer of the decoder but want of memory stands between the two.
+use Rattle.std.specs.Prelude.{◌≡◌, ℕ, List, length, Result, Ok, Err}
 use Rattle.record_codec.specs.declared.record.Record.{Record}
 use Rattle.record_codec.specs.declared.parse.CodecRefused.{CodecRefused}
 use Rattle.record_codec.specs.declared.parse.CodecRefused.TheVariants.{Bad, NoMemory}
-use Rattle.record_codec.specs.Record.{HasSpelling, spelling, Spells}
+use Rattle.record_codec.specs.Record.{HasSpelling, spelling, spelled_size, Spells}
 use Rattle.record_codec.specs.Decoded.{IsDecoded}
 
 -- no two records share a spelling
@@ -21,3 +21,6 @@ IsReadAs r (Err NoMemory) = Unit {0}
 abbrev pub SpelledIsRead : Type 0
 SpelledIsRead = (body : List ℕ) (r : Record) (answer : Result Record CodecRefused)
     → Spells body r → IsDecoded body answer → IsReadAs r answer
+
+abbrev pub SpellingsHaveTheirSize : Type 0
+SpellingsHaveTheirSize = (r : Record) → length (spelling r) ≡ spelled_size r

@@ -1,6 +1,7 @@
--- How a body is read: a number where its bytes stand, and what is left behind it. The private functions
--- of the decoder are tied to these words; that they read spellings and nothing else is proved of them.
-use Rattle.std.specs.Prelude.{◌≡◌, ℕ, zero, suc, ◌≤◌, ◌+◌, ◌*◌, ◌==◌, ◌&&◌, ◌||◌, nat_lt, nat_le, not, Bool, true, false, List, [], ◌∷◌, length, take, drop, slice_index, Option, Some, None, option_map, Result, Ok, Err, if◌then◌else◌}
+-- How a body is read: a number where its bytes stand, and what is left behind it. The private
+-- functions of the decoder are tied to these words; that they read spellings and nothing else is
+-- proved of them.
+use Rattle.std.specs.Prelude.{◌≡◌, ℕ, zero, suc, ◌≤◌, ◌+◌, ◌*◌, ◌==◌, ◌&&◌, ◌||◌, nat_lt, nat_le, Bool, true, false, List, [], ◌∷◌, length, take, drop, slice_index, Option, Some, None, option_map, Result, Ok, Err, if◌then◌else◌}
 use Rattle.std.specs.Int.{w32, w64, w128, from_be_bytes}
 use Rattle.basics.specs.Spelled.{IsName}
 use Rattle.change_id.specs.declared.ChangeId.{ChangeId}
@@ -54,7 +55,8 @@ fixed_size EndedKind = 13
 -- the record of a kind whose size is fixed, from that many bytes
 abbrev pub fixed_record : Kind → List ℕ → Option Record
 fixed_record PlanMadeKind bytes = None
-fixed_record MigrationStartedKind bytes = Some (MigrationStarted (word_at bytes) (word_at (drop 4 bytes))
+fixed_record MigrationStartedKind bytes =
+    Some (MigrationStarted (word_at bytes) (word_at (drop 4 bytes))
     (word_at (drop 4 (drop 4 bytes))) (word_at (drop 4 (drop 4 (drop 4 bytes)))))
 fixed_record ChosenKind bytes =
     Some (Chosen (word_at bytes) (byte_at (drop 4 bytes)) (long_at (drop 1 (drop 4 bytes))))
@@ -63,7 +65,8 @@ fixed_record SnapTakenKind bytes =
 fixed_record IdsStoredKind bytes = None
 fixed_record VolumesMadeKind bytes = Some (VolumesMade (word_at bytes))
 fixed_record CheckpointAddedKind bytes =
-    option_map (λ flag. CheckpointAdded (word_at bytes) (word_at (drop 4 bytes)) (word_at (drop 4 (drop 4 bytes))) flag)
+    option_map (λ flag. CheckpointAdded (word_at bytes) (word_at (drop 4 bytes))
+    (word_at (drop 4 (drop 4 bytes))) flag)
     (flag_at (drop 4 (drop 4 (drop 4 bytes))))
 fixed_record StageBegunKind bytes = Some (StageBegun (word_at bytes) (word_at (drop 4 bytes)))
 fixed_record StageDoneKind bytes =
@@ -78,7 +81,8 @@ fixed_record PowerStoredKind bytes =
 fixed_record PoweredOffKind bytes = Some (PoweredOff (word_at bytes))
 fixed_record OffSeenKind bytes =
     option_map (λ flag. OffSeen (word_at bytes) flag) (flag_at (drop 4 bytes))
-fixed_record FinalSnapTakenKind bytes = Some (FinalSnapTaken (word_at bytes) (word_at (drop 4 bytes))
+fixed_record FinalSnapTakenKind bytes =
+    Some (FinalSnapTaken (word_at bytes) (word_at (drop 4 bytes))
     (long_at (drop 4 (drop 4 bytes))) (long_at (drop 8 (drop 4 (drop 4 bytes)))))
 fixed_record CancelAskedKind bytes = Some (CancelAsked (word_at bytes))
 fixed_record EndedKind bytes =
@@ -89,7 +93,20 @@ fixed_rule (Chosen mig way at) = nat_le way 2
 fixed_rule (CutoverSet plan has at) = has || at == 0
 fixed_rule (FinalSnapTaken mig snap mark place) = nat_lt place mark
 fixed_rule (Ended mig how place) = nat_le how 3 && (how == 0 || place == 0)
-fixed_rule _ = true
+fixed_rule (MigrationStarted mig plan vm disks) = true
+fixed_rule (SnapTaken mig snap mark) = true
+fixed_rule (VolumesMade mig) = true
+fixed_rule (CheckpointAdded mig previous current last) = true
+fixed_rule (StageBegun mig disk) = true
+fixed_rule (StageDone mig disk written) = true
+fixed_rule (Paused mig at) = true
+fixed_rule (SnapRemoved mig snap) = true
+fixed_rule (PowerStored mig on) = true
+fixed_rule (PoweredOff mig) = true
+fixed_rule (OffSeen mig off) = true
+fixed_rule (CancelAsked mig) = true
+fixed_rule (PlanMade plan name interval vms) = true
+fixed_rule (IdsStored mig ids) = true
 
 abbrev pub where_kept : Option Record → Option Record
 where_kept None = None
@@ -98,27 +115,6 @@ where_kept (Some r) = if fixed_rule r then Some r else None
 abbrev pub parse_fixed : Kind → List ℕ → Option Record
 parse_fixed kind bytes =
     if length bytes == fixed_size kind then where_kept (fixed_record kind bytes) else None
-
--- how many bytes the spelling of a record takes
-abbrev pub spelled_size : Record → ℕ
-spelled_size (PlanMade plan name interval vms) = 14 + length name + 4 * length vms
-spelled_size (MigrationStarted mig plan vm disks) = 17
-spelled_size (Chosen mig way at) = 14
-spelled_size (SnapTaken mig snap mark) = 17
-spelled_size (IdsStored mig ids) = 9 + 24 * length ids
-spelled_size (VolumesMade mig) = 5
-spelled_size (CheckpointAdded mig previous current last) = 14
-spelled_size (StageBegun mig disk) = 9
-spelled_size (StageDone mig disk written) = 17
-spelled_size (Paused mig at) = 13
-spelled_size (SnapRemoved mig snap) = 9
-spelled_size (CutoverSet plan has at) = 14
-spelled_size (PowerStored mig on) = 6
-spelled_size (PoweredOff mig) = 5
-spelled_size (OffSeen mig off) = 6
-spelled_size (FinalSnapTaken mig snap mark place) = 25
-spelled_size (CancelAsked mig) = 5
-spelled_size (Ended mig how place) = 14
 
 -- the first numbers, or identifiers, of a row
 abbrev pub words_in : (count : ℕ) → List ℕ → List ℕ

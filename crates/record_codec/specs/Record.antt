@@ -1,8 +1,9 @@
--- The grammar of records: one byte for the kind, then the fields of that kind in order, nothing else.
--- Numbers are big-endian. `fields_of` is the table of kinds and fields; `KeepsRule` is what a record owes
--- besides. What has a spelling has one, so the records of a journal are known by its bytes.
-use Rattle.std.specs.Prelude.{◌≡◌, ◌≢◌, ℕ, ◌^◌, ◌≤◌, ◌<◌, Bool, true, false, List, [], ◌∷◌, ◌++◌, length, map, All, if◌then◌else◌}
-use Rattle.std.specs.List.{concat, AllByRecursion}
+-- The grammar of records: one byte for the kind, then the fields of that kind in order, nothing
+-- else. Numbers are big-endian. `fields_of` is the table of kinds and fields; `KeepsRule` is what a
+-- record owes besides. What has a spelling has one, so the records of a journal are known by its
+-- bytes.
+use Rattle.std.specs.Prelude.{◌≡◌, ◌≢◌, ℕ, ◌+◌, ◌*◌, ◌^◌, ◌≤◌, ◌<◌, Bool, false, List, [], ◌∷◌, ◌++◌, length, map, if◌then◌else◌}
+use Rattle.std.specs.List.{concat, sum_by, AllByRecursion}
 use Rattle.std.specs.Int.{w32, w64, w128, to_be_bytes}
 use Rattle.basics.specs.Spelled.{IsName}
 use Rattle.change_id.specs.declared.ChangeId.{ChangeId}
@@ -53,6 +54,16 @@ field_bytes (Flag flag) = flag_byte flag ∷ []
 field_bytes (Text text) = length text ∷ text
 field_bytes (Words numbers) = word_bytes (length numbers) ++ all_word_bytes numbers
 field_bytes (Ids ids) = word_bytes (length ids) ++ all_id_bytes ids
+
+-- how many bytes that takes
+abbrev pub field_size : Field → ℕ
+field_size (Byte n) = 1
+field_size (Word n) = 4
+field_size (Long n) = 8
+field_size (Flag flag) = 1
+field_size (Text text) = 1 + length text
+field_size (Words numbers) = 4 + 4 * length numbers
+field_size (Ids ids) = 4 + 24 * length ids
 
 abbrev pub IdHasRange : ChangeId → Type 0
 IdHasRange id = (id.uuid < 2 ^ 128) × (id.seq < 2 ^ 64)
@@ -137,7 +148,8 @@ fields_of (FinalSnapTaken mig snap mark place) = Word mig ∷ Word snap ∷ Long
 fields_of (CancelAsked mig) = Word mig ∷ []
 fields_of (Ended mig how place) = Word mig ∷ Byte how ∷ Long place ∷ []
 
--- what a plan owes: a name, an interval of a minute to a week, and a list whose length has four bytes
+-- what a plan owes: a name, an interval of a minute to a week, and a list whose length has four
+-- bytes
 pub record IsPlan (name : List ℕ) (interval : ℕ) (vms : List ℕ) : Type 0 where
   pub named : IsName name
   pub least : 1 ≤ interval
@@ -151,10 +163,21 @@ KeepsRule (IdsStored mig ids) = length ids < 2 ^ 32
 KeepsRule (CutoverSet plan has at) = has ≡ false → at ≡ 0
 KeepsRule (FinalSnapTaken mig snap mark place) = place < mark
 KeepsRule (Ended mig how place) = (how ≤ 3) × (how ≢ 0 → place ≡ 0)
-KeepsRule _ = Unit {0}
+KeepsRule (MigrationStarted mig plan vm disks) = Unit {0}
+KeepsRule (SnapTaken mig snap mark) = Unit {0}
+KeepsRule (VolumesMade mig) = Unit {0}
+KeepsRule (CheckpointAdded mig previous current last) = Unit {0}
+KeepsRule (StageBegun mig disk) = Unit {0}
+KeepsRule (StageDone mig disk written) = Unit {0}
+KeepsRule (Paused mig at) = Unit {0}
+KeepsRule (SnapRemoved mig snap) = Unit {0}
+KeepsRule (PowerStored mig on) = Unit {0}
+KeepsRule (PoweredOff mig) = Unit {0}
+KeepsRule (OffSeen mig off) = Unit {0}
+KeepsRule (CancelAsked mig) = Unit {0}
 
--- the numbers of the record have their ranges, as those of every value of the program have, and it keeps
--- its rule
+-- the numbers of the record have their ranges, as those of every value of the program have, and it
+-- keeps its rule
 pub record HasSpelling (r : Record) : Type 0 where
   pub ranges : AllByRecursion HasRange (fields_of r)
   pub rule : KeepsRule r
@@ -164,6 +187,10 @@ spelled_fields fields = concat (map field_bytes fields)
 
 abbrev pub spelling : Record → List ℕ
 spelling r = kind_byte (kind_of r) ∷ spelled_fields (fields_of r)
+
+-- how many bytes the spelling of a record has
+abbrev pub spelled_size : Record → ℕ
+spelled_size r = 1 + sum_by field_size (fields_of r)
 
 pub record Spells (body : List ℕ) (r : Record) : Type 0 where
   pub record_has : HasSpelling r

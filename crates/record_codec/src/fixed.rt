@@ -81,6 +81,19 @@ fn keeps_rule(kept: &Record) -> bool
         Record::CutoverSet { has, at, .. } => *has || *at == 0,
         Record::FinalSnapTaken { mark, place, .. } => place < mark,
         Record::Ended { how, place, .. } => *how <= 3 && (*how == 0 || *place == 0),
-        _ => true,
+        Record::PlanMade { .. }
+        | Record::MigrationStarted { .. }
+        | Record::SnapTaken { .. }
+        | Record::IdsStored { .. }
+        | Record::VolumesMade { .. }
+        | Record::CheckpointAdded { .. }
+        | Record::StageBegun { .. }
+        | Record::StageDone { .. }
+        | Record::Paused { .. }
+        | Record::SnapRemoved { .. }
+        | Record::PowerStored { .. }
+        | Record::PoweredOff { .. }
+        | Record::OffSeen { .. }
+        | Record::CancelAsked { .. } => true,
     }
 }

@@ -1,5 +1,5 @@
-//! The records of the journal and their bytes. Each record that keeps its rule has exactly one spelling, no
-//! two records share one, and nothing but a spelling is read.
+//! The records of the journal and their bytes. Each record that keeps its rule has exactly one
+//! spelling, no two records share one, and nothing but a spelling is read.
 #![tactic(auto)]
 
 mod fields;
@@ -14,7 +14,7 @@ mod tests;
 mod variable;
 
 pub use basics::{Name, NoMemory, NumberList};
-pub use laws::{spelled_is_read, spellings_differ};
+pub use laws::{spelled_is_read, spellings_differ, spellings_have_their_size};
 pub use parse::{CodecRefused, decode};
 pub use record::{IdList, Kind, MAX_INTERVAL, Record};
 pub use spell::encode;

@@ -1,5 +1,5 @@
-//! The reading of records. Everything that can be wrong with a body is looked at before memory is taken,
-//! so want of memory is answered of spellings alone.
+//! The reading of records. Everything that can be wrong with a body is looked at before memory is
+//! taken, so want of memory is answered of spellings alone.
 ghost use Rattle.std.specs.Prelude.{◌≡◌, ◌↔◌, ◌∷◌, Err};
 ghost use Rattle.record_codec.specs.declared.record.Record.{Record};
 ghost use Rattle.record_codec.specs.Record.{kind_byte, Spells};
@@ -66,9 +66,9 @@ impl From<basics::NoMemory> for CodecRefused {
     }
 }
 
-/// The record whose spelling the body is. [`CodecRefused::Bad`] exactly where it is the spelling of no
-/// record: another kind, a field that is cut or out of its range, bytes left over, a rule that is broken.
-/// [`CodecRefused::NoMemory`] only for a spelling.
+/// The record whose spelling the body is. [`CodecRefused::Bad`] exactly where it is the spelling of
+/// no record: another kind, a field that is cut or out of its range, bytes left over, a rule that
+/// is broken. [`CodecRefused::NoMemory`] only for a spelling.
 pub fn decode(alloc: Global, body: &[u8]) -> Result<Record, CodecRefused>
     ensures decoded { IsDecoded body.now result }
     ensures bad { (result ≡ Err CodecRefused.Bad) ↔ ((r : Record) → ¬ (Spells body.now r)) }

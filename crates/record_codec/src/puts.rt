@@ -94,7 +94,8 @@ pub(crate) fn put_name(out: &mut Vec<u8>, name: &Name)
 pub(crate) fn put_words(out: &mut Vec<u8>, numbers: &NumberList)
     requires room { vec_len out.old + 4 + 4 * length numbers.now ≤ vec_capacity out.old }
     requires few { length numbers.now < 2 ^ 32 }
-    ensures items { out.new.items ≡ out.old.items ++ word_bytes (length numbers.now) ++ all_word_bytes numbers.now }
+    ensures items { out.new.items
+        ≡ out.old.items ++ word_bytes (length numbers.now) ++ all_word_bytes numbers.now }
     ensures len { vec_len out.new ≡ vec_len out.old + 4 + 4 * length numbers.now }
     ensures capacity { vec_capacity out.old ≤ vec_capacity out.new }
 {
@@ -117,7 +118,8 @@ fn put_each_word(out: &mut Vec<u8>, numbers: &[u32])
 pub(crate) fn put_ids(out: &mut Vec<u8>, ids: &IdList)
     requires room { vec_len out.old + 4 + 24 * length ids.now ≤ vec_capacity out.old }
     requires few { length ids.now < 2 ^ 32 }
-    ensures items { out.new.items ≡ out.old.items ++ word_bytes (length ids.now) ++ all_id_bytes ids.now }
+    ensures items { out.new.items
+        ≡ out.old.items ++ word_bytes (length ids.now) ++ all_id_bytes ids.now }
     ensures len { vec_len out.new ≡ vec_len out.old + 4 + 24 * length ids.now }
     ensures capacity { vec_capacity out.old ≤ vec_capacity out.new }
 {

@@ -1,5 +1,5 @@
-//! What the journal keeps: the records of plans and of the steps of their migrations. The kind of a record
-//! is the first byte of its spelling.
+//! What the journal keeps: the records of plans and of the steps of their migrations. The kind of a
+//! record is the first byte of its spelling.
 ghost use Rattle.std.specs.Prelude.{◌≡◌, ◌==◌, IfOk, IfSome};
 ghost use Rattle.std.specs.List.{find};
 ghost use Rattle.record_codec.specs.Record.{kind_of, kind_byte, all_kinds};
@@ -51,9 +51,9 @@ impl IdList {
     }
 }
 
-/// One record of the journal. `mig`, `plan` and `vm` are the numbers of a migration, a plan and a machine;
-/// `snap`, `previous` and `current` those of snapshots, 0 for none; `mark` and `place` count entries of a
-/// machine's log; `at` is a moment in seconds since 1970.
+/// One record of the journal. `mig`, `plan` and `vm` are the numbers of a migration, a plan and a
+/// machine; `snap`, `previous` and `current` those of snapshots, 0 for none; `mark` and `place`
+/// count entries of a machine's log; `at` is a moment in seconds since 1970.
 #[derive(Debug, Drop)]
 pub enum Record {
     /// A plan of these machines was made, with this interval in minutes between copies, 1 to

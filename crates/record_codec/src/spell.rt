@@ -1,14 +1,13 @@
-//! The writing of records. The memory for a record is taken first, in one growth, so that what comes
-//! after can't fail and leaves no record in part.
+//! The writing of records. The memory for a record is taken first, in one growth, so that what
+//! comes after can't fail and leaves no record in part.
 ghost use Rattle.std.specs.Prelude.{◌≡◌, ◌≤◌, ◌+◌, ◌++◌, OnOk, OnErr, vec_len, vec_capacity};
-ghost use Rattle.record_codec.specs.Record.{KeepsRule, spelling};
-ghost use Rattle.record_codec.specs.Parse.{spelled_size};
+ghost use Rattle.record_codec.specs.Record.{KeepsRule, spelling, spelled_size};
 
 use crate::puts::{put_byte, put_flag, put_ids, put_long, put_name, put_word, put_words};
 use crate::{Kind, NoMemory, Record};
 
-/// Appends the one spelling of a record to `out`. It answers only want of memory, and then `out` is as
-/// before.
+/// Appends the one spelling of a record to `out`. It answers only want of memory, and then `out` is
+/// as before.
 pub fn encode(kept: &Record, out: &mut Vec<u8>) -> Result<(), NoMemory>
     requires { KeepsRule kept.now }
     ensures spelled { OnOk result (out.new.items ≡ out.old.items ++ spelling kept.now) }

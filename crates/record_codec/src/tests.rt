@@ -2,8 +2,9 @@
 use crate::{CodecRefused, decode, encode};
 use std::test::Fail;
 
-/// One body of each kind. Those of a cancel, a pause, a cutover without a moment and a finished copy are
-/// vectors of the format; the others were put together by hand from the table of kinds and fields.
+/// One body of each kind. Those of a cancel, a pause, a cutover without a moment and a finished
+/// copy are vectors of the format; the others were put together by hand from the table of kinds and
+/// fields.
 const BODIES: [&[u8]; 18] = [
     b"\x01\0\0\0\x01\x02p1\0\0\0\x3c\0\0\0\x02\0\0\0\x01\0\0\0\x02",
     b"\x02\0\0\0\x01\0\0\0\x02\0\0\0\x03\0\0\0\x04",

@@ -38,8 +38,10 @@ pub(crate) fn plan_made(alloc: Global, bytes: &[u8]) -> Result<Record, CodecRefu
 
 #[tactic(auto, using(crate::proofs::NameText::name_is_text))]
 fn plan_parts(bytes: &[u8]) -> Option<PlanParts<'_>>
-    ensures { MatchOption result (¬ (PlanNeeds bytes.now)) (λ parts. PlanNeeds bytes.now × (parts.plan ≡ word_at bytes.now) × (parts.name.now ≡ plan_name bytes.now)
-        × (parts.interval ≡ plan_interval bytes.now) × (parts.count ≡ plan_count bytes.now) × (parts.vms.now ≡ plan_vms bytes.now)) }
+    ensures { MatchOption result (¬ (PlanNeeds bytes.now)) (λ parts. PlanNeeds bytes.now
+        × (parts.plan ≡ word_at bytes.now) × (parts.name.now ≡ plan_name bytes.now)
+        × (parts.interval ≡ plan_interval bytes.now) × (parts.count ≡ plan_count bytes.now)
+        × (parts.vms.now ≡ plan_vms bytes.now)) }
 {
     if bytes.len() < 5 {
         return None;

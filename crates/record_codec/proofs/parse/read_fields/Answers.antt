@@ -1,4 +1,4 @@
-use Rattle.std.proofs.Common.{sym, ap, ◌∙◌, subst, List, ℕ, ◌∷◌}
+use Rattle.std.proofs.Common.{sym, subst, ◌∷◌}
 use Rattle.record_codec.specs.declared.record.Kind.{Kind}
 use Rattle.record_codec.specs.Record.{kind_byte}
 use Rattle.record_codec.specs.Parse.{PlanNeeds, plan_at, IdsNeed, ids_at}
