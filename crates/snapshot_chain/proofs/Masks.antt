@@ -12,7 +12,7 @@ use Rattle.std.proofs.lemmas.Nat.{ones_cat, or_shifted, one_shl, mod-pow-add, mo
 use Rattle.std.proofs.lemmas.Nat.Bits.{bit_at_cat_low, bit_at_cat_high, bit_at_above, bit_at-lt, and_pow, bit_at-zero, bit_at_lowest}
 use Rattle.std.specs.Int.Bits.{or_shifted_r}
 use Rattle.std.proofs.lemmas.Bool.{cases_eq, cases_lt, eqb-true, eq-eqb, ne_eqb}
-use Rattle.sector_model.specs.declared.contents.Sector.{Sector}
+use Rattle.sector_model.specs.declared.sector.Sector.{Sector}
 use Rattle.snapshot_chain.specs.Page128.{PageState, has_place, rank, sector_at, with_sector, IsPage}
 
 -- one more bit above the others

@@ -1,7 +1,7 @@
 -- Pages and the places that are kept for them.
 use Rattle.std.proofs.Common.{◌≡◌, ◌≢◌, ℕ, zero, suc, ◌+◌, ◌-◌, ◌*◌, ◌/◌, ◌%◌, ◌<◌, ◌≤◌, List, [], ◌∷◌, ◌++◌, length, take, drop, Option, Some, None, sym, ap, subst, refl, ◌∙◌, arith, inl, inr, ◌⊎◌}
 use Rattle.std.specs.Option.{option_or}
-use Rattle.sector_model.specs.declared.contents.Sector.{Sector}
+use Rattle.sector_model.specs.declared.sector.Sector.{Sector}
 use Rattle.snapshot_chain.specs.Page128.{PageState, sector_at, run_at, IsJoined, IsRewritten}
 use Rattle.snapshot_chain.specs.Layer.{LayerState, page_of, sector_of, sector_in, HasSame, IsWritten, HasSameOver, IsPlaceFor, HasPlacesFor, HasPlaceOver, IsWithin}
 use Rattle.std.proofs.lemmas.Bool.{cases_eq}

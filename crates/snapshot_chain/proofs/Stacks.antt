@@ -5,9 +5,9 @@ use Rattle.std.proofs.lemmas.Bool.{eq-eqb, eqb-true, cases_eq}
 use Rattle.std.proofs.lemmas.Bool.Decides.{nat_tests}
 use Rattle.snapshot_chain.specs.Kept.{AreIds}
 use Rattle.std.specs.List.{list_any, range_with_len, filter, remove, position, find, slice_get}
-use Rattle.sector_model.specs.Sectors.{zero_sector}
-use Rattle.sector_model.specs.Areas.{block_count, touches}
-use Rattle.sector_model.specs.declared.contents.Sector.{Sector}
+use Rattle.sector_model.specs.Sector.{zero_sector}
+use Rattle.sector_model.specs.Run.{block_count, touches}
+use Rattle.sector_model.specs.declared.sector.Sector.{Sector}
 use Rattle.snapshot_chain.specs.Page128.{run_at}
 use Rattle.snapshot_chain.specs.Layer.{LayerState, sector_in, HasSame, IsWritten, HasSameOver, IsMerged}
 use Rattle.snapshot_chain.specs.Chain.{Snapshot}
@@ -32,7 +32,7 @@ holds_append xs ys zs same = record { at = λ block place within.
     found-append ys zs block place ∙ ap (option_or (found zs block place)) (same.at block place within) ∙ sym (found-append xs zs block place) }
 
 -- lists made from functions that agree are one
-map-same : {X : Type 0} (f g : ℕ → X) (a n : ℕ) → ((k : ℕ) → f k ≡ g k) → map f (range_with_len a n) ≡ map g (range_with_len a n)
+pub map-same : {X : Type 0} (f g : ℕ → X) (a n : ℕ) → ((k : ℕ) → f k ≡ g k) → map f (range_with_len a n) ≡ map g (range_with_len a n)
 map-same f g a zero same = refl
 map-same f g a (suc n) same = cong_cons (same a) (map-same f g (a + 1) n same)
   where
@@ -87,11 +87,11 @@ snapshots-push c below (i ∷ ids) (l ∷ layers) id layer long =
 two : {x y : Snapshot} {xs ys : List Snapshot} → x ≡ y → xs ≡ ys → x ∷ xs ≡ y ∷ ys
 two e h = cc
 
-or_left : (a b : Bool) → (a || b) ≡ false → a ≡ false
+pub or_left : (a b : Bool) → (a || b) ≡ false → a ≡ false
 or_left true b h = h
 or_left false b h = refl
 
-or_right : (a b : Bool) → (a || b) ≡ false → b ≡ false
+pub or_right : (a b : Bool) → (a || b) ≡ false → b ≡ false
 or_right true b h = absurd (cc)
 or_right false b h = h
 

@@ -1,26 +1,31 @@
 -- What a chain holds after a call, in terms of what it held.
-use Rattle.std.proofs.Common.{◌≡◌, ◌≢◌, ℕ, zero, suc, ◌+◌, ◌-◌, ◌*◌, ◌/◌, ◌%◌, ◌<◌, ◌≤◌, min, max, List, [], ◌∷◌, ◌++◌, length, take, drop, set, get_or, map, Bool, true, false, Option, Some, None, is_some, sym, ap, subst, refl, ◌∙◌, arith, inl, inr, ◌⊎◌, append_assoc, cond, eqb, ltb, leb, nat_eq, ◌==◌, not, ◌||◌, ◌&&◌, add-one}
+use Rattle.std.proofs.Common.{◌≡◌, ◌≢◌, ℕ, zero, suc, ◌+◌, ◌-◌, ◌*◌, ◌/◌, ◌%◌, ◌<◌, ◌≤◌, min, max, List, [], ◌∷◌, ◌++◌, length, take, drop, set, get_or, map, Bool, true, false, Option, Some, None, is_some, sym, ap, subst, refl, ◌∙◌, arith, inl, inr, ◌⊎◌, append_assoc, length-take, length-drop, cond, eqb, ltb, leb, nat_eq, ◌==◌, not, ◌||◌, ◌&&◌, add-one}
 use Rattle.std.specs.Option.{option_or, unwrap_or, option_map}
 use Rattle.std.specs.List.{list_any, range_with_len, filter, remove, position, position_or_len, find, slice_get}
-use Rattle.std.proofs.lemmas.Bool.{eq-eqb, eqb-true, cases_eq, cases_lt, ne_eqb, le-leb, lt-leb, lt-ltb, le-ltb}
+use Rattle.std.proofs.lemmas.Bool.{eq-eqb, eqb-true, cases_eq, cases_lt, ne_eqb, le-leb, lt-leb, lt-ltb, le-ltb, false≢true}
 use Rattle.std.proofs.lemmas.Bool.Decides.{nat_tests}
-use Rattle.std.proofs.lemmas.Map.Views.{any-filter_same}
-use Rattle.sector_model.specs.Sectors.{zero_sector}
-use Rattle.sector_model.specs.Areas.{block_count, touches}
+use Rattle.std.proofs.lemmas.List.{ext_get_or, get_or-take, get_or-drop}
+use Rattle.std.proofs.lemmas.List.FromFn.{length-map-range_with_len, get_or-map-range_with_len}
+use Rattle.std.proofs.lemmas.Option.{slice_get_past, slice_get-get_or, get_or_from_slice_get, unwrap_or-slice_get}
+use Rattle.sector_model.proofs.Replaced.{length-replaced, replaced-before, replaced-within, replaced-behind}
+use Rattle.snapshot_chain.proofs.Writes.{run_before, run_from}
+use Rattle.snapshot_chain.proofs.Touching.{filter-within, among, has_more}
+use Rattle.sector_model.specs.Sector.{zero_sector}
+use Rattle.sector_model.specs.Run.{block_count, touches}
 use Rattle.sector_model.specs.Disk.{Write, replaced}
-use Rattle.sector_model.specs.declared.contents.Sector.{Sector}
+use Rattle.sector_model.specs.declared.sector.Sector.{Sector}
 use Rattle.snapshot_chain.specs.Page128.{run_at}
 use Rattle.snapshot_chain.specs.Layer.{LayerState, sector_in, HasSame, IsWritten, HasSameOver, IsMerged}
 use Rattle.snapshot_chain.specs.Chain.{ChainState, Snapshot, snapshot_of, contents_of, with_touched, after_writing, after_freezing, after_merging}
 use Rattle.snapshot_chain.specs.Layers.{found, sector_found, contents_in, has_found, blocks_in, snapshot_in, snapshots_in, layer_at}
 use Rattle.snapshot_chain.specs.Kept.{state_of, AreIds}
 use Rattle.snapshot_chain.proofs.Places.{or_none, or_assoc}
-use Rattle.snapshot_chain.proofs.Stacks.{HoldsSame, found-append, holds_refl, any-same, contents-same, blocks-same, snapshots-newest, snapshots-push, snapshots-raised, holds-raised, snapshots-merged, holds-merged}
+use Rattle.snapshot_chain.proofs.Stacks.{HoldsSame, found-append, map-same, any-same, contents-same, blocks-same, snapshots-newest, snapshots-push, snapshots-raised, holds-raised, snapshots-merged, holds-merged}
 
 -- ---- where an id stands
 
 first_place : {X : Type 0} (p : X → Bool) (x : X) (xs : List X) (b : Bool) → p x ≡ b → position p (x ∷ xs) ≡ cond b (Some 0) (option_map (λ i. i + 1) (position p xs))
-first_place p x xs true passes = rw passes refl
+first_place p x xs true passes = rw (passes, lt-ltb 0 (suc (length xs)) (omega arith)) refl
 first_place p x xs false fails = rw fails (shifted (position_or_len p xs) (length xs))
   where
     shifted : (n m : ℕ) → cond (ltb (1 + n) (suc m)) (Some (1 + n)) None ≡ option_map (λ i. i + 1) (cond (ltb n m) (Some n) None)
@@ -97,3 +102,106 @@ merged_state c bound layers ids free freeze_room merge_room id i new long are at
     let one : IsMerged (layer_at layers i) (layer_at layers (suc i)) new = (let P : ℕ → Type 0 = λ n. IsMerged (layer_at layers i) (layer_at layers n) new in subst P next merged) in
     let same : HoldsSame layers (set (remove layers i) i new) = holds-merged layers i new one (omega (arith, long, here.1)) in
     rw (contents-same c layers (set (remove layers i) i new) same, blocks-same c layers (set (remove layers i) i new) same, snapshots-merged c bound id [] ids layers i new here.0 are long one) refl
+
+-- ---- a write
+
+raised-newest : (layers : List LayerState) (n first : ℕ) (sectors : List Sector) (new : LayerState) → length layers ≡ n + 1 → IsWritten (layer_at layers n) new first sectors
+    → (block place : ℕ) → place < 128 → found (set layers n new) block place ≡ option_or (run_at first sectors (128 * block + place)) (found layers block place)
+raised-newest [] n first sectors new long written block place within = absurd (omega (arith, long))
+raised-newest (l ∷ []) zero first sectors new long written block place within = written block place within
+raised-newest (l ∷ m ∷ layers) zero first sectors new long written block place within = absurd (omega (arith, long))
+raised-newest (l ∷ layers) (suc n) first sectors new long written block place within =
+    ap (λ (o : Option Sector). option_or o (sector_in l block place)) (raised-newest layers n first sectors new (omega (arith, long)) written block place within)
+    ∙ or_assoc (run_at first sectors (128 * block + place)) (found layers block place) (sector_in l block place)
+
+-- a made list in which a run is replaced
+replaced-made : (f : ℕ → Sector) (first : ℕ) (ys : List Sector) (c : ℕ) → first + length ys ≤ c
+    → replaced (map f (range_with_len 0 c)) first ys ≡ map (λ s. unwrap_or (run_at first ys s) (f s)) (range_with_len 0 c)
+replaced-made f first ys c fits =
+    let old : List Sector = map f (range_with_len 0 c) in
+    let new : List Sector = map (λ s. unwrap_or (run_at first ys s) (f s)) (range_with_len 0 c) in
+    let within : first + length ys ≤ length old = omega (arith, fits, length-map-range_with_len f 0 c) in
+    let long : length (replaced old first ys) ≡ c = length-replaced old ys first within ∙ length-map-range_with_len f 0 c in
+    ext_get_or zero_sector (replaced old first ys) new (long ∙ sym (length-map-range_with_len (λ s. unwrap_or (run_at first ys s) (f s)) 0 c))
+    (λ s less. sym (unwrap_or-slice_get (replaced old first ys) s zero_sector)
+        ∙ ap (λ (o : Option Sector). unwrap_or o zero_sector) (at s (omega (arith, less, long)))
+        ∙ sym (get_or-map-range_with_len (λ k. unwrap_or (run_at first ys k) (f k)) 0 c s s zero_sector (omega (arith, less, long)) (omega arith)))
+  where
+    made : (s : ℕ) → s < c → slice_get (map f (range_with_len 0 c)) s ≡ Some (f s)
+    made s less =
+        slice_get-get_or (map f (range_with_len 0 c)) s zero_sector (omega (arith, less, length-map-range_with_len f 0 c))
+        ∙ ap (λ (x : Sector). Some x) (get_or-map-range_with_len f 0 c s s zero_sector less (omega arith))
+    inside : (o : Option Sector) (d : Sector) → is_some o ≡ true → o ≡ Some (unwrap_or o d)
+    inside None d some = absurd (false≢true some)
+    inside (Some x) d some = refl
+    at : (s : ℕ) → s < c → slice_get (replaced (map f (range_with_len 0 c)) first ys) s ≡ Some (unwrap_or (run_at first ys s) (f s))
+    at s less =
+        let within : first + length ys ≤ length (map f (range_with_len 0 c)) = omega (arith, fits, length-map-range_with_len f 0 c) in
+        elim (cases_lt s first) [
+          | inl before ↦ replaced-before (map f (range_with_len 0 c)) ys first within s before ∙ made s less ∙ sym (ap (λ (o : Option Sector). Some (unwrap_or o (f s))) (run_before first ys s before))
+          | inr from ↦ elim (cases_lt s (first + length ys)) [
+            | inl mid ↦
+                let there : slice_get ys (s - first) ≡ Some (get_or ys (s - first) (f s)) = slice_get-get_or ys (s - first) (f s) (omega (arith, from, mid)) in
+                replaced-within (map f (range_with_len 0 c)) ys first within s from mid ∙ there
+                ∙ sym (ap (λ (o : Option Sector). Some (unwrap_or o (f s))) (run_from first ys s from ∙ there))
+            | inr past ↦
+                replaced-behind (map f (range_with_len 0 c)) ys first within s past ∙ made s less
+                ∙ sym (ap (λ (o : Option Sector). Some (unwrap_or o (f s))) (run_from first ys s from ∙ slice_get_past ys (s - first) (omega (arith, past))))
+          ]
+        ]
+
+pub written_state : (c : ℕ) (layers : List LayerState) (ids : List ℕ) (free : ℕ) (freeze_room : Bool) (merge_room : Option ℕ) (first : ℕ) (sectors : List Sector) (new : LayerState)
+    → length layers ≡ length ids + 1 → first + length sectors ≤ c → IsWritten (layer_at layers (length ids)) new first sectors
+    → state_of c (set layers (length ids) new) ids free freeze_room None ≡ after_writing (record { first = first; sectors = sectors }) (state_of c layers ids free freeze_room merge_room)
+written_state c layers ids free freeze_room merge_room first sectors new long fits written =
+    rw (contents, blocks, snapshots-newest c [] ids layers new) refl
+  where
+    more : (block place : ℕ) → place < 128 → found (set layers (length ids) new) block place ≡ option_or (run_at first sectors (128 * block + place)) (found layers block place)
+    more = raised-newest layers (length ids) first sectors new long written
+    each : (s : ℕ) → sector_found (set layers (length ids) new) s ≡ unwrap_or (run_at first sectors s) (sector_found layers s)
+    each s =
+        let at : 128 * (s / 128) + s % 128 ≡ s = omega arith in
+        ap (λ (o : Option Sector). unwrap_or o zero_sector) (more (s / 128) (s % 128) (omega arith) ∙ ap (λ (n : ℕ). option_or (run_at first sectors n) (found layers (s / 128) (s % 128))) at)
+        ∙ either (run_at first sectors s) (found layers (s / 128) (s % 128))
+      where
+        either : (a b : Option Sector) → unwrap_or (option_or a b) zero_sector ≡ unwrap_or a (unwrap_or b zero_sector)
+        either None b = refl
+        either (Some x) b = refl
+    contents : contents_in c (set layers (length ids) new) ≡ replaced (contents_in c layers) first sectors
+    contents = map-same (sector_found (set layers (length ids) new)) (λ s. unwrap_or (run_at first sectors s) (sector_found layers s)) 0 c each ∙ sym (replaced-made (sector_found layers) first sectors c fits)
+    blocks : blocks_in c (set layers (length ids) new) ≡ with_touched c (record { first = first; sectors = sectors }) (blocks_in c layers)
+    blocks = filter-within (has_found (set layers (length ids) new)) (λ b. list_any (nat_eq b) (blocks_in c layers) || touches b (record { first = first; sectors = sectors })) 0 (block_count c)
+        (λ b from less. any-same (λ place. is_some (found (set layers (length ids) new) b place)) (λ place. is_some (option_or (run_at first sectors (128 * b + place)) (found layers b place))) 0 128
+            (λ place low within. ap is_some (more b place (omega (arith, within))))
+        ∙ has_more first sectors b (found layers b)
+        ∙ ap (λ x. x || touches b (record { first = first; sectors = sectors })) (sym (among (has_found layers) b (block_count c) (omega (arith, less)))))
+
+-- a write that was refused for want of memory
+same-newest : (layers : List LayerState) (n : ℕ) (new : LayerState) → length layers ≡ n + 1 → HasSame (layer_at layers n) new → HoldsSame layers (set layers n new)
+same-newest [] n new long same = absurd (omega (arith, long))
+same-newest (l ∷ []) zero new long same = record { at = λ block place within. same block place within }
+same-newest (l ∷ m ∷ layers) zero new long same = absurd (omega (arith, long))
+same-newest (l ∷ layers) (suc n) new long same =
+    let tail : HoldsSame layers (set layers n new) = same-newest layers n new (omega (arith, long)) same in
+    record { at = λ block place within. ap (λ (o : Option Sector). option_or o (sector_in l block place)) (tail.at block place within) }
+
+pub unwritten_state : (c : ℕ) (layers : List LayerState) (ids : List ℕ) (free : ℕ) (freeze_room : Bool) (merge_room : Option ℕ) (new : LayerState)
+    → length layers ≡ length ids + 1 → HasSame (layer_at layers (length ids)) new
+    → state_of c (set layers (length ids) new) ids free freeze_room merge_room ≡ state_of c layers ids free freeze_room merge_room
+unwritten_state c layers ids free freeze_room merge_room new long same =
+    let held : HoldsSame layers (set layers (length ids) new) = same-newest layers (length ids) new long same in
+    rw (contents-same c layers (set layers (length ids) new) held, blocks-same c layers (set layers (length ids) new) held, snapshots-newest c [] ids layers new) refl
+
+-- ---- what is read
+
+-- a part of a made list, sector for sector
+pub read_part : (f : ℕ → Sector) (c first : ℕ) (buf : List Sector) → first + length buf ≤ c → ((k : ℕ) → k < length buf → slice_get buf k ≡ Some (f (first + k)))
+    → buf ≡ take (first + length buf - first) (drop first (map f (range_with_len 0 c)))
+read_part f c first buf fits each =
+    let n : ℕ = first + length buf - first in
+    let made : List Sector = map f (range_with_len 0 c) in
+    let long : length (take n (drop first made)) ≡ length buf = omega (arith, fits, length-take n (drop first made), length-drop first made, length-map-range_with_len f 0 c) in
+    ext_get_or zero_sector buf (take n (drop first made)) (sym long)
+    (λ k less. get_or_from_slice_get buf k (f (first + k)) zero_sector (each k less)
+        ∙ sym (get_or-take n (drop first made) k zero_sector (omega (arith, less)) ∙ get_or-drop first made k zero_sector
+            ∙ get_or-map-range_with_len f 0 c (first + k) (first + k) zero_sector (omega (arith, less, fits)) (omega arith)))

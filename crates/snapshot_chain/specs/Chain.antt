@@ -1,10 +1,10 @@
 -- What a chain holds: the contents now and at each live snapshot, the blocks that were written by then, and for which
 -- next call room was made. Layers are how it is kept, and no caller sees them.
-use Rattle.std.specs.Prelude.{◌≡◌, ℕ, ◌+◌, ◌-◌, ◌*◌, ◌/◌, ◌%◌, ◌==◌, nat_le, nat_eq, List, [], ◌∷◌, ◌++◌, length, map, filter, replicate, Bool, false, not, ◌&&◌, ◌||◌, Option, Some, None, is_some, is_none, unwrap_or, option_map, Result, Ok, Err, IsOk, IfErr, ⊤, if◌then◌else◌}
+use Rattle.std.specs.Prelude.{◌≡◌, ℕ, ◌+◌, ◌-◌, ◌*◌, ◌/◌, ◌%◌, ◌==◌, nat_le, nat_eq, List, [], ◌∷◌, ◌++◌, length, map, filter, replicate, Bool, false, not, ◌&&◌, ◌||◌, Option, Some, None, is_some, is_none, unwrap_or, option_map, Result, Ok, Err, ⊤, if◌then◌else◌}
 use Rattle.std.specs.List.{find, list_any, range_with_len}
 use Rattle.sector_model.specs.Disk.{Write, after_write, fresh_disk}
-use Rattle.sector_model.specs.Areas.{block_count, touches}
-use Rattle.sector_model.specs.declared.contents.Sector.{Sector}
+use Rattle.sector_model.specs.Run.{block_count, touches}
+use Rattle.sector_model.specs.declared.sector.Sector.{Sector}
 use Rattle.snapshot_chain.specs.declared.chain.ChainRefused.{ChainRefused}
 use Rattle.snapshot_chain.specs.declared.chain.ChainRefused.TheVariants.{UnknownSnap, Range, NoMemory}
 
@@ -63,16 +63,6 @@ snapshot_refusal chain id = if is_some (snapshot_of id chain) then None else Som
 
 abbrev pub read_refusal : ChainState → Option ℕ → (first count : ℕ) → Option ChainRefused
 read_refusal chain id first count = if is_none (contents_of id chain) then Some UnknownSnap else write_refusal chain first count
-
--- the call answers the refusal that stands; where none does, only want of memory
-abbrev pub IsRefusedBy : {T : Type 0} → Option ChainRefused → Result T ChainRefused → Type 0
-IsRefusedBy None result = IfErr result (λ why. why ≡ NoMemory)
-IsRefusedBy (Some why) result = result ≡ Err why
-
--- the call answers the refusal that stands, and is accepted where none does
-abbrev pub IsAnsweredBy : {T : Type 0} → Option ChainRefused → Result T ChainRefused → Type 0
-IsAnsweredBy None result = IsOk result
-IsAnsweredBy (Some why) result = result ≡ Err why
 
 -- a refused call changes nothing; after want of memory the room for a merge is gone
 abbrev pub IsKeptAfter : {T : Type 0} → Result T ChainRefused → (old new : ChainState) → Type 0

@@ -2,9 +2,9 @@
 use Rattle.std.specs.Prelude.{◌≡◌, ℕ, ◌+◌, ◌≤◌, ◌==◌, List, [], ◌∷◌, ◌++◌, length, take, Bool, true, false, Option, Some, None, is_some, IfSome, if◌then◌else◌}
 use Rattle.std.specs.List.{fold, filter_map, list_any, position_or_len}
 use Rattle.sector_model.specs.Disk.{Write, fold_writes}
-use Rattle.sector_model.specs.Areas.{touched_blocks, areas_of}
-use Rattle.sector_model.specs.declared.contents.Sector.{Sector}
-use Rattle.sector_model.specs.declared.extents.Run.{Run}
+use Rattle.sector_model.specs.Run.{touched_blocks, areas_of}
+use Rattle.sector_model.specs.declared.sector.Sector.{Sector}
+use Rattle.sector_model.specs.declared.run.Run.{Run}
 use Rattle.snapshot_chain.specs.Chain.{ChainState, Snapshot, snapshot_of}
 
 pub data Step : Type 0 where

@@ -1,6 +1,6 @@
 -- What the contents that a chain holds are to the history for which it stands.
 use Rattle.std.specs.Prelude.{◌≡◌, ℕ, List, Bool, true, false, Option, Some, None, IsNone, IsSomeAnd}
-use Rattle.sector_model.specs.Areas.{areas_of}
+use Rattle.sector_model.specs.Run.{areas_of}
 use Rattle.snapshot_chain.specs.Chain.{ChainState, snapshot_of, contents_of}
 use Rattle.snapshot_chain.specs.History.{Step, StandsFor, present, frozen, allocated, is_live}
 

@@ -2,9 +2,9 @@
 use Rattle.std.specs.Prelude.{◌≡◌, ℕ, ◌+◌, ◌/◌, ◌%◌, List, [], ◌∷◌, ◌++◌, map, filter, slice_set, slice_index_or, Bool, Option, Some, None, is_some, unwrap_or}
 use Rattle.std.specs.Option.{option_or}
 use Rattle.std.specs.List.{list_any, range_with_len, remove}
-use Rattle.sector_model.specs.Sectors.{zero_sector}
-use Rattle.sector_model.specs.Areas.{block_count}
-use Rattle.sector_model.specs.declared.contents.Sector.{Sector}
+use Rattle.sector_model.specs.Sector.{zero_sector}
+use Rattle.sector_model.specs.Run.{block_count}
+use Rattle.sector_model.specs.declared.sector.Sector.{Sector}
 use Rattle.snapshot_chain.specs.Chain.{Snapshot}
 use Rattle.snapshot_chain.specs.Layer.{LayerState, sector_in, IsWithin, HasSameOver, IsMerged}
 

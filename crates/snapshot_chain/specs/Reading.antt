@@ -1,7 +1,7 @@
 -- Words of a read, sector by sector.
 use Rattle.std.specs.Prelude.{◌≡◌, ℕ, ◌+◌, ◌/◌, ◌%◌, List, length, nat_eq, Bool, true, false, Option, Some, None, option_map}
 use Rattle.std.specs.List.{position}
-use Rattle.sector_model.specs.declared.contents.Sector.{Sector}
+use Rattle.sector_model.specs.declared.sector.Sector.{Sector}
 
 -- how many layers a snapshot sees, or all without a snapshot
 abbrev pub layers_seen : Option ℕ → List ℕ → Option ℕ

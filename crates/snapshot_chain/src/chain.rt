@@ -1,7 +1,8 @@
 //! The chain: what a disk holds now and at each live snapshot, kept as layers.
 ghost use Rattle.std.specs.Prelude.{◌≡◌, [], ◌+◌, ◌*◌, ◌<◌, ◌≤◌, length, IfOk, OnOk, OnErr, IfSome, IsOk, ℕ, true, is_some, nat_eq, slice_range};
 ghost use Rattle.std.specs.List.{position};
-ghost use Rattle.sector_model.specs.Areas.{areas_of};
+ghost use Rattle.basics.specs.Refusal.{IsRefusedBy, IsRefusedOr};
+ghost use Rattle.sector_model.specs.Run.{areas_of};
 ghost use Rattle.snapshot_chain.specs.Reading.{blocks_met, layers_seen};
 
 use crate::layers::{blocks_of, make_places_above, merge_down};
@@ -65,7 +66,7 @@ impl Model for Chain {
 }
 
 impl Chain {
-    ghost use Rattle.snapshot_chain.specs.Chain.{fresh, snapshot_of, contents_of, after_writing, after_freezing, after_merging, is_within, write_refusal, snapshot_refusal, read_refusal, IsRefusedBy, IsAnsweredBy, IsKeptAfter};
+    ghost use Rattle.snapshot_chain.specs.Chain.{fresh, snapshot_of, contents_of, after_writing, after_freezing, after_merging, is_within, write_refusal, snapshot_refusal, read_refusal, IsKeptAfter};
     ghost use Rattle.snapshot_chain.specs.History.{Written, Frozen, Merged, StandsFor, Takes};
 
     /// The chain of a disk that was never written. It answers only want of memory.
@@ -88,7 +89,7 @@ impl Chain {
 
     /// Writes sectors from sector `first` on. `Range` comes where there are none, or they pass the capacity.
     pub fn write(&mut self, first: u64, sectors: &[Sector]) -> Result<(), ChainRefused>
-        ensures refused { IsRefusedBy (write_refusal self.old first (length sectors.now)) result }
+        ensures refused { IsRefusedOr (write_refusal self.old first (length sectors.now)) ChainRefused.NoMemory result }
         ensures ok { OnOk result (self.new ≡ after_writing (record { first = first; sectors = sectors.now }) self.old) }
         ensures stands { OnOk result (Takes (Written (record { first = first; sectors = sectors.now })) self.old self.new) }
         ensures err { IsKeptAfter result self.old self.new }
@@ -145,7 +146,7 @@ impl Chain {
 
     /// Makes room for the `merge` of a snapshot. `UnknownSnap` comes where it isn't live.
     pub fn reserve_merge(&mut self, id: u32) -> Result<(), ChainRefused>
-        ensures refused { IsRefusedBy (snapshot_refusal self.old id) result }
+        ensures refused { IsRefusedOr (snapshot_refusal self.old id) ChainRefused.NoMemory result }
         ensures ok { OnOk result (self.new ≡ record self.old { merge_room = Some id }) }
         ensures err { IsKeptAfter result self.old self.new }
     {
@@ -161,7 +162,7 @@ impl Chain {
     /// Gives a snapshot up: its layer goes into the next newer one, whose sectors win. `UnknownSnap` comes where
     /// it isn't live. It takes no memory after a `reserve_merge` of this id since the last change.
     pub fn merge(&mut self, id: u32) -> Result<(), ChainRefused>
-        ensures refused { IsRefusedBy (snapshot_refusal self.old id) result }
+        ensures refused { IsRefusedOr (snapshot_refusal self.old id) ChainRefused.NoMemory result }
         ensures ok { OnOk result (self.new ≡ after_merging id self.old) }
         ensures stands { OnOk result (Takes (Merged id) self.old self.new) }
         ensures err { IsKeptAfter result self.old self.new }
@@ -195,7 +196,7 @@ impl Chain {
         first: u64,
         buf: &mut [Sector],
     ) -> Result<(), ChainRefused>
-        ensures answer { IsAnsweredBy (read_refusal self.now id first (length buf.old)) result }
+        ensures refused { IsRefusedBy (read_refusal self.now id first (length buf.old)) result }
         ensures ok { OnOk result (IfSome (contents_of id self.now)
             (λ contents. buf.new ≡ slice_range contents first (first + length buf.old))) }
         ensures err { OnErr result (buf.new ≡ buf.old) }
@@ -214,7 +215,7 @@ impl Chain {
         requires name { blank.name ≡ L.name }
         requires parts { blank.parts ≡ L.parts }
         requires some_parts { 0 < L.parts }
-        ensures answer { IsAnsweredBy (read_refusal self.now id first (length buf.old)) result }
+        ensures refused { IsRefusedBy (read_refusal self.now id first (length buf.old)) result }
         ensures ok { OnOk result (IfSome (contents_of id self.now)
             (λ contents. buf.new ≡ slice_range contents first (first + length buf.old))) }
         ensures err { OnErr result (buf.new ≡ buf.old) }
@@ -232,7 +233,7 @@ impl Chain {
         buf: &mut [Sector],
         steps: &mut Steps<L>,
     ) -> Result<(), ChainRefused>
-        ensures answer { IsAnsweredBy (read_refusal self.now id first (length buf.old)) result }
+        ensures refused { IsRefusedBy (read_refusal self.now id first (length buf.old)) result }
         ensures ok { OnOk result (IfSome (contents_of id self.now)
             (λ contents. buf.new ≡ slice_range contents first (first + length buf.old))) }
         ensures err { OnErr result (buf.new ≡ buf.old) }
@@ -251,7 +252,7 @@ impl Chain {
     /// The areas of the blocks that were written before a snapshot was frozen. `UnknownSnap` comes where it
     /// isn't live.
     pub fn allocated(&self, id: u32) -> Result<Runs, ChainRefused>
-        ensures refused { IsRefusedBy (snapshot_refusal self.now id) result }
+        ensures refused { IsRefusedOr (snapshot_refusal self.now id) ChainRefused.NoMemory result }
         ensures ok { IfOk result (λ runs. IfSome (snapshot_of id self.now)
             (λ snapshot. runs ≡ areas_of self.now.capacity snapshot.blocks)) }
     {

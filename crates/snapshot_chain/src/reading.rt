@@ -1,7 +1,7 @@
 //! A read of layers, block by block, from the newest layer down.
 ghost use Rattle.std.specs.Prelude.{◌≡◌, ◌+◌, ◌*◌, ◌<◌, ◌≤◌, ◌^◌, length, ℕ, true, false, slice_get, slice_index_or, unwrap_or, Some};
 ghost use Rattle.std.specs.Bool.{OnTrue};
-ghost use Rattle.sector_model.specs.Sectors.{zero_sector};
+ghost use Rattle.sector_model.specs.Sector.{zero_sector};
 ghost use Rattle.snapshot_chain.specs.Page128.{sector_at};
 ghost use Rattle.snapshot_chain.specs.Layers.{found, sector_found};
 ghost use Rattle.snapshot_chain.specs.Reading.{blocks_met, TakesMissing};
