@@ -1,8 +1,12 @@
 -- What a chain keeps of its ids and layers when one comes or goes.
-use Rattle.std.proofs.Common.{◌≡◌, ℕ, zero, suc, ◌+◌, ◌<◌, ◌≤◌, List, [], ◌∷◌, ◌++◌, length, set, get_or, Bool, true, false, eqb, nat_eq, ◌||◌, sym, ap, ◌∙◌, arith, refl, inl, inr}
+use Rattle.std.proofs.Common.{◌≡◌, ℕ, zero, suc, ◌+◌, ◌<◌, ◌≤◌, List, [], ◌∷◌, ◌++◌, length, set, get_or, Bool, true, false, eqb, nat_eq, ◌||◌, Result, Ok, Err, None, sym, ap, ◌∙◌, arith, refl, inl, inr}
 use Rattle.std.specs.List.{list_any, remove, AllByRecursion}
 use Rattle.std.proofs.lemmas.Bool.{ne_eqb, cases_eq}
 use Rattle.std.proofs.lemmas.List.Folds.{list_any-append}
+use Rattle.std.specs.Result.{IsErrAnd}
+use Rattle.snapshot_chain.specs.declared.chain.ChainRefused.{ChainRefused}
+use Rattle.snapshot_chain.specs.declared.chain.ChainRefused.TheVariants.{UnknownSnap, Range, NoMemory}
+use Rattle.snapshot_chain.specs.Chain.{ChainState, IsKeptAfter}
 use Rattle.snapshot_chain.specs.Kept.{AreIds}
 use Rattle.snapshot_chain.proofs.Stacks.{or_left, or_right}
 
@@ -49,3 +53,8 @@ module _ {X : Type 0} (P : X → Type 0) where
   all-at [] i d each less = absurd (omega (arith, less))
   all-at (y ∷ xs) zero d each less = each.0
   all-at (y ∷ xs) (suc i) d each less = all-at xs i d each.1 (omega (arith, less))
+
+-- want of memory leaves all but the room for a merge
+pub no_memory : {T : Type 0} (result : Result T ChainRefused) (old new : ChainState) → IsErrAnd result (λ why. why ≡ NoMemory) → new ≡ record old { merge_room = None } → IsKeptAfter result old new
+no_memory (Ok answer) old new is same = tt
+no_memory (Err why) old new is same = rw is same

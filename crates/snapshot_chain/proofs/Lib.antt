@@ -6,3 +6,4 @@ pub mod States
 pub mod Touching
 pub mod Histories
 pub mod Keeping
+pub mod LayerSteps

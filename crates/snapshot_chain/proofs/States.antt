@@ -1,5 +1,5 @@
 -- What a chain holds after a call, in terms of what it held.
-use Rattle.std.proofs.Common.{◌≡◌, ◌≢◌, ℕ, zero, suc, ◌+◌, ◌-◌, ◌*◌, ◌/◌, ◌%◌, ◌<◌, ◌≤◌, min, max, List, [], ◌∷◌, ◌++◌, length, take, drop, set, get_or, map, Bool, true, false, Option, Some, None, is_some, sym, ap, subst, refl, ◌∙◌, arith, inl, inr, ◌⊎◌, append_assoc, length-take, length-drop, cond, eqb, ltb, leb, nat_eq, ◌==◌, not, ◌||◌, ◌&&◌, add-one}
+use Rattle.std.proofs.Common.{◌≡◌, ◌≢◌, ℕ, zero, suc, ◌+◌, ◌-◌, ◌*◌, ◌/◌, ◌%◌, ◌<◌, ◌≤◌, min, max, List, [], ◌∷◌, ◌++◌, length, take, drop, set, get_or, map, Bool, true, false, Option, Some, None, is_some, sym, ap, subst, refl, ◌∙◌, arith, inl, inr, ◌⊎◌, replicate, append_assoc, length-take, length-drop, cond, eqb, ltb, leb, nat_eq, ◌==◌, not, ◌||◌, ◌&&◌, add-one}
 use Rattle.std.specs.Option.{option_or, unwrap_or, option_map}
 use Rattle.std.specs.List.{list_any, range_with_len, filter, remove, position, position_or_len, find, slice_get}
 use Rattle.std.proofs.lemmas.Bool.{eq-eqb, eqb-true, cases_eq, cases_lt, ne_eqb, le-leb, lt-leb, lt-ltb, le-ltb, false≢true}
@@ -16,7 +16,7 @@ use Rattle.sector_model.specs.Disk.{Write, replaced}
 use Rattle.sector_model.specs.declared.sector.Sector.{Sector}
 use Rattle.snapshot_chain.specs.Page128.{run_at}
 use Rattle.snapshot_chain.specs.Layer.{LayerState, sector_in, HasSame, IsWritten, HasSameOver, IsMerged}
-use Rattle.snapshot_chain.specs.Chain.{ChainState, Snapshot, snapshot_of, contents_of, with_touched, after_writing, after_freezing, after_merging}
+use Rattle.snapshot_chain.specs.Chain.{ChainState, Snapshot, snapshot_of, contents_of, with_touched, after_writing, after_freezing, after_merging, fresh}
 use Rattle.snapshot_chain.specs.Layers.{found, sector_found, contents_in, has_found, blocks_in, snapshot_in, snapshots_in, layer_at}
 use Rattle.snapshot_chain.specs.Kept.{state_of, AreIds}
 use Rattle.snapshot_chain.proofs.Places.{or_none, or_assoc}
@@ -205,3 +205,26 @@ read_part f c first buf fits each =
     (λ k less. get_or_from_slice_get buf k (f (first + k)) zero_sector (each k less)
         ∙ sym (get_or-take n (drop first made) k zero_sector (omega (arith, less)) ∙ get_or-drop first made k zero_sector
             ∙ get_or-map-range_with_len f 0 c (first + k) (first + k) zero_sector (omega (arith, less, fits)) (omega arith)))
+
+pub live_in : (c id : ℕ) (ids : List ℕ) (layers : List LayerState) → length layers ≡ length ids + 1 → is_some (find (λ s. s.id == id) (snapshots_in c [] ids layers)) ≡ is_some (position (nat_eq id) ids)
+live_in c id ids layers long = ap is_some (find-in c id [] ids layers long) ∙ kept (position (nat_eq id) ids)
+  where
+    kept : (o : Option ℕ) → is_some (option_map (λ i. snapshot_in c id ([] ++ take (i + 1) layers)) o) ≡ is_some o
+    kept None = refl
+    kept (Some i) = refl
+
+-- one empty layer
+none_found : (xs : List ℕ) → list_any (λ place. false) xs ≡ false
+none_found [] = refl
+none_found (x ∷ xs) = none_found xs
+
+no_blocks : (xs : List ℕ) → filter (λ b. list_any (λ place. false) (range_with_len 0 128)) xs ≡ []
+no_blocks [] = refl
+no_blocks (x ∷ xs) = no_blocks xs
+
+all_zero : (a n : ℕ) → map (λ s. zero_sector) (range_with_len a n) ≡ replicate n zero_sector
+all_zero a zero = refl
+all_zero a (suc n) = ap (λ (xs : List Sector). zero_sector ∷ xs) (all_zero (a + 1) n)
+
+pub fresh_state : (c : ℕ) → state_of c ([] ∷ []) [] 0 false None ≡ fresh c
+fresh_state c = rw (all_zero 0 c, no_blocks (range_with_len 0 (block_count c))) refl

@@ -1,6 +1,7 @@
 -- Words of a read, sector by sector.
-use Rattle.std.specs.Prelude.{◌≡◌, ℕ, ◌+◌, ◌/◌, ◌%◌, List, length, nat_eq, Bool, true, false, Option, Some, None, option_map}
+use Rattle.std.specs.Prelude.{◌≡◌, ℕ, ◌+◌, ◌/◌, ◌%◌, List, length, nat_eq, Bool, true, false, Option, Some, None, IsSome, option_map}
 use Rattle.std.specs.List.{position}
+use Rattle.sector_model.specs.Sector.{zero_sector}
 use Rattle.sector_model.specs.declared.sector.Sector.{Sector}
 
 -- how many layers a snapshot sees, or all without a snapshot
@@ -18,3 +19,8 @@ TakesMissing None false old now new = (now ≡ false) × (new ≡ old)
 abbrev pub blocks_met : (first count : ℕ) → ℕ
 blocks_met first count = (first % 128 + count + 127) / 128
 
+
+-- what the layers down to one have is found and read; else zero stands there, and nothing was found
+abbrev pub IsRead : (sector : Option Sector) (found : Bool) (read : Option Sector) → Type 0
+IsRead sector true read = (IsSome sector) × (read ≡ sector)
+IsRead sector false read = (sector ≡ None) × (read ≡ Some zero_sector)

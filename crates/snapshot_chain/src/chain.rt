@@ -1,5 +1,5 @@
 //! The chain: what a disk holds now and at each live snapshot, kept as layers.
-ghost use Rattle.std.specs.Prelude.{◌≡◌, [], ◌+◌, ◌*◌, ◌<◌, ◌≤◌, length, IfOk, OnOk, OnErr, IfSome, IsOk, ℕ, true, is_some, nat_eq, slice_range};
+ghost use Rattle.std.specs.Prelude.{◌≡◌, [], ◌+◌, ◌*◌, ◌<◌, ◌≤◌, length, IfOk, OnOk, OnErr, IfSome, IsSome, IsOk, ℕ, true, is_some, nat_eq, slice_range};
 ghost use Rattle.std.specs.List.{position};
 ghost use Rattle.basics.specs.Refusal.{IsRefusedBy, IsRefusedOr};
 ghost use Rattle.sector_model.specs.Run.{areas_of};
@@ -178,7 +178,8 @@ impl Chain {
     /// Joins the layer that was frozen under the id into the next newer one.
     fn join_layer(&mut self, id: u32)
         requires { self.old.merge_room ≡ Some id }
-        ensures { self.new ≡ after_merging id self.old }
+        ensures live { IsSome (snapshot_of id self.old) }
+        ensures merged { self.new ≡ after_merging id self.old }
     {
         if let Some(index) = position_of(self.ids.as_slice(), id) {
             self.ids.remove(index);

@@ -2,6 +2,7 @@
 ghost use Rattle.std.specs.Prelude.{◌≡◌, ◌+◌, ◌<◌, length, IfOk, OnOk, nat_eq, ℕ};
 ghost use Rattle.std.specs.List.{list_any};
 ghost use Rattle.std.specs.List.Sorted.{IsStrictlyIncreasing};
+ghost use Rattle.std.specs.Vec.{vec_capacity};
 ghost use Rattle.snapshot_chain.specs.Layer.{HasPlacesFor};
 ghost use Rattle.snapshot_chain.specs.Layers.{has_found, layer_at, RaisedAt, MergedAt};
 
@@ -27,7 +28,8 @@ pub(crate) fn make_places_above(alloc: Global, layers: &mut [Layer], index: usiz
 pub(crate) fn merge_down(layers: &mut Vec<Layer>, index: usize)
     requires within { index + 1 < length layers.old.items }
     requires places { HasPlacesFor (layer_at layers.old.items index) (layer_at layers.old.items (index + 1)) }
-    ensures { MergedAt index layers.old.items layers.new.items }
+    ensures merged { MergedAt index layers.old.items layers.new.items }
+    ensures capacity { vec_capacity layers.new ≡ vec_capacity layers.old }
 {
     let lower = layers.remove(index);
     layers[index].take_pages(lower);
