@@ -7,3 +7,5 @@ pub mod Touching
 pub mod Histories
 pub mod Keeping
 pub mod LayerSteps
+pub mod LayersRead
+pub mod Blocks

@@ -1,15 +1,15 @@
 -- The mask of a page: what one more bit above the others changes, and where a sector stands.
-use Rattle.std.proofs.Common.{Bor, ◌≡◌, ℕ, zero, suc, ◌+◌, ◌-◌, ◌*◌, ◌/◌, ◌%◌, ◌<◌, ◌≤◌, ◌^◌, Bool, true, false, cond, eqb, List, [], ◌∷◌, ◌++◌, length, ◌≢◌, Option, Some, None, pow_pos, length-append, sym, ap, subst, refl, ◌∙◌, arith, inl, inr, ◌⊎◌, ⊎_elim}
-use Rattle.std.specs.Int.{bit_at, w128, bit_not}
+use Rattle.std.proofs.Common.{Bor, is_some, ◌||◌, ◌≡◌, ℕ, zero, suc, ◌+◌, ◌-◌, ◌*◌, ◌/◌, ◌%◌, ◌<◌, ◌≤◌, ◌^◌, Bool, true, false, cond, eqb, List, [], ◌∷◌, ◌++◌, length, ◌≢◌, Option, Some, None, pow_pos, length-append, sym, ap, subst, refl, ◌∙◌, arith, inl, inr, ◌⊎◌, ⊎_elim}
+use Rattle.std.specs.Int.{bit_at, w128, trailing_zeros}
 use Rattle.std.specs.Int.RustNames.{bit_and, bit_or, count_ones}
-use Rattle.std.specs.List.{slice_get}
+use Rattle.std.specs.List.{slice_get, list_any, range_with_len}
 use Rattle.std.specs.Option.{option_copied}
 use Rattle.std.specs.Slice.{IsItemAt}
 use Rattle.std.proofs.lemmas.Option.{slice_get_past, slice_get_read}
 use Rattle.std.specs.Int.Count.{ones}
 use Rattle.std.proofs.Math.Pow.{pow_mono}
 use Rattle.std.proofs.lemmas.Nat.{ones_cat, or_shifted, one_shl, mod-pow-add, mod-mul-add, mod_below, and_mask, zero_from_ones, pow-add, div-add-mod'}
-use Rattle.std.proofs.lemmas.Nat.Bits.{bit_at_cat_low, bit_at_cat_high, bit_at_above, bit_at-lt, and_pow, bit_at-zero, bit_at_lowest}
+use Rattle.std.proofs.lemmas.Nat.Bits.{bit_at_cat_low, bit_at_cat_high, bit_at_above, bit_at-lt, and_pow, bit_at-trailing_zeros}
 use Rattle.std.specs.Int.Bits.{or_shifted_r}
 use Rattle.std.proofs.lemmas.Bool.{cases_eq, cases_lt, eqb-true, eq-eqb, ne_eqb}
 use Rattle.sector_model.specs.declared.sector.Sector.{Sector}
@@ -154,3 +154,34 @@ wider m p above = omega (arith, above, pow-add 2 p 1)
 pub read_item : {X : Type 0} (xs : List X) (i : ℕ) (r : Option (Bor X)) → IsItemAt xs i r → option_copied r ≡ slice_get xs i
 read_item xs i None h = sym (slice_get_past xs i h.3)
 read_item xs i (Some x) h = sym (slice_get_read xs (length xs) i x.now refl h.3.0 (h.4 (omega arith) x.now))
+
+-- a page with a bit has a sector
+any_at : (p : ℕ → Bool) (a n k : ℕ) → a ≤ k → k < a + n → p k ≡ true → list_any p (range_with_len a n) ≡ true
+any_at p a zero k from less is = absurd (omega (arith, from, less))
+any_at p a (suc n) k from less is = elim (cases_eq k a) [
+  | inl same ↦ rw (← same, is) refl
+  | inr other ↦ or_late (p a) (list_any p (range_with_len (a + 1) n)) (any_at p (a + 1) n k (omega (arith, from, other)) (omega (arith, less)) is)
+]
+  where
+    or_late : (x y : Bool) → y ≡ true → (x || y) ≡ true
+    or_late true y h = refl
+    or_late false y h = h
+
+none_at : (p : ℕ → Bool) (xs : List ℕ) → ((k : ℕ) → p k ≡ false) → list_any p xs ≡ false
+none_at p [] none = refl
+none_at p (x ∷ xs) none = rw (none x) (none_at p xs none)
+
+some_item : {X : Type 0} (xs : List X) (i : ℕ) → i < length xs → is_some (slice_get xs i) ≡ true
+some_item [] i less = absurd (omega (arith, less))
+some_item (x ∷ xs) zero less = refl
+some_item (x ∷ xs) (suc i) less = some_item xs i (omega (arith, less))
+
+pub has_some : (page : PageState) → IsPage page → page.mask ≢ 0 → list_any (λ k. is_some (sector_at page k)) (range_with_len 0 128) ≡ true
+has_some page is some =
+    let low = bit_at-trailing_zeros w128 page.mask (omega (arith, some)) is.0 in
+    let k : ℕ = trailing_zeros w128 page.mask in
+    any_at (λ j. is_some (sector_at page j)) 0 128 k (omega arith) (omega (arith, low.0))
+    (rw low.1 (some_item page.sectors (rank page.mask k) (omega (arith, is.1, rank_less page.mask k low.1))))
+
+pub has_none : (page : PageState) → page.mask ≡ 0 → list_any (λ k. is_some (sector_at page k)) (range_with_len 0 128) ≡ false
+has_none page empty = none_at (λ k. is_some (sector_at page k)) (range_with_len 0 128) (λ k. ap is_some (empty_none page k empty))

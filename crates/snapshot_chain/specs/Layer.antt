@@ -1,9 +1,10 @@
 -- A layer: pages under the numbers of their blocks, in ascending order.
-use Rattle.std.specs.Prelude.{◌≡◌, ◌≢◌, ℕ, ◌+◌, ◌*◌, ◌<◌, ◌⊎◌, List, [], length, Option, Some, None, IsSome}
+use Rattle.std.specs.Prelude.{◌≡◌, ◌≢◌, ℕ, ◌+◌, ◌*◌, ◌<◌, ◌⊎◌, List, [], length, Bool, Option, Some, None, is_some, IsSome}
 use Rattle.std.specs.Option.{option_or, option_and_then}
 use Rattle.std.specs.Ordering.{nat_cmp}
 use Rattle.std.specs.BTreeMap.{is_at}
 use Rattle.std.specs.Map.{lookup}
+use Rattle.std.specs.List.{list_any, range_with_len}
 use Rattle.sector_model.specs.declared.sector.Sector.{Sector}
 use Rattle.snapshot_chain.specs.Page128.{PageState, sector_at, run_at}
 
@@ -63,3 +64,7 @@ HasPlacesFor lower upper = (block : ℕ) → IsSome (page_of lower block) → Is
 abbrev pub HasPlaceOver : (lower old new : Option PageState) → Type 0
 HasPlaceOver lower old new = (place : ℕ) → place < 128
     → option_or (sector_of new place) (sector_of lower place) ≡ option_or (sector_of old place) (sector_of lower place)
+
+-- the layer has a sector of the block
+abbrev pub has_sector : LayerState → ℕ → Bool
+has_sector layer block = list_any (λ place. is_some (sector_in layer block place)) (range_with_len 0 128)

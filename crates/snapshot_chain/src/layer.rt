@@ -1,8 +1,10 @@
 //! A layer: the sectors that were written while it was the newest, in pages of 128.
-ghost use Rattle.std.specs.Prelude.{◌≡◌, ◌≢◌, ◌+◌, ◌*◌, ◌<◌, ◌≤◌, ◌^◌, [], length, IfOk, OnOk, OnErr, IsSome, ℕ};
+ghost use Rattle.std.specs.Prelude.{◌≡◌, ◌≢◌, ◌+◌, ◌*◌, ◌<◌, ◌≤◌, ◌^◌, [], length, ◌||◌, IfOk, OnOk, OnErr, IsSome, ℕ};
 ghost use Rattle.std.specs.Option.{option_copied, option_or};
 ghost use Rattle.snapshot_chain.specs.Page128.{PageState, sector_at, run_at, IsRewritten};
-ghost use Rattle.snapshot_chain.specs.Layer.{page_of, sector_of, sector_in, HasSame, IsWritten, HasSameOver, IsMerged, KeepsPlaces, IsWithin, IsPlaceFor, HasPlacesFor, HasPlaceOver, LayerState};
+ghost use Rattle.snapshot_chain.specs.Layer.{page_of, sector_of, sector_in, HasSame, IsWritten, HasSameOver, IsMerged, KeepsPlaces, IsWithin, IsPlaceFor, HasPlacesFor, HasPlaceOver, LayerState, has_sector};
+ghost use Rattle.std.specs.BTreeSet.{contains};
+ghost use Rattle.std.specs.Ordering.{nat_cmp};
 
 use crate::page128::PAGE_SECTORS;
 use crate::{Page128, Steps};
@@ -174,7 +176,9 @@ impl Layer {
     }
 
     /// Adds the number of each block of which this layer has a sector.
-    pub(crate) fn add_blocks(&self, blocks: &mut BTreeSet<u64>) -> Result<(), NoMemory> {
+    pub(crate) fn add_blocks(&self, blocks: &mut BTreeSet<u64>) -> Result<(), NoMemory>
+        ensures { OnOk result ((b : ℕ) → contains nat_cmp blocks.new b ≡ (contains nat_cmp blocks.old b || has_sector self.now b)) }
+    {
         for (block, page) in &self.pages {
             if !page.is_empty() {
                 blocks.insert(*block)?;

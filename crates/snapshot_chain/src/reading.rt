@@ -1,10 +1,10 @@
 //! A read of layers, block by block, from the newest layer down.
-ghost use Rattle.std.specs.Prelude.{◌≡◌, ◌+◌, ◌*◌, ◌<◌, ◌≤◌, ◌^◌, length, ℕ, true, false, slice_get, slice_index_or, unwrap_or, Some};
+ghost use Rattle.std.specs.Prelude.{◌≡◌, ◌+◌, ◌*◌, ◌<◌, ◌≤◌, ◌^◌, length, ℕ, true, false, slice_get, slice_index_or, unwrap_or, Some, None};
 ghost use Rattle.std.specs.Bool.{OnTrue};
 ghost use Rattle.sector_model.specs.Sector.{zero_sector};
 ghost use Rattle.snapshot_chain.specs.Page128.{sector_at};
 ghost use Rattle.snapshot_chain.specs.Layers.{found, sector_found};
-ghost use Rattle.snapshot_chain.specs.Reading.{blocks_met, TakesMissing};
+ghost use Rattle.snapshot_chain.specs.Reading.{blocks_met, IsRead, TakesMissing};
 
 use crate::page128::PAGE_SECTORS;
 use crate::{Layer, Page128, Steps};
@@ -25,9 +25,11 @@ pub(crate) fn read_layers<L: Ledger>(
     let end = first + buf.len() as u64;
     for block in first / PAGE_SECTORS..end.div_ceil(PAGE_SECTORS) {
         let from = first.max(PAGE_SECTORS * block);
-        let to = end.min(PAGE_SECTORS * block + PAGE_SECTORS);
-        let part = &mut buf[(from - first) as usize..(to - first) as usize];
-        read_block(layers, block, from % PAGE_SECTORS, part, steps);
+        let place = from % PAGE_SECTORS;
+        let count = (end - from).min(PAGE_SECTORS - place);
+        let start = (from - first) as usize;
+        let part = &mut buf[start..start + count as usize];
+        read_block(layers, block, place, part, steps);
     }
 }
 
@@ -45,13 +47,26 @@ fn read_block<L: Ledger>(
 {
     let mut is_found = [false; PAGE_SECTORS as usize];
     let is_found = &mut is_found[..buf.len()];
-    buf.fill(Sector::filled(0));
+    clear(buf, is_found);
     let mut left = layers.len();
     while left > 0 && !all_found(is_found) {
         left -= 1;
         if let Some(page) = layers[left].page(block, steps) {
             take_missing(page, place, buf, is_found);
         }
+    }
+}
+
+/// Before a layer is looked at, nothing is found, and all is zero.
+fn clear(buf: &mut [Sector], is_found: &mut [bool])
+    requires { length is_found.old ≡ length buf.old }
+    ensures same { length is_found.new ≡ length buf.new }
+    ensures read { (k : ℕ) → k < length buf.old → IsRead None (slice_index_or is_found.new k false) (slice_get buf.new k) }
+{
+    let zero = Sector::filled(0);
+    for k in 0..buf.len() {
+        buf[k] = zero;
+        is_found[k] = false;
     }
 }
 
