@@ -2,10 +2,11 @@
 use Rattle.std.proofs.Common.{◌≡◌, ℕ, zero, suc, ◌+◌, ◌<◌, ◌≤◌, List, [], ◌∷◌, length, set, get_or, take, drop, ◌++◌, Bool, true, false, cond, ◌&&◌, leb, nat_eq, Option, Some, None, IfSome, Result, Ok, Err, length-set, sym, ap, subst, refl, ◌∙◌, arith}
 use Rattle.std.specs.List.{remove, position, AllByRecursion}
 use Rattle.std.specs.Result.{IsErrAnd, IfErr}
-use Rattle.basics.specs.Refusal.{IsRefusedOr}
+use Rattle.basics.specs.Refusal.{IsRefusedBy, IsRefusedOr}
+use Rattle.sector_model.specs.declared.sector.Sector.{Sector}
 use Rattle.snapshot_chain.specs.declared.chain.ChainRefused.{ChainRefused}
 use Rattle.snapshot_chain.specs.declared.chain.ChainRefused.TheVariants.{UnknownSnap, Range, NoMemory}
-use Rattle.snapshot_chain.specs.Chain.{after_merging}
+use Rattle.snapshot_chain.specs.Chain.{ChainState, after_merging, contents_of, is_within, read_refusal}
 use Rattle.snapshot_chain.specs.Kept.{state_of, AreIds, HasMergeRoom}
 use Rattle.snapshot_chain.proofs.Keeping.{all-set, all-at, all-remove}
 use Rattle.snapshot_chain.proofs.States.{raised_state, merged_state}
@@ -160,3 +161,14 @@ room_place layers ids None id has is = absurd (cc)
 room_place layers ids (Some other) id has is =
     let same : other ≡ id = cc in
     let here : HasMergeRoom layers ids id = rw same at has in (here.0, here.1)
+
+pub read_unknown : (T : Type 0) (chain : ChainState) (id : Option ℕ) (first count : ℕ) → contents_of id chain ≡ None → IsRefusedBy {T = T} (read_refusal chain id first count) (Err UnknownSnap)
+read_unknown T chain id first count none = rw none refl
+
+pub read_outside : (T : Type 0) (chain : ChainState) (id : Option ℕ) (first count : ℕ) (contents : List Sector) → contents_of id chain ≡ Some contents → is_within chain first count ≡ false
+    → IsRefusedBy {T = T} (read_refusal chain id first count) (Err Range)
+read_outside T chain id first count contents some outside = rw (some, outside) refl
+
+pub read_taken : {T : Type 0} (answer : T) (chain : ChainState) (id : Option ℕ) (first count : ℕ) (contents : List Sector) → contents_of id chain ≡ Some contents → is_within chain first count ≡ true
+    → IsRefusedBy (read_refusal chain id first count) (Ok answer)
+read_taken answer chain id first count contents some inside = rw (some, inside) refl

@@ -4,7 +4,7 @@ use Rattle.std.specs.Option.{option_or, unwrap_or, option_map}
 use Rattle.std.specs.List.{list_any, range_with_len, filter, remove, position, position_or_len, find, slice_get}
 use Rattle.std.proofs.lemmas.Bool.{eq-eqb, eqb-true, cases_eq, cases_lt, ne_eqb, le-leb, lt-leb, lt-ltb, le-ltb, false≢true}
 use Rattle.std.proofs.lemmas.Bool.Decides.{nat_tests}
-use Rattle.std.proofs.lemmas.List.{ext_get_or, get_or-take, get_or-drop}
+use Rattle.std.proofs.lemmas.List.{take_all, ext_get_or, get_or-take, get_or-drop}
 use Rattle.std.proofs.lemmas.List.FromFn.{length-map-range_with_len, get_or-map-range_with_len}
 use Rattle.std.proofs.lemmas.Option.{slice_get_past, slice_get-get_or, get_or_from_slice_get, unwrap_or-slice_get}
 use Rattle.sector_model.proofs.Replaced.{length-replaced, replaced-before, replaced-within, replaced-behind}
@@ -19,6 +19,7 @@ use Rattle.snapshot_chain.specs.Layer.{LayerState, sector_in, HasSame, IsWritten
 use Rattle.snapshot_chain.specs.Chain.{ChainState, Snapshot, snapshot_of, contents_of, with_touched, after_writing, after_freezing, after_merging, fresh}
 use Rattle.snapshot_chain.specs.Layers.{found, sector_found, contents_in, has_found, blocks_in, snapshot_in, snapshots_in, layer_at}
 use Rattle.snapshot_chain.specs.Kept.{state_of, AreIds}
+use Rattle.snapshot_chain.specs.Reading.{layers_seen}
 use Rattle.snapshot_chain.proofs.Places.{or_none, or_assoc}
 use Rattle.snapshot_chain.proofs.Stacks.{HoldsSame, found-append, map-same, any-same, contents-same, blocks-same, snapshots-newest, snapshots-push, snapshots-raised, holds-raised, snapshots-merged, holds-merged}
 
@@ -195,16 +196,16 @@ unwritten_state c layers ids free freeze_room merge_room new long same =
 -- ---- what is read
 
 -- a part of a made list, sector for sector
-pub read_part : (f : ℕ → Sector) (c first : ℕ) (buf : List Sector) → first + length buf ≤ c → ((k : ℕ) → k < length buf → slice_get buf k ≡ Some (f (first + k)))
-    → buf ≡ take (first + length buf - first) (drop first (map f (range_with_len 0 c)))
-read_part f c first buf fits each =
-    let n : ℕ = first + length buf - first in
+pub read_part : (f : ℕ → Sector) (c first : ℕ) (buf old : List Sector) → length buf ≡ length old → first + length old ≤ c → ((k : ℕ) → k < length old → slice_get buf k ≡ Some (f (first + k)))
+    → buf ≡ take (first + length old - first) (drop first (map f (range_with_len 0 c)))
+read_part f c first buf old same fits each =
+    let n : ℕ = first + length old - first in
     let made : List Sector = map f (range_with_len 0 c) in
-    let long : length (take n (drop first made)) ≡ length buf = omega (arith, fits, length-take n (drop first made), length-drop first made, length-map-range_with_len f 0 c) in
+    let long : length (take n (drop first made)) ≡ length buf = omega (arith, same, fits, length-take n (drop first made), length-drop first made, length-map-range_with_len f 0 c) in
     ext_get_or zero_sector buf (take n (drop first made)) (sym long)
-    (λ k less. get_or_from_slice_get buf k (f (first + k)) zero_sector (each k less)
-        ∙ sym (get_or-take n (drop first made) k zero_sector (omega (arith, less)) ∙ get_or-drop first made k zero_sector
-            ∙ get_or-map-range_with_len f 0 c (first + k) (first + k) zero_sector (omega (arith, less, fits)) (omega arith)))
+    (λ k less. get_or_from_slice_get buf k (f (first + k)) zero_sector (each k (omega (arith, less, same)))
+        ∙ sym (get_or-take n (drop first made) k zero_sector (omega (arith, less, same)) ∙ get_or-drop first made k zero_sector
+            ∙ get_or-map-range_with_len f 0 c (first + k) (first + k) zero_sector (omega (arith, less, fits, same)) (omega arith)))
 
 pub live_in : (c id : ℕ) (ids : List ℕ) (layers : List LayerState) → length layers ≡ length ids + 1 → is_some (find (λ s. s.id == id) (snapshots_in c [] ids layers)) ≡ is_some (position (nat_eq id) ids)
 live_in c id ids layers long = ap is_some (find-in c id [] ids layers long) ∙ kept (position (nat_eq id) ids)
@@ -228,3 +229,32 @@ all_zero a (suc n) = ap (λ (xs : List Sector). zero_sector ∷ xs) (all_zero (a
 
 pub fresh_state : (c : ℕ) → state_of c ([] ∷ []) [] 0 false None ≡ fresh c
 fresh_state c = rw (all_zero 0 c, no_blocks (range_with_len 0 (block_count c))) refl
+
+-- what a snapshot sees, or what all layers hold
+pub contents_seen : (c : ℕ) (layers : List LayerState) (ids : List ℕ) (free : ℕ) (freeze_room : Bool) (merge_room : Option ℕ) (id : Option ℕ) → length layers ≡ length ids + 1
+    → contents_of id (state_of c layers ids free freeze_room merge_room) ≡ option_map (λ n. contents_in c (take n layers)) (layers_seen id ids)
+contents_seen c layers ids free freeze_room merge_room None long =
+    ap (λ (ls : List LayerState). Some (contents_in c ls)) (sym (take_all (length ids + 1) layers (omega (arith, long))))
+contents_seen c layers ids free freeze_room merge_room (Some id) long =
+    ap (option_map (λ s. s.contents)) (find-in c id [] ids layers long) ∙ read (position (nat_eq id) ids)
+  where
+    read : (o : Option ℕ) → option_map (λ s. s.contents) (option_map (λ i. snapshot_in c id ([] ++ take (i + 1) layers)) o) ≡ option_map (λ n. contents_in c (take n layers)) (option_map (λ i. i + 1) o)
+    read None = refl
+    read (Some i) = refl
+
+pub seen_few : (id : Option ℕ) (ids : List ℕ) (n : ℕ) → layers_seen id ids ≡ Some n → n ≤ length ids + 1
+seen_few None ids n is = let e : length ids + 1 ≡ n = cc in omega (arith, e)
+seen_few (Some id) ids n is = by (position (nat_eq id) ids) refl is
+  where
+    by : (o : Option ℕ) → position (nat_eq id) ids ≡ o → option_map (λ i. i + 1) o ≡ Some n → n ≤ length ids + 1
+    by None was is = absurd (cc)
+    by (Some i) was is = let e : i + 1 ≡ n = cc in omega (arith, e, (at_position id ids i was).1)
+
+pub snapshots_long : (c : ℕ) (below : List LayerState) (ids : List ℕ) (layers : List LayerState) → length layers ≡ length ids + 1 → length (snapshots_in c below ids layers) ≡ length ids
+snapshots_long c below [] layers long = refl
+snapshots_long c below (id ∷ ids) [] long = absurd (omega (arith, long))
+snapshots_long c below (id ∷ ids) (l ∷ layers) long = ap suc (snapshots_long c (below ++ l ∷ []) ids layers (omega (arith, long)))
+
+pub snapshot_seen : (c id : ℕ) (layers : List LayerState) (ids : List ℕ) (i : ℕ) → length layers ≡ length ids + 1 → position (nat_eq id) ids ≡ Some i
+    → find (λ s. s.id == id) (snapshots_in c [] ids layers) ≡ Some (snapshot_in c id (take (i + 1) layers))
+snapshot_seen c id layers ids i long at = find-in c id [] ids layers long ∙ ap (option_map (λ k. snapshot_in c id (take (k + 1) layers))) at

@@ -1,5 +1,6 @@
 //! The chain: what a disk holds now and at each live snapshot, kept as layers.
-ghost use Rattle.std.specs.Prelude.{◌≡◌, [], ◌+◌, ◌*◌, ◌<◌, ◌≤◌, length, IfOk, OnOk, OnErr, IfSome, IsSome, IsOk, ℕ, true, is_some, nat_eq, slice_range};
+ghost use Rattle.std.specs.Prelude.{◌≡◌, [], ◌+◌, ◌*◌, ◌^◌, ◌<◌, ◌≤◌, length, IfOk, OnOk, OnErr, IfSome, IsSome, IsOk, ℕ, true, is_some, nat_eq, slice_range};
+ghost use Rattle.std.specs.Bool.{OnTrue};
 ghost use Rattle.std.specs.List.{position};
 ghost use Rattle.basics.specs.Refusal.{IsRefusedBy, IsRefusedOr};
 ghost use Rattle.sector_model.specs.Run.{areas_of};
@@ -273,7 +274,8 @@ impl Chain {
 
     /// Whether `count` sectors from sector `first` on are some and lie within the disk.
     fn is_within(&self, first: u64, count: usize) -> bool
-        ensures { result ≡ is_within self.now first count }
+        ensures within { result ≡ is_within self.now first count }
+        ensures fits { OnTrue result (first + count < 2 ^ 64) }
     {
         count != 0 && first <= self.capacity && count as u64 <= self.capacity - first
     }

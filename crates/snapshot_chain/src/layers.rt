@@ -3,6 +3,8 @@ ghost use Rattle.std.specs.Prelude.{◌≡◌, ◌+◌, ◌<◌, length, IfOk, O
 ghost use Rattle.std.specs.List.{list_any};
 ghost use Rattle.std.specs.List.Sorted.{IsStrictlyIncreasing};
 ghost use Rattle.std.specs.Vec.{vec_capacity};
+ghost use Rattle.std.specs.BTreeSet.{IsOrdered};
+ghost use Rattle.std.specs.Ordering.{nat_cmp};
 ghost use Rattle.snapshot_chain.specs.Layer.{HasPlacesFor};
 ghost use Rattle.snapshot_chain.specs.Layers.{has_found, layer_at, RaisedAt, MergedAt};
 
@@ -44,6 +46,18 @@ pub(crate) fn blocks_of(alloc: Global, layers: &[Layer]) -> Result<Vec<u64>, NoM
     for layer in layers {
         layer.add_blocks(&mut blocks)?;
     }
-    let blocks = blocks.iter().copied().collect(alloc)?;
-    Ok(blocks)
+    let list = list_of(alloc, &blocks)?;
+    Ok(list)
+}
+
+/// The numbers of a set, ascending.
+fn list_of(alloc: Global, blocks: &BTreeSet<u64>) -> Result<Vec<u64>, NoMemory>
+    ensures keys { IfOk result (λ list. list.items ≡ blocks.now.keys) }
+    ensures ordered { IsOrdered nat_cmp blocks.now }
+{
+    let mut list = Vec::new(alloc);
+    for block in blocks {
+        list.push(*block)?;
+    }
+    Ok(list)
 }

@@ -15,7 +15,7 @@ pub invariant_of-self : goal.invariant_of-self
 invariant_of-self c =
     let cap : ℕ = c.self.inside.capacity in
     let at : c.len-newest.result ≡ length c.self.inside.ids.items = c.len-newest.ensures ∙ c.self.inside.ids.ok.0 in
-    let inside : c.args.first + length c.args.sectors.now ≤ cap = fits cap c.args.first (length c.args.sectors.now) (rw (← c.self.view_is) at (sym c.if-not-is_within.ensures)) in
+    let inside : c.args.first + length c.args.sectors.now ≤ cap = fits cap c.args.first (length c.args.sectors.now) (rw (← c.self.view_is) at (sym c.if-not-is_within.ensures.within)) in
     let less : c.len-newest.result < length c.self.inside.layers.items = omega (arith, at, c.self.invariant.long) in
     record {
       long = length-set c.self.inside.layers.items c.len-newest.result c.write.new.self ∙ c.self.invariant.long;
@@ -30,7 +30,7 @@ pub invariant_of-self-2 : goal.invariant_of-self-2
 invariant_of-self-2 c =
     let cap : ℕ = c.self.inside.capacity in
     let at : c.len-newest.result ≡ length c.self.inside.ids.items = c.len-newest.ensures ∙ c.self.inside.ids.ok.0 in
-    let inside : c.args.first + length c.args.sectors.now ≤ cap = fits cap c.args.first (length c.args.sectors.now) (rw (← c.self.view_is) at (sym c.if-not-is_within.ensures)) in
+    let inside : c.args.first + length c.args.sectors.now ≤ cap = fits cap c.args.first (length c.args.sectors.now) (rw (← c.self.view_is) at (sym c.if-not-is_within.ensures.within)) in
     let less : c.len-newest.result < length c.self.inside.layers.items = omega (arith, at, c.self.invariant.long) in
     record {
       long = length-set c.self.inside.layers.items c.len-newest.result c.write.new.self ∙ c.self.invariant.long;
@@ -54,7 +54,7 @@ pub returns-clause-ok : goal.returns-clause-ok
 returns-clause-ok c =
     let cap : ℕ = c.self.inside.capacity in
     let at : c.len-newest.result ≡ length c.self.inside.ids.items = c.len-newest.ensures ∙ c.self.inside.ids.ok.0 in
-    let inside : c.args.first + length c.args.sectors.now ≤ cap = fits cap c.args.first (length c.args.sectors.now) (rw (← c.self.view_is) at (sym c.if-not-is_within.ensures)) in
+    let inside : c.args.first + length c.args.sectors.now ≤ cap = fits cap c.args.first (length c.args.sectors.now) (rw (← c.self.view_is) at (sym c.if-not-is_within.ensures.within)) in
     let newest : c.index_mut-layer.result.now ≡ layer_at c.self.inside.layers.items (length c.self.inside.ids.items) =
         element c.self.inside.layers.items c.len-newest.result (length c.self.inside.ids.items) c.index_mut-layer.result.now at (omega (arith, c.self.invariant.long)) c.index_mut-layer.ensures.value in
     rw (at, ← c.self.view_is)
