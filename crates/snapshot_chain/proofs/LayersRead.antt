@@ -1,0 +1,108 @@
+-- One layer more of a read.
+use Rattle.std.proofs.Common.{◌≡◌, ℕ, zero, suc, ◌+◌, ◌-◌, ◌*◌, ◌/◌, ◌%◌, ◌<◌, ◌≤◌, min, max, inl, inr, length-take, length-drop, length-append, List, [], ◌∷◌, ◌++◌, length, take, drop, get_or, Bool, true, false, Option, Some, None, IsSome, is_some, sym, ap, subst, refl, ◌∙◌, arith}
+use Rattle.std.specs.Option.{option_or, unwrap_or}
+use Rattle.std.specs.List.{slice_get}
+use borrow.Rule.Slice.PartMut.{put_mid, post_of}
+use Rattle.std.proofs.lemmas.Bool.{false≢true, cases_lt}
+use Rattle.sector_model.proofs.ItemAt.{slice_get-front, slice_get-back, slice_get-take}
+use Rattle.std.proofs.lemmas.List.{drop_all, get_or_default}
+use Rattle.std.proofs.Math.Seq.{drop-cons}
+use Rattle.std.proofs.Math.Nat.{mul-suc}
+use Rattle.sector_model.specs.Sector.{zero_sector}
+use Rattle.sector_model.specs.declared.sector.Sector.{Sector}
+use Rattle.snapshot_chain.specs.Page128.{PageState, sector_at}
+use Rattle.snapshot_chain.specs.Layer.{LayerState, page_of, sector_of, sector_in}
+use Rattle.snapshot_chain.specs.Layers.{found, sector_found, layer_at}
+use Rattle.snapshot_chain.specs.Reading.{IsRead, TakesMissing}
+use Rattle.snapshot_chain.proofs.Places.{or_none}
+
+pub none_yet : (layers : List LayerState) (block place : ℕ) (was : Bool) (read : Option Sector) → IsRead None was read → IsRead (found (drop (length layers) layers) block place) was read
+none_yet layers block place was read is =
+    let P : List LayerState → Type 0 = λ ls. IsRead (found ls block place) was read in subst P (sym (drop_all (length layers) layers (omega arith))) is
+
+taken : (upper : Option Sector) (sector : Option Sector) (was : Bool) (old : Option Sector) (now : Bool) (new : Option Sector) → IsRead upper was old → TakesMissing sector was old now new → IsRead (option_or upper sector) now new
+taken None sector true old now new is takes = absurd (false≢true is.0)
+taken (Some x) sector true old now new is takes = rw takes.0 (refl, takes.1 ∙ is.1)
+taken upper (Some sector) false old now new is takes = rw (takes.0, is.0) (refl, takes.1)
+taken upper None false old now new is takes = rw (takes.0, is.0) (refl, takes.1 ∙ is.1)
+
+next_layer : (layers : List LayerState) (left : ℕ) → 0 < left → left ≤ length layers → drop (left - 1) layers ≡ layer_at layers (left - 1) ∷ drop left layers
+next_layer layers left some bound =
+    let at : left - 1 < length layers = omega (arith, some, bound) in
+    drop-cons layers (left - 1) [] at ∙ (let e : suc (left - 1) ≡ left = omega (arith, some) in ap (λ (n : ℕ). layer_at layers (left - 1) ∷ drop n layers) e)
+
+pub one_more : (layers : List LayerState) (left block place : ℕ) (layer : LayerState) (page : PageState) (was : Bool) (old : Option Sector) (now : Bool) (new : Option Sector) → 0 < left → left ≤ length layers
+    → layer ≡ get_or layers (left - 1) layer → page_of layer block ≡ Some page → IsRead (found (drop left layers) block place) was old → TakesMissing (sector_at page place) was old now new
+    → IsRead (found (drop (left - 1) layers) block place) now new
+one_more layers left block place layer page was old now new some bound is has read takes =
+    let same : layer ≡ layer_at layers (left - 1) = is ∙ get_or_default layers (left - 1) layer [] (omega (arith, some, bound)) in
+    let here : sector_in (layer_at layers (left - 1)) block place ≡ sector_at page place = ap (λ (l : LayerState). sector_in l block place) (sym same) ∙ ap (λ (p : Option PageState). sector_of p place) has in
+    let P : List LayerState → Type 0 = λ ls. IsRead (found ls block place) now new in
+    subst P (sym (next_layer layers left some bound))
+    (let Q : Option Sector → Type 0 = λ o. IsRead (option_or (found (drop left layers) block place) o) now new in
+     subst Q (sym here) (taken (found (drop left layers) block place) (sector_at page place) was old now new read takes))
+
+pub none_more : (layers : List LayerState) (left block place : ℕ) (layer : LayerState) (was : Bool) (old : Option Sector) → 0 < left → left ≤ length layers
+    → layer ≡ get_or layers (left - 1) layer → page_of layer block ≡ None → IsRead (found (drop left layers) block place) was old → IsRead (found (drop (left - 1) layers) block place) was old
+none_more layers left block place layer was old some bound is has read =
+    let same : layer ≡ layer_at layers (left - 1) = is ∙ get_or_default layers (left - 1) layer [] (omega (arith, some, bound)) in
+    let here : sector_in (layer_at layers (left - 1)) block place ≡ None = ap (λ (l : LayerState). sector_in l block place) (sym same) ∙ ap (λ (p : Option PageState). sector_of p place) has in
+    let P : List LayerState → Type 0 = λ ls. IsRead (found ls block place) was old in
+    subst P (sym (next_layer layers left some bound))
+    (let Q : Option Sector → Type 0 = λ o. IsRead o was old in
+     subst Q (sym (ap (option_or (found (drop left layers) block place)) here ∙ or_none (found (drop left layers) block place))) read)
+
+-- all layers were looked at
+pub all_read : (sector : Option Sector) (was : Bool) (read : Option Sector) → IsRead sector was read → read ≡ Some (unwrap_or sector zero_sector)
+all_read None true read is = absurd (false≢true is.0)
+all_read (Some x) true read is = is.1
+all_read sector false read is = rw is.0 is.1
+
+found-drop : (layers : List LayerState) (n block place : ℕ) → is_some (found (drop n layers) block place) ≡ true → found layers block place ≡ found (drop n layers) block place
+found-drop layers zero block place some = refl
+found-drop [] (suc n) block place some = refl
+found-drop (l ∷ layers) (suc n) block place some =
+    ap (λ (o : Option Sector). option_or o (sector_in l block place)) (found-drop layers n block place some) ∙ kept (found (drop n layers) block place) (sector_in l block place) some
+  where
+    kept : (a b : Option Sector) → is_some a ≡ true → option_or a b ≡ a
+    kept None b some = absurd (false≢true some)
+    kept (Some x) b some = refl
+
+-- all places were found before
+pub found_early : (layers : List LayerState) (left block place : ℕ) (was : Bool) (read : Option Sector) → IsRead (found (drop left layers) block place) was read → was ≡ true
+    → read ≡ Some (unwrap_or (found layers block place) zero_sector)
+found_early layers left block place true read is early =
+    is.1 ∙ sym (found-drop layers left block place is.0) ∙ some (found layers block place) (ap is_some (found-drop layers left block place is.0) ∙ is.0)
+  where
+    some : (o : Option Sector) → is_some o ≡ true → o ≡ Some (unwrap_or o zero_sector)
+    some None h = absurd (false≢true h)
+    some (Some x) h = refl
+found_early layers left block place false read is early = absurd (false≢true early)
+
+-- one block more of a read: its part stands in the buffer from place a on
+pub block_more : (layers : List LayerState) (first block from place count a n k : ℕ) (buf part : List Sector)
+    → from ≡ max first (128 * block) → place ≡ from % 128 → count ≡ min (first + length buf - from) (128 - place) → a ≡ from - first → n ≡ count → a + n ≤ length buf
+    → first / 128 ≤ block → 128 * block < first + length buf + 128
+    → length part ≡ n → ((j : ℕ) → j < length part → slice_get part j ≡ Some (unwrap_or (found layers block (place + j)) zero_sector))
+    → ((j : ℕ) → j < length buf → first + j < 128 * block → slice_get buf j ≡ Some (sector_found layers (first + j)))
+    → k < length buf → first + k < 128 * (block + 1) → slice_get (put_mid a n buf part) k ≡ Some (sector_found layers (first + k))
+block_more layers first block from place count a n k buf part from_is place_is count_is a_is n_is fits low high long read before less now = elim (cases_lt k a) [
+  | inl early ↦
+      slice_get-front (take a buf) (part ++ post_of a n buf) k (omega (arith, early, fits, length-take a buf)) ∙ slice_get-take buf a k early
+      ∙ before k less (omega (arith, early, a_is, from_is))
+  | inr late ↦
+      let inside : k - a < length part = omega (arith, late, long, n_is, count_is, place_is, from_is, a_is, less, now) in
+      let at : length (take a buf) + (k - a) ≡ k = omega (arith, late, fits, length-take a buf) in
+      let block_at : (first + k) / 128 ≡ block = omega (arith, late, a_is, from_is, less, now, low) in
+      let place_at : (first + k) % 128 ≡ place + (k - a) = omega (arith, late, a_is, from_is, place_is, less, now, low, inside, long, n_is, count_is, block_at) in
+      ap (slice_get (put_mid a n buf part)) (sym at) ∙ slice_get-back (take a buf) (part ++ post_of a n buf) (k - a)
+      ∙ slice_get-front part (post_of a n buf) (k - a) inside ∙ read (k - a) inside
+      ∙ sym (ap (λ (b : ℕ). Some (unwrap_or (found layers b ((first + k) % 128)) zero_sector)) block_at ∙ ap (λ (p : ℕ). Some (unwrap_or (found layers block p) zero_sector)) place_at)
+]
+
+pub one_block_more : (n block low : ℕ) → low ≤ block → n * (block + 1 - low) ≡ n * (block - low) + n
+one_block_more n block low le = (let e : block + 1 - low ≡ block - low + 1 = omega (arith, le) in ap (λ (m : ℕ). n * m) e) ∙ (let one_more : block - low + 1 ≡ suc (block - low) = omega arith in ap (λ (m : ℕ). n * m) one_more) ∙ mul-suc n (block - low)
+
+pub length-put_mid : (a n : ℕ) (xs ys : List Sector) → a + n ≤ length xs → length ys ≡ n → length (put_mid a n xs ys) ≡ length xs
+length-put_mid a n xs ys fits long =
+    omega (arith, fits, long, length-append (take a xs) (ys ++ post_of a n xs), length-append ys (post_of a n xs), length-take a xs, length-drop n (drop a xs), length-drop a xs, length-drop (a + n) xs)

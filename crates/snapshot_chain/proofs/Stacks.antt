@@ -1,0 +1,181 @@
+-- What lists of layers hold when one of them changes.
+use Rattle.std.proofs.Common.{◌≡◌, ◌≢◌, ℕ, zero, suc, ◌+◌, ◌-◌, ◌*◌, ◌/◌, ◌%◌, ◌<◌, ◌≤◌, List, [], ◌∷◌, ◌++◌, length, take, drop, set, get_or, map, Bool, true, false, Option, Some, None, is_some, sym, ap, subst, refl, ◌∙◌, arith, inl, inr, ◌⊎◌, append_assoc, cond, eqb, nat_eq, ◌==◌, not, ◌||◌}
+use Rattle.std.specs.Option.{option_or, unwrap_or, option_map}
+use Rattle.std.proofs.lemmas.Bool.{eq-eqb, eqb-true, cases_eq}
+use Rattle.std.proofs.lemmas.Bool.Decides.{nat_tests}
+use Rattle.snapshot_chain.specs.Kept.{AreIds}
+use Rattle.std.specs.List.{list_any, range_with_len, filter, remove, position, find, slice_get}
+use Rattle.sector_model.specs.Sector.{zero_sector}
+use Rattle.sector_model.specs.Run.{block_count, touches}
+use Rattle.sector_model.specs.declared.sector.Sector.{Sector}
+use Rattle.snapshot_chain.specs.Page128.{run_at}
+use Rattle.snapshot_chain.specs.Layer.{LayerState, sector_in, HasSame, IsWritten, HasSameOver, IsMerged}
+use Rattle.snapshot_chain.specs.Chain.{Snapshot}
+use Rattle.snapshot_chain.specs.Layers.{found, sector_found, contents_in, has_found, blocks_in, snapshot_in, snapshots_in, layer_at}
+use Rattle.snapshot_chain.proofs.Places.{or_none, or_assoc}
+
+-- both lists hold the same sectors
+pub record HoldsSame (xs ys : List LayerState) : Type 0 where
+  pub at : (block place : ℕ) → place < 128 → found ys block place ≡ found xs block place
+
+pub found-append : (xs ys : List LayerState) (block place : ℕ) → found (xs ++ ys) block place ≡ option_or (found ys block place) (found xs block place)
+found-append [] ys block place = sym (or_none (found ys block place))
+found-append (x ∷ xs) ys block place =
+    ap (λ (o : Option Sector). option_or o (sector_in x block place)) (found-append xs ys block place)
+    ∙ or_assoc (found ys block place) (found xs block place) (sector_in x block place)
+
+pub holds_refl : (xs : List LayerState) → HoldsSame xs xs
+holds_refl xs = record { at = λ block place within. refl }
+
+pub holds_append : (xs ys zs : List LayerState) → HoldsSame xs ys → HoldsSame (xs ++ zs) (ys ++ zs)
+holds_append xs ys zs same = record { at = λ block place within.
+    found-append ys zs block place ∙ ap (option_or (found zs block place)) (same.at block place within) ∙ sym (found-append xs zs block place) }
+
+-- lists made from functions that agree are one
+pub map-same : {X : Type 0} (f g : ℕ → X) (a n : ℕ) → ((k : ℕ) → f k ≡ g k) → map f (range_with_len a n) ≡ map g (range_with_len a n)
+map-same f g a zero same = refl
+map-same f g a (suc n) same = cong_cons (same a) (map-same f g (a + 1) n same)
+  where
+    cong_cons : {X : Type 0} {x y : X} {xs ys : List X} → x ≡ y → xs ≡ ys → x ∷ xs ≡ y ∷ ys
+    cong_cons e h = cc
+
+pub filter-same : (p q : ℕ → Bool) (xs : List ℕ) → ((k : ℕ) → p k ≡ q k) → filter p xs ≡ filter q xs
+filter-same p q [] same = refl
+filter-same p q (x ∷ xs) same = rw (same x, filter-same p q xs same) refl
+
+pub any-same : (p q : ℕ → Bool) (a n : ℕ) → ((k : ℕ) → a ≤ k → k < a + n → p k ≡ q k) → list_any p (range_with_len a n) ≡ list_any q (range_with_len a n)
+any-same p q a zero same = refl
+any-same p q a (suc n) same = rw (same a (omega arith) (omega arith), any-same p q (a + 1) n (λ k from less. same k (omega (arith, from)) (omega (arith, less)))) refl
+
+pub contents-same : (c : ℕ) (xs ys : List LayerState) → HoldsSame xs ys → contents_in c ys ≡ contents_in c xs
+contents-same c xs ys same = map-same (sector_found ys) (sector_found xs) 0 c (λ s. ap (λ (o : Option Sector). unwrap_or o zero_sector) (same.at (s / 128) (s % 128) (omega arith)))
+
+pub has-same : (xs ys : List LayerState) (block : ℕ) → HoldsSame xs ys → has_found ys block ≡ has_found xs block
+has-same xs ys block same = any-same (λ place. is_some (found ys block place)) (λ place. is_some (found xs block place)) 0 128 (λ place from less. ap is_some (same.at block place (omega (arith, less))))
+
+pub blocks-same : (c : ℕ) (xs ys : List LayerState) → HoldsSame xs ys → blocks_in c ys ≡ blocks_in c xs
+blocks-same c xs ys same = filter-same (has_found ys) (has_found xs) (range_with_len 0 (block_count c)) (λ b. has-same xs ys b same)
+
+snapshot-same : (c id : ℕ) (xs ys : List LayerState) → HoldsSame xs ys → snapshot_in c id ys ≡ snapshot_in c id xs
+snapshot-same c id xs ys same = rw (contents-same c xs ys same, blocks-same c xs ys same) refl
+
+pub snapshots-same : (c : ℕ) (xs ys : List LayerState) (ids : List ℕ) (layers : List LayerState) → HoldsSame xs ys → snapshots_in c ys ids layers ≡ snapshots_in c xs ids layers
+snapshots-same c xs ys [] layers same = refl
+snapshots-same c xs ys (id ∷ ids) [] same = refl
+snapshots-same c xs ys (id ∷ ids) (l ∷ layers) same =
+    rw (snapshot-same c id (xs ++ l ∷ []) (ys ++ l ∷ []) (holds_append xs ys (l ∷ []) same), snapshots-same c (xs ++ l ∷ []) (ys ++ l ∷ []) ids layers (holds_append xs ys (l ∷ []) same)) refl
+
+-- the newest layer is in no snapshot
+pub snapshots-newest : (c : ℕ) (below : List LayerState) (ids : List ℕ) (layers : List LayerState) (layer : LayerState)
+    → snapshots_in c below ids (set layers (length ids) layer) ≡ snapshots_in c below ids layers
+snapshots-newest c below [] layers layer = refl
+snapshots-newest c below (id ∷ ids) [] layer = refl
+snapshots-newest c below (id ∷ ids) (l ∷ layers) layer = ap (λ (ss : List Snapshot). snapshot_in c id (below ++ l ∷ []) ∷ ss) (snapshots-newest c (below ++ l ∷ []) ids layers layer)
+
+-- one snapshot more
+pub snapshots-push : (c : ℕ) (below : List LayerState) (ids : List ℕ) (layers : List LayerState) (id : ℕ) (layer : LayerState) → length layers ≡ length ids + 1
+    → snapshots_in c below (ids ++ id ∷ []) (layers ++ layer ∷ []) ≡ snapshots_in c below ids layers ++ snapshot_in c id (below ++ layers) ∷ []
+snapshots-push c below [] [] id layer long = absurd (omega arith)
+snapshots-push c below [] (l ∷ []) id layer long = refl
+snapshots-push c below [] (l ∷ m ∷ layers) id layer long = absurd (omega (arith, long))
+snapshots-push c below (i ∷ ids) [] id layer long = absurd (omega (arith, long))
+snapshots-push c below (i ∷ ids) (l ∷ layers) id layer long =
+    ap (λ (ss : List Snapshot). snapshot_in c i (below ++ l ∷ []) ∷ ss) (snapshots-push c (below ++ l ∷ []) ids layers id layer (omega (arith, long)))
+    ∙ (let all : (below ++ l ∷ []) ++ layers ≡ below ++ l ∷ layers = append_assoc below (l ∷ []) layers in
+      ap (λ (xs : List LayerState). snapshot_in c i (below ++ l ∷ []) ∷ (snapshots_in c (below ++ l ∷ []) ids layers ++ snapshot_in c id xs ∷ [])) all)
+
+two : {x y : Snapshot} {xs ys : List Snapshot} → x ≡ y → xs ≡ ys → x ∷ xs ≡ y ∷ ys
+two e h = cc
+
+pub or_left : (a b : Bool) → (a || b) ≡ false → a ≡ false
+or_left true b h = h
+or_left false b h = refl
+
+pub or_right : (a b : Bool) → (a || b) ≡ false → b ≡ false
+or_right true b h = absurd (cc)
+or_right false b h = h
+
+eqb_sym : (a b : ℕ) → eqb a b ≡ eqb b a
+eqb_sym a b = grind (arith, nat_tests)
+
+not_among : (j id : ℕ) (ids : List ℕ) (i : ℕ) → list_any (nat_eq j) ids ≡ false → slice_get ids i ≡ Some id → eqb j id ≡ false
+not_among j id [] i apart at = absurd (cc)
+not_among j id (k ∷ ids) zero apart at = let same : k ≡ id = cc in rw (← same) (or_left (nat_eq j k) (list_any (nat_eq j) ids) apart)
+not_among j id (k ∷ ids) (suc i) apart at = not_among j id ids i (or_right (nat_eq j k) (list_any (nat_eq j) ids) apart) at
+
+-- over the layer below, another upper layer has the same
+raised_pair : (below : List LayerState) (lower old new : LayerState) → HasSameOver lower old new → HoldsSame ((below ++ lower ∷ []) ++ old ∷ []) ((below ++ lower ∷ []) ++ new ∷ [])
+raised_pair below lower old new same = record { at = λ block place within.
+    found-append (below ++ lower ∷ []) (new ∷ []) block place ∙ ap (option_or (sector_in new block place)) (found-append below (lower ∷ []) block place)
+    ∙ sym (or_assoc (sector_in new block place) (sector_in lower block place) (found below block place))
+    ∙ ap (λ (o : Option Sector). option_or o (found below block place)) (same block place within)
+    ∙ or_assoc (sector_in old block place) (sector_in lower block place) (found below block place)
+    ∙ sym (found-append (below ++ lower ∷ []) (old ∷ []) block place ∙ ap (option_or (sector_in old block place)) (found-append below (lower ∷ []) block place)) }
+
+pub snapshots-raised : (c : ℕ) (below : List LayerState) (ids : List ℕ) (layers : List LayerState) (i : ℕ) (upper : LayerState)
+    → HasSameOver (layer_at layers i) (layer_at layers (suc i)) upper → suc i < length layers → snapshots_in c below ids (set layers (suc i) upper) ≡ snapshots_in c below ids layers
+snapshots-raised c below ids [] i upper same less = absurd (omega (arith, less))
+snapshots-raised c below ids (lower ∷ []) i upper same less = absurd (omega (arith, less))
+snapshots-raised c below [] (lower ∷ up ∷ rest) i upper same less = refl
+snapshots-raised c below (id ∷ []) (lower ∷ up ∷ rest) zero upper same less = refl
+snapshots-raised c below (id ∷ j ∷ ids) (lower ∷ up ∷ rest) zero upper same less =
+    let both : HoldsSame ((below ++ lower ∷ []) ++ up ∷ []) ((below ++ lower ∷ []) ++ upper ∷ []) = raised_pair below lower up upper same in
+    ap (λ (ss : List Snapshot). snapshot_in c id (below ++ lower ∷ []) ∷ ss)
+    (two (snapshot-same c j ((below ++ lower ∷ []) ++ up ∷ []) ((below ++ lower ∷ []) ++ upper ∷ []) both) (snapshots-same c ((below ++ lower ∷ []) ++ up ∷ []) ((below ++ lower ∷ []) ++ upper ∷ []) ids rest both))
+snapshots-raised c below (id ∷ ids) (l ∷ m ∷ rest) (suc i) upper same less =
+    ap (λ (ss : List Snapshot). snapshot_in c id (below ++ l ∷ []) ∷ ss) (snapshots-raised c (below ++ l ∷ []) ids (m ∷ rest) i upper same (omega (arith, less)))
+
+pub holds-raised : (layers : List LayerState) (i : ℕ) (upper : LayerState) → HasSameOver (layer_at layers i) (layer_at layers (suc i)) upper → suc i < length layers → HoldsSame layers (set layers (suc i) upper)
+holds-raised [] i upper same less = absurd (omega (arith, less))
+holds-raised (lower ∷ []) i upper same less = absurd (omega (arith, less))
+holds-raised (lower ∷ up ∷ rest) zero upper same less = record { at = λ block place within.
+    or_assoc (found rest block place) (sector_in upper block place) (sector_in lower block place) ∙ ap (option_or (found rest block place)) (same block place within)
+    ∙ sym (or_assoc (found rest block place) (sector_in up block place) (sector_in lower block place)) }
+holds-raised (l ∷ m ∷ rest) (suc i) upper same less =
+    let tail : HoldsSame (m ∷ rest) (set (m ∷ rest) (suc i) upper) = holds-raised (m ∷ rest) i upper same (omega (arith, less)) in
+    record { at = λ block place within. ap (λ (o : Option Sector). option_or o (sector_in l block place)) (tail.at block place within) }
+
+-- two layers that became one
+merged_pair : (below : List LayerState) (lower upper new : LayerState) → IsMerged lower upper new → HoldsSame ((below ++ lower ∷ []) ++ upper ∷ []) (below ++ new ∷ [])
+merged_pair below lower upper new merged = record { at = λ block place within.
+    found-append below (new ∷ []) block place ∙ ap (λ (o : Option Sector). option_or o (found below block place)) (merged block place within)
+    ∙ or_assoc (sector_in upper block place) (sector_in lower block place) (found below block place)
+    ∙ sym (found-append (below ++ lower ∷ []) (upper ∷ []) block place ∙ ap (option_or (sector_in upper block place)) (found-append below (lower ∷ []) block place)) }
+
+pub holds-merged : (layers : List LayerState) (i : ℕ) (new : LayerState) → IsMerged (layer_at layers i) (layer_at layers (suc i)) new → suc i < length layers → HoldsSame layers (set (remove layers i) i new)
+holds-merged [] i new merged less = absurd (omega (arith, less))
+holds-merged (lower ∷ []) i new merged less = absurd (omega (arith, less))
+holds-merged (lower ∷ up ∷ rest) zero new merged less = record { at = λ block place within.
+    ap (option_or (found rest block place)) (merged block place within) ∙ sym (or_assoc (found rest block place) (sector_in up block place) (sector_in lower block place)) }
+holds-merged (l ∷ m ∷ rest) (suc i) new merged less =
+    let tail : HoldsSame (m ∷ rest) (set (remove (m ∷ rest) i) i new) = holds-merged (m ∷ rest) i new merged (omega (arith, less)) in
+    record { at = λ block place within. ap (λ (o : Option Sector). option_or o (sector_in l block place)) (tail.at block place within) }
+
+filter-apart : (c id : ℕ) (below : List LayerState) (ids : List ℕ) (layers : List LayerState) → list_any (nat_eq id) ids ≡ false
+    → filter (λ s. not (s.id == id)) (snapshots_in c below ids layers) ≡ snapshots_in c below ids layers
+filter-apart c id below [] layers apart = refl
+filter-apart c id below (j ∷ ids) [] apart = refl
+filter-apart c id below (j ∷ ids) (l ∷ layers) apart =
+    rw (eqb_sym j id, or_left (nat_eq id j) (list_any (nat_eq id) ids) apart, filter-apart c id (below ++ l ∷ []) ids layers (or_right (nat_eq id j) (list_any (nat_eq id) ids) apart)) refl
+
+head_merged : (c id : ℕ) (below : List LayerState) (ids : List ℕ) (lower up : LayerState) (rest : List LayerState) (new : LayerState) → list_any (nat_eq id) ids ≡ false → IsMerged lower up new
+    → snapshots_in c below ids (new ∷ rest) ≡ filter (λ s. not (s.id == id)) (snapshots_in c (below ++ lower ∷ []) ids (up ∷ rest))
+head_merged c id below [] lower up rest new apart merged = refl
+head_merged c id below (k ∷ ids) lower up rest new apart merged =
+    let both : HoldsSame ((below ++ lower ∷ []) ++ up ∷ []) (below ++ new ∷ []) = merged_pair below lower up new merged in
+    two (snapshot-same c k ((below ++ lower ∷ []) ++ up ∷ []) (below ++ new ∷ []) both) (snapshots-same c ((below ++ lower ∷ []) ++ up ∷ []) (below ++ new ∷ []) ids rest both)
+    ∙ sym (filter-apart c id (below ++ lower ∷ []) (k ∷ ids) (up ∷ rest) apart)
+
+pub snapshots-merged : (c bound id : ℕ) (below : List LayerState) (ids : List ℕ) (layers : List LayerState) (i : ℕ) (new : LayerState) → slice_get ids i ≡ Some id → AreIds bound ids
+    → length layers ≡ length ids + 1 → IsMerged (layer_at layers i) (layer_at layers (suc i)) new
+    → snapshots_in c below (remove ids i) (set (remove layers i) i new) ≡ filter (λ s. not (s.id == id)) (snapshots_in c below ids layers)
+snapshots-merged c bound id below [] layers i new at are long merged = absurd (cc)
+snapshots-merged c bound id below (j ∷ ids) [] i new at are long merged = absurd (omega (arith, long))
+snapshots-merged c bound id below (j ∷ ids) (l ∷ []) i new at are long merged = absurd (omega (arith, long))
+snapshots-merged c bound id below (j ∷ ids) (lower ∷ up ∷ rest) zero new at are long merged =
+    let same : j ≡ id = cc in
+    let apart : list_any (nat_eq id) ids ≡ false = rw same at are.1 in
+    head_merged c id below ids lower up rest new apart merged ∙ sym (rw (eq-eqb j id same) refl)
+snapshots-merged c bound id below (j ∷ ids) (l ∷ m ∷ rest) (suc i) new at are long merged =
+    let other : eqb j id ≡ false = not_among j id ids i are.1 at in
+    rw other (ap (λ (ss : List Snapshot). snapshot_in c j (below ++ l ∷ []) ∷ ss) (snapshots-merged c bound id (below ++ l ∷ []) ids (m ∷ rest) i new at are.2 (omega (arith, long)) merged))

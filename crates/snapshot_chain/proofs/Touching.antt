@@ -1,0 +1,87 @@
+-- Which blocks are touched with one write more.
+use Rattle.std.proofs.Common.{◌≡◌, ℕ, zero, suc, ◌+◌, ◌-◌, ◌*◌, ◌/◌, ◌<◌, ◌≤◌, min, max, List, [], ◌∷◌, ◌++◌, length, Bool, true, false, Option, Some, None, is_some, sym, ap, refl, ◌∙◌, arith, cond, eqb, ltb, leb, nat_eq, ◌||◌, ◌&&◌, inl, inr}
+use Rattle.std.specs.Option.{option_or}
+use Rattle.std.specs.List.{list_any, range_with_len, filter, slice_get}
+use Rattle.std.proofs.lemmas.Bool.{eqb-true, cases_lt, lt-ltb, le-ltb, le-leb, lt-leb}
+use Rattle.std.proofs.lemmas.Bool.Decides.{nat_tests}
+use Rattle.std.proofs.lemmas.Option.{slice_get_past, slice_get-get_or}
+use Rattle.std.proofs.lemmas.List.Folds.{list_any-append}
+use Rattle.std.proofs.lemmas.Map.Views.{any-filter_same}
+use Rattle.sector_model.specs.Disk.{Write}
+use Rattle.sector_model.specs.Run.{touches, touched_blocks, block_count}
+use Rattle.sector_model.specs.declared.sector.Sector.{Sector}
+use Rattle.sector_model.proofs.Touched.{any_below}
+use Rattle.snapshot_chain.specs.Page128.{run_at}
+use Rattle.snapshot_chain.specs.Chain.{with_touched}
+
+pub filter-within : (p q : ℕ → Bool) (a n : ℕ) → ((k : ℕ) → a ≤ k → k < a + n → p k ≡ q k) → filter p (range_with_len a n) ≡ filter q (range_with_len a n)
+filter-within p q a zero same = refl
+filter-within p q a (suc n) same =
+    rw (same a (omega arith) (omega arith), filter-within p q (a + 1) n (λ k from less. same k (omega (arith, from)) (omega (arith, less)))) refl
+
+-- whether a number of a range is among those that pass a test
+pub among : (p : ℕ → Bool) (b n : ℕ) → b < n → list_any (nat_eq b) (filter p (range_with_len 0 n)) ≡ p b
+among p b n less =
+    any-filter_same (nat_eq b) p (p b) (λ k same. ap p (sym (eqb-true b k same))) (range_with_len 0 n) ∙ ap (λ x. p b && x) (any_below b 0 n (omega arith) (omega (arith, less))) ∙ and_true (p b)
+  where
+    and_true : (x : Bool) → (x && true) ≡ x
+    and_true true = refl
+    and_true false = refl
+
+or_false : (x : Bool) → (x || false) ≡ x
+or_false true = refl
+or_false false = refl
+
+pub touched_push : (c : ℕ) (ws : List Write) (w : Write) → with_touched c w (touched_blocks c ws) ≡ touched_blocks c (ws ++ w ∷ [])
+touched_push c ws w = filter-within (λ b. list_any (nat_eq b) (touched_blocks c ws) || touches b w) (λ b. list_any (touches b) (ws ++ w ∷ [])) 0 (block_count c)
+    (λ b from less. ap (λ x. x || touches b w) (among (λ k. list_any (touches k) ws) b (block_count c) (omega (arith, less)))
+    ∙ sym (list_any-append (touches b) ws (w ∷ []) ∙ ap (λ x. list_any (touches b) ws || x) (or_false (touches b w))))
+
+-- a run has a sector of a block exactly if the two ranges meet
+some_at : (first : ℕ) (xs : List Sector) (s : ℕ) → is_some (run_at first xs s) ≡ (leb first s && ltb s (first + length xs))
+some_at first xs s = elim (cases_lt s first) [
+  | inl less ↦ rw (lt-leb first s less) refl
+  | inr from ↦ rw (le-leb first s from) (elim (cases_lt (s - first) (length xs)) [
+    | inl inside ↦ rw (lt-ltb s (first + length xs) (omega (arith, from, inside))) (long xs (s - first) inside)
+    | inr past ↦ rw (le-ltb s (first + length xs) (omega (arith, from, past)), slice_get_past xs (s - first) past) refl
+  ])
+]
+  where
+    long : (xs : List Sector) (k : ℕ) → k < length xs → is_some (slice_get xs k) ≡ true
+    long [] k less = absurd (omega (arith, less))
+    long (x ∷ xs) zero less = refl
+    long (x ∷ xs) (suc k) less = long xs k (omega (arith, less))
+
+meets : (low high base a n : ℕ) → list_any (λ p. leb low (base + p) && ltb (base + p) high) (range_with_len a n) ≡ ltb (max (base + a) low) (min (base + a + n) high)
+meets low high base a zero = sym (le-ltb (max (base + a) low) (min (base + a + 0) high) (omega arith))
+meets low high base a (suc n) = ap (λ x. (leb low (base + a) && ltb (base + a) high) || x) (meets low high base (a + 1) n) ∙ grind (arith, nat_tests)
+
+any-or : (f g h : ℕ → Bool) (xs : List ℕ) → ((k : ℕ) → h k ≡ (f k || g k)) → list_any h xs ≡ (list_any f xs || list_any g xs)
+any-or f g h [] same = refl
+any-or f g h (x ∷ xs) same = rw (same x, any-or f g h xs same) (four (f x) (g x) (list_any f xs) (list_any g xs))
+  where
+    four : (a b c d : Bool) → ((a || b) || (c || d)) ≡ ((a || c) || (b || d))
+    four true b c d = refl
+    four false true true d = refl
+    four false true false d = refl
+    four false false c d = refl
+
+any_eq : (f g : ℕ → Bool) (xs : List ℕ) → ((k : ℕ) → f k ≡ g k) → list_any f xs ≡ list_any g xs
+any_eq f g [] same = refl
+any_eq f g (x ∷ xs) same = rw (same x, any_eq f g xs same) refl
+
+-- a block in which a run is written over what was found before
+pub has_more : (first : ℕ) (xs : List Sector) (block : ℕ) (old : ℕ → Option Sector)
+    → list_any (λ p. is_some (option_or (run_at first xs (128 * block + p)) (old p))) (range_with_len 0 128)
+    ≡ (list_any (λ p. is_some (old p)) (range_with_len 0 128) || touches block (record { first = first; sectors = xs }))
+has_more first xs block old =
+    any-or (λ p. is_some (old p)) (λ p. leb first (128 * block + p) && ltb (128 * block + p) (first + length xs)) (λ p. is_some (option_or (run_at first xs (128 * block + p)) (old p))) (range_with_len 0 128)
+    (λ p. either (run_at first xs (128 * block + p)) (old p) ∙ ap (λ x. is_some (old p) || x) (some_at first xs (128 * block + p)))
+    ∙ ap (λ x. list_any (λ p. is_some (old p)) (range_with_len 0 128) || x) (meets first (first + length xs) (128 * block) 0 128 ∙ ends)
+  where
+    either : (a b : Option Sector) → is_some (option_or a b) ≡ (is_some b || is_some a)
+    either None b = sym (or_false (is_some b))
+    either (Some x) None = refl
+    either (Some x) (Some y) = refl
+    ends : ltb (max (128 * block + 0) first) (min (128 * block + 0 + 128) (first + length xs)) ≡ touches block (record { first = first; sectors = xs })
+    ends = let e : 128 * block + 0 ≡ 128 * block = omega arith in ap (λ n. ltb (max n first) (min (n + 128) (first + length xs))) e
