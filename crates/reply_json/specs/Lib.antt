@@ -1,0 +1,3 @@
+pub mod ToJson
+pub mod Values
+pub mod Reply
