@@ -12,7 +12,7 @@ mod text;
 mod to_json;
 mod values;
 
-pub use line::reply_line;
+pub use line::{reads_back, reply_line};
 pub use reply::{Area, Carried, CheckLine, GuestDone, HostLine, MigLine, Reply, VmLine};
 pub use sequence::Sequence;
 pub use text::Text;

@@ -1,5 +1,6 @@
 //! The line of a reply, written in one pass into the caller's buffer.
 ghost use Rattle.std.specs.Prelude.{◌≡◌, ◌++◌, OnOk, OnErr, length, take};
+ghost use Rattle.reply_json.specs.Laws.{ReadsBack};
 ghost use Rattle.reply_json.specs.Reply.{line_of};
 
 use crate::Reply;
@@ -35,3 +36,9 @@ fn append_line(reply: &Reply, out: &mut Vec<u8>) -> Result<(), NoMemory>
     out.push(b'\n')?;
     Ok(())
 }
+
+/// What a reader of JSON makes of the text of a reply is the object that the reply means, with each
+/// of its members once.
+pub fn reads_back()
+    ensures { ReadsBack }
+{}

@@ -1,5 +1,6 @@
 //! Numbers, truth values, texts, sectors, and values that may be missing.
-ghost use Rattle.std.specs.Prelude.{◌≡◌, ◌++◌, IfOk, OnOk, string_bytes, decimal, encode_utf8_all};
+ghost use Rattle.std.specs.Prelude.{◌≡◌, ◌==◌, ◌++◌, IfOk, OnOk, string_bytes, decimal, encode_utf8_all};
+ghost use Rattle.std.specs.List.{list_all};
 ghost use Rattle.change_id.specs.ChangeId.{spelling};
 ghost use Rattle.reply_json.specs.Values.{snapshot_text as text_of_snapshot};
 
@@ -135,7 +136,7 @@ impl ToJson for [u8; 512] {
 
     fn put(&self, alloc: Global, writer: &mut Writer) -> Result<(), NoMemory> {
         let first = self[0];
-        if self.iter().all(|byte| *byte == first) {
+        if is_filled_with(self, first) {
             writer.u64(u64::from(first))?;
         } else {
             let digits = hex::encode(alloc, self.as_slice())?;
@@ -143,6 +144,12 @@ impl ToJson for [u8; 512] {
         }
         Ok(())
     }
+}
+
+fn is_filled_with(bytes: &[u8], byte: u8) -> bool
+    ensures { result ≡ list_all (λ b. b == byte) bytes.now }
+{
+    bytes.iter().all(|b| *b == byte)
 }
 
 // The digits of a digest.
