@@ -130,5 +130,5 @@ tokens-compact_text d fits = ap tokens (sym (print-outline d)) ∙ tokens-print 
 pub reads_back : (d : Data) → NumbersFit d → Reads 5 d → read (compact_text d) ≡ Some d
 reads_back d fits reads =
     ap (λ p. option_and_then of_json (option_and_then (λ q. json.if_last q.0 q.1) p))
-        (ap (json.value max_depth) (tokens-compact_text d fits ∙ sym (append-nil _)) ∙ value-json_tokens (outline d) max_depth [] (omega (arith, reads.shallow)))
+    (ap (json.value max_depth) (tokens-compact_text d fits ∙ sym (append-nil _)) ∙ value-json_tokens (outline d) max_depth [] (omega (arith, reads.shallow)))
     ∙ reads.back

@@ -20,7 +20,8 @@ abbrev pub area_data : Area → Data
 area_data area = pair_of (number_of area.start) (number_of area.length)
 
 abbrev pub check_data : CheckLine → Data
-check_data check = pair_of (string (snapshot_text check.previous)) (string (snapshot_text check.current))
+check_data check =
+    pair_of (string (snapshot_text check.previous)) (string (snapshot_text check.current))
 
 abbrev pub host_data : HostLine → Data
 host_data host = object (

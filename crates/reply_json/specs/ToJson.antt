@@ -12,7 +12,8 @@ abbrev pub tokens_of : Data → List Token
 tokens_of d = json_tokens (outline d)
 
 -- those tokens were written whole, or memory ran out; what stood before the writer began stays
-pub record Puts {E : Type 0} (result : Result (Unit {0}) E) (old new : Written) (added : List Token) : Type 0 where
+pub record Puts {E : Type 0} (result : Result (Unit {0}) E) (old new : Written)
+    (added : List Token) : Type 0 where
   pub kept : new.before ≡ old.before
   pub whole : OnOk result (new.tokens ≡ old.tokens ++ added)
 

@@ -8,6 +8,8 @@ mod lists;
 mod objects;
 mod reply;
 mod sequence;
+#[cfg(test)]
+mod tests;
 mod text;
 mod to_json;
 mod values;

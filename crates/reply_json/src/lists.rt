@@ -45,11 +45,7 @@ impl ToJson for Disturbed<'_> {
     }
 }
 
-fn put_disturbed(
-    alloc: Global,
-    writer: &mut Writer,
-    refusal: &Option<Text>,
-) -> Result<(), NoMemory>
+fn put_disturbed(alloc: Global, writer: &mut Writer, refusal: &Option<Text>) -> Result<(), NoMemory>
     ensures { Puts result writer.old writer.new (tokens_of (disturbed_data refusal.now)) }
 {
     match refusal {

@@ -134,7 +134,8 @@ fn put_members(alloc: Global, writer: &mut Writer, reply: &Reply) -> Result<(), 
 }
 
 fn put_done(alloc: Global, writer: &mut Writer) -> Result<(), NoMemory>
-    ensures { Puts result writer.old writer.new (members_tokens (members_outline (members_of Done))) }
+    ensures { Puts result writer.old writer.new
+        (members_tokens (members_outline (members_of Done))) }
 {
     member(alloc, writer, "ok", &true)?;
     writer.end_object()?;
@@ -175,12 +176,7 @@ fn put_ok_and<T: ToJson>(
     Ok(())
 }
 
-fn put_moved(
-    alloc: Global,
-    writer: &mut Writer,
-    writes: u64,
-    written: u64,
-) -> Result<(), NoMemory>
+fn put_moved(alloc: Global, writer: &mut Writer, writes: u64, written: u64) -> Result<(), NoMemory>
     ensures { Puts result writer.old writer.new
         (members_tokens (members_outline (members_of (Moved writes written)))) }
 {

@@ -9,7 +9,10 @@ pub enum Reply {
     /// The command is done, and has nothing more to say.
     Done,
     /// A volume was written and is complete: the number of writes, and the sectors written.
-    Moved { writes: u64, written: u64 },
+    Moved {
+        writes: u64,
+        written: u64,
+    },
     /// The number of a new machine, as `number`.
     Number(u32),
     /// A new snapshot's id, and each disk's change identifier where it has one.
@@ -45,11 +48,17 @@ pub enum Reply {
     /// All migrations, as `migrations`.
     Status(Sequence<MigLine>),
     /// The digits of a volume's digest, and its capacity in sectors.
-    Digest { digest: [u8; 64], sectors: u64 },
+    Digest {
+        digest: [u8; 64],
+        sectors: u64,
+    },
     /// The number of records in the journal, as `records`.
     Records(u64),
     /// The command was refused.
-    Refused { error: Text, carried: Carried },
+    Refused {
+        error: Text,
+        carried: Carried,
+    },
 }
 
 /// What a refusal carries besides its text.
