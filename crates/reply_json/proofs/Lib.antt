@@ -1,0 +1,4 @@
+pub mod TokenLemmas
+pub mod LineLemmas
+pub mod ReadLemmas
+pub mod ReplyLemmas

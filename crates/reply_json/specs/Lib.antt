@@ -1,0 +1,4 @@
+pub mod ToJson
+pub mod Values
+pub mod Reply
+pub mod Laws
