@@ -39,7 +39,7 @@ pub block_passed : (layer : LayerState) (now was : Bool) (seen : List Entry) (e 
     → now ≡ (was || among layer (seen ++ e ∷ []) b)
 block_passed layer now was seen e b none before =
     before ∙ ap (λ x. was || x) (sym (list_any-append (λ x. nat_eq b x.0.now && has_sector layer b) seen (e ∷ []) ∙ ap (λ x. among layer seen b || x) (or_false (nat_eq b e.0.now && has_sector layer b) ∙ gone)
-        ∙ or_false (among layer seen b)))
+    ∙ or_false (among layer seen b)))
   where
     gone : (nat_eq b e.0.now && has_sector layer b) ≡ false
     gone = elim (cases_eq b e.0.now) [
@@ -66,6 +66,7 @@ block_added layer now was new seen e b some before put =
     late true y = refl
     late false true = refl
     late false false = refl
+
     by : (e.0.now ≡ b) ⊎ (e.0.now ≡ b → ⊥) → cond (eqb e.0.now b) true now ≡ (was || (among layer seen b || (nat_eq b e.0.now && has_sector layer b)))
     by (inl same) =
         ap (λ x. cond x true now) (eq-eqb e.0.now b same)
@@ -146,6 +147,7 @@ found_within c (l ∷ layers) b within is =
     some : (x y : Option Sector) → is_some (option_or x y) ≡ (is_some x || is_some y)
     some None y = refl
     some (Some x) y = refl
+
     either : {X : Type 0} (x y : Bool) → (x || y) ≡ true → (x ≡ true → X) → (y ≡ true → X) → X
     either true y h f g = f refl
     either false y h f g = g h

@@ -1,8 +1,8 @@
 -- What a chain that stands for a history stands for after one step more.
-use Rattle.std.proofs.Common.{◌≡◌, ◌≢◌, ℕ, zero, suc, ◌+◌, ◌<◌, ◌≤◌, List, [], ◌∷◌, ◌++◌, length, take, Bool, true, false, Option, Some, None, is_some, IfSome, sym, ap, subst, refl, ◌∙◌, arith, inl, inr, ◌⊎◌, cond, eqb, nat_eq, ◌==◌, not, ◌||◌, ◌&&◌}
+use Rattle.std.proofs.Common.{◌≡◌, ◌≢◌, ℕ, zero, suc, ◌+◌, ◌<◌, ◌≤◌, List, [], ◌∷◌, ◌++◌, length, take, Bool, true, false, Option, Some, None, is_some, IfSome, ◌↔◌, sym, ap, subst, refl, ◌∙◌, arith, inl, inr, ◌⊎◌, cond, eqb, nat_eq, ◌==◌, not, ◌||◌, ◌&&◌}
 use Rattle.std.specs.Option.{option_or}
 use Rattle.std.specs.List.{fold, list_any, range_with_len, filter, filter_map, find, position_or_len}
-use Rattle.std.proofs.lemmas.Bool.{eq-eqb, eqb-true, cases_eq, ne_eqb, false≢true}
+use Rattle.std.proofs.lemmas.Bool.{eq-eqb, eqb-true, cases_eq, ne_eqb, false≢true, false_from_ne_true}
 use Rattle.std.proofs.lemmas.List.{take-append-le, append-nil}
 use Rattle.std.proofs.lemmas.List.Sums.{fold-append}
 use Rattle.std.proofs.lemmas.List.Elements.{filter_map-append}
@@ -86,6 +86,25 @@ frozen_stays chain history more s stands = by (snapshot_of s chain) refl (stands
 or_both : (a b : Bool) → a ≡ false → b ≡ false → (a || b) ≡ false
 or_both a b ea eb = rw (ea, eb) refl
 
+-- no snapshot had an id that is free
+unused_at : (chain : ChainState) (history : List Step) (s : ℕ) → StandsFor chain history → chain.free_from ≤ s → list_any (freezes s) history ≡ false
+unused_at chain history s stands le = false_from_ne_true (list_any (freezes s) history) (λ is. let less : s < s = (stands.free s).0 le s is in omega (arith, less))
+
+-- a step that freezes nothing leaves which ids are free
+free_stays : (chain : ChainState) (history : List Step) (step : Step) → StandsFor chain history → ((s : ℕ) → freezes s step ≡ false) → (id : ℕ)
+    → (chain.free_from ≤ id) ↔ ((s : ℕ) → list_any (freezes s) (history ++ step ∷ []) ≡ true → s < id)
+free_stays chain history step stands none id = (
+  (λ le s is. (stands.free id).0 le s (sym (same s) ∙ is)),
+  (λ all. (stands.free id).1 (λ s is. all s (same s ∙ is))),
+)
+  where
+    or_false : (a : Bool) → (a || false) ≡ a
+    or_false true = refl
+    or_false false = refl
+
+    same : (s : ℕ) → list_any (freezes s) (history ++ step ∷ []) ≡ list_any (freezes s) history
+    same s = list_any-append (freezes s) history (step ∷ []) ∙ ap (λ x. list_any (freezes s) history || (x || false)) (none s) ∙ or_false (list_any (freezes s) history)
+
 -- ---- a write
 
 pub stands_written : (w : Write) (old : ChainState) → Takes (Written w) old (after_writing w old)
@@ -94,7 +113,7 @@ stands_written w old history stands = record {
   blocks = ap (with_touched old.capacity w) stands.blocks ∙ touched_push old.capacity (writes_in history) w ∙ ap (touched_blocks old.capacity) (sym (writes-append history (Written w ∷ [])));
   live = λ s. stands.live s ∙ sym (fold-append (live_after s) false history (Written w ∷ []));
   frozen = λ s. frozen_stays old history (Written w ∷ []) s stands;
-  free = λ s le. list_any-append (freezes s) history (Written w ∷ []) ∙ or_both (list_any (freezes s) history) false (stands.free s le) refl;
+  free = free_stays old history (Written w) stands (λ s. refl);
 }
 
 -- ---- a freeze
@@ -135,12 +154,27 @@ module _ (id : ℕ) (old : ChainState) (history : List Step) (stands : StandsFor
       by (Some snapshot) is was case = was
       by None is was (inr other) = rw (ne_eqb id s other) tt
       by None is was (inl same) = rw (eq-eqb id s same)
-          (let none : list_any (freezes s) history ≡ false = stands.free s (omega (arith, same, unused)) in
-           let before : before_freeze s (history ++ Frozen id ∷ []) ≡ history = rw same (before_new s history none) in
-           record {
-             contents = stands.present ∙ ap (present old.capacity) (sym before);
-             blocks = stands.blocks ∙ ap (λ (h : List Step). touched_blocks old.capacity (writes_in h)) (sym before);
-           })
+          (let none : list_any (freezes s) history ≡ false = unused_at old history s stands (omega (arith, same, unused)) in
+          let before : before_freeze s (history ++ Frozen id ∷ []) ≡ history = rw same (before_new s history none) in
+          record {
+            contents = stands.present ∙ ap (present old.capacity) (sym before);
+            blocks = stands.blocks ∙ ap (λ (h : List Step). touched_blocks old.capacity (writes_in h)) (sym before);
+          })
+
+  late : (a b : Bool) → b ≡ true → (a || (b || false)) ≡ true
+  late true b is = refl
+  late false true is = refl
+  late false false is = is
+
+  early : (a b : Bool) → b ≡ false → (a || (b || false)) ≡ true → a ≡ true
+  early true b none is = refl
+  early false true none is = absurd (false≢true (sym none))
+  early false false none is = is
+
+  frozen_below : (n : ℕ) → id + 1 ≤ n → (s : ℕ) → (id ≡ s) ⊎ (id ≡ s → ⊥) → (list_any (freezes s) history || (eqb id s || false)) ≡ true → s < n
+  frozen_below n le s (inl same) is = omega (arith, same, le)
+  frozen_below n le s (inr other) is =
+      let less : s < id = (stands.free id).0 unused s (early (list_any (freezes s) history) (eqb id s) (ne_eqb id s other) is) in omega (arith, less, le)
 
   pub stands_frozen : StandsFor (after_freezing id old) (history ++ Frozen id ∷ [])
   stands_frozen = record {
@@ -148,8 +182,10 @@ module _ (id : ℕ) (old : ChainState) (history : List Step) (stands : StandsFor
     blocks = stands.blocks ∙ ap (touched_blocks old.capacity) (sym (unwritten history id));
     live = live_now;
     frozen = froze_now;
-    free = λ s le. list_any-append (freezes s) history (Frozen id ∷ [])
-        ∙ or_both (list_any (freezes s) history) (eqb id s || false) (stands.free s (omega (arith, unused, le))) (rw (ne_eqb id s (λ same. omega (arith, same, le))) refl);
+    free = λ n. (
+      (λ le s is. frozen_below n le s (cases_eq id s) (sym (list_any-append (freezes s) history (Frozen id ∷ [])) ∙ is)),
+      (λ all. let less : id < n = all id (list_any-append (freezes id) history (Frozen id ∷ []) ∙ late (list_any (freezes id) history) (eqb id id) (eq-eqb id id refl)) in omega (arith, less)),
+    );
   }
 
 -- ---- a merge
@@ -158,13 +194,13 @@ find-filter : (s id : ℕ) (xs : List Snapshot) → find (λ x. x.id == s) (filt
 find-filter s id [] = elim (cases_eq id s) [ inl same ↦ rw (eq-eqb id s same) refl | inr other ↦ rw (ne_eqb id s other) refl ]
 find-filter s id (x ∷ xs) = elim (cases_eq x.id id) [
   | inl gone ↦ rw (eq-eqb x.id id gone) (find-filter s id xs ∙ (elim (cases_eq id s) [
-      | inl same ↦ rw (eq-eqb id s same) refl
-      | inr other ↦ rw (ne_eqb id s other, ne_eqb x.id s (λ e. other (sym gone ∙ e))) refl
-    ]))
+    | inl same ↦ rw (eq-eqb id s same) refl
+    | inr other ↦ rw (ne_eqb id s other, ne_eqb x.id s (λ e. other (sym gone ∙ e))) refl
+  ]))
   | inr kept ↦ rw (ne_eqb x.id id kept) (elim (cases_eq x.id s) [
-      | inl same ↦ rw (eq-eqb x.id s same, ne_eqb id s (λ e. kept (same ∙ sym e))) refl
-      | inr other ↦ rw (ne_eqb x.id s other) (find-filter s id xs)
-    ])
+    | inl same ↦ rw (eq-eqb x.id s same, ne_eqb id s (λ e. kept (same ∙ sym e))) refl
+    | inr other ↦ rw (ne_eqb x.id s other) (find-filter s id xs)
+  ])
 ]
 
 pub stands_merged : (id : ℕ) (old : ChainState) → Takes (Merged id) old (after_merging id old)
@@ -173,12 +209,13 @@ stands_merged id old history stands = record {
   blocks = stands.blocks ∙ ap (touched_blocks old.capacity) (sym (unmerged history id));
   live = λ s. ap is_some (find-filter s id old.snapshots) ∙ gone s (cases_eq id s) ∙ sym (fold-append (live_after s) false history (Merged id ∷ []));
   frozen = λ s. rw (find-filter s id old.snapshots) (kept s (cases_eq id s) (frozen_stays old history (Merged id ∷ []) s stands));
-  free = λ s le. list_any-append (freezes s) history (Merged id ∷ []) ∙ or_both (list_any (freezes s) history) false (stands.free s le) refl;
+  free = free_stays old history (Merged id) stands (λ s. refl);
 }
   where
     gone : (s : ℕ) → (id ≡ s) ⊎ (id ≡ s → ⊥) → is_some (cond (eqb id s) None (snapshot_of s old)) ≡ cond (eqb id s) false (is_live s history)
     gone s (inl same) = rw (eq-eqb id s same) refl
     gone s (inr other) = rw (ne_eqb id s other) (stands.live s)
+
     kept : (s : ℕ) → (id ≡ s) ⊎ (id ≡ s → ⊥) → IfSome (snapshot_of s old) (IsFrozenAs old.capacity s (history ++ Merged id ∷ []))
         → IfSome (cond (eqb id s) None (snapshot_of s old)) (IsFrozenAs old.capacity s (history ++ Merged id ∷ []))
     kept s (inl same) was = rw (eq-eqb id s same) tt
@@ -196,5 +233,5 @@ stands_fresh c = record {
   blocks = sym (none_pass (range_with_len 0 (block_count c)));
   live = λ s. refl;
   frozen = λ s. tt;
-  free = λ s le. refl;
+  free = λ id. ((λ le s is. absurd (false≢true is)), (λ all. omega arith));
 }

@@ -37,8 +37,8 @@ raised_at xs i none lower d e made less low same within =
     let lower_is : lower ≡ layer_at xs i = low ∙ get_or_default xs i d [] (omega (arith, less)) in
     let upper_is : upper ≡ layer_at xs (i + 1) = get_or-set_other xs i (i + 1) none e (λ q. omega (arith, q)) ∙ get_or_default xs (i + 1) e [] less in
     let all : set (set (set xs i none) (i + 1) made) i lower ≡ set xs (i + 1) made =
-        (let P : ℕ → Type 0 = λ n. set (set (set xs i none) n made) i lower ≡ set xs n made in
-         subst P (sym next) (ap (set (set (set xs i none) (suc i) made) i) lower_is ∙ put_back xs i none made (omega (arith, less)))) in
+    (let P : ℕ → Type 0 = λ n. set (set (set xs i none) n made) i lower ≡ set xs n made in
+    subst P (sym next) (ap (set (set (set xs i none) (suc i) made) i) lower_is ∙ put_back xs i none made (omega (arith, less)))) in
     let at : layer_at (set (set (set xs i none) (i + 1) made) i lower) (i + 1) ≡ made = ap (λ (ls : List LayerState). layer_at ls (i + 1)) all ∙ get_or-set_same xs (i + 1) made [] less in
     record {
       others = all ∙ ap (set xs (i + 1)) (sym at);
@@ -91,8 +91,8 @@ raised_long i old new raised = ap length raised.others ∙ length-set old (i + 1
 pub raised_within : (c i : ℕ) (old new : List LayerState) → RaisedAt i old new → i + 1 < length old → AllByRecursion (IsWithin c) old → AllByRecursion (IsWithin c) new
 raised_within c i old new raised less within =
     let made : AllByRecursion (IsWithin c) (set old (i + 1) (layer_at new (i + 1))) =
-        all-set (IsWithin c) old (i + 1) (layer_at new (i + 1)) within
-        (raised.within c (all-at (IsWithin c) old i [] within (omega (arith, less))) (all-at (IsWithin c) old (i + 1) [] within less)) in
+    all-set (IsWithin c) old (i + 1) (layer_at new (i + 1)) within
+    (raised.within c (all-at (IsWithin c) old i [] within (omega (arith, less))) (all-at (IsWithin c) old (i + 1) [] within less)) in
     let P : List LayerState → Type 0 = λ ls. AllByRecursion (IsWithin c) ls in subst P (sym raised.others) made
 
 pub raised_holds : (c : ℕ) (ids : List ℕ) (free : ℕ) (freeze_room : Bool) (merge_room : Option ℕ) (i : ℕ) (old new : List LayerState) → RaisedAt i old new → i + 1 < length old
@@ -109,7 +109,7 @@ merged_long i old new merged less =
 pub merged_within : (c i : ℕ) (old new : List LayerState) → MergedAt i old new → i + 1 < length old → AllByRecursion (IsWithin c) old → AllByRecursion (IsWithin c) new
 merged_within c i old new merged less within =
     let made : AllByRecursion (IsWithin c) (set (remove old i) i (layer_at new i)) =
-        all-set (IsWithin c) (remove old i) i (layer_at new i) (all-remove (IsWithin c) old i within) (merged.within c (all-at (IsWithin c) old (i + 1) [] within less)) in
+    all-set (IsWithin c) (remove old i) i (layer_at new i) (all-remove (IsWithin c) old i within) (merged.within c (all-at (IsWithin c) old (i + 1) [] within less)) in
     let P : List LayerState → Type 0 = λ ls. AllByRecursion (IsWithin c) ls in subst P (sym merged.others) made
 
 pub merged_holds : (c bound : ℕ) (ids : List ℕ) (free : ℕ) (freeze_room : Bool) (merge_room : Option ℕ) (id i : ℕ) (old new : List LayerState) → MergedAt i old new

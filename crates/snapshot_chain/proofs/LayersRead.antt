@@ -40,7 +40,7 @@ one_more layers left block place layer page was old now new some bound is has re
     let P : List LayerState → Type 0 = λ ls. IsRead (found ls block place) now new in
     subst P (sym (next_layer layers left some bound))
     (let Q : Option Sector → Type 0 = λ o. IsRead (option_or (found (drop left layers) block place) o) now new in
-     subst Q (sym here) (taken (found (drop left layers) block place) (sector_at page place) was old now new read takes))
+    subst Q (sym here) (taken (found (drop left layers) block place) (sector_at page place) was old now new read takes))
 
 pub none_more : (layers : List LayerState) (left block place : ℕ) (layer : LayerState) (was : Bool) (old : Option Sector) → 0 < left → left ≤ length layers
     → layer ≡ get_or layers (left - 1) layer → page_of layer block ≡ None → IsRead (found (drop left layers) block place) was old → IsRead (found (drop (left - 1) layers) block place) was old
@@ -50,7 +50,7 @@ none_more layers left block place layer was old some bound is has read =
     let P : List LayerState → Type 0 = λ ls. IsRead (found ls block place) was old in
     subst P (sym (next_layer layers left some bound))
     (let Q : Option Sector → Type 0 = λ o. IsRead o was old in
-     subst Q (sym (ap (option_or (found (drop left layers) block place)) here ∙ or_none (found (drop left layers) block place))) read)
+    subst Q (sym (ap (option_or (found (drop left layers) block place)) here ∙ or_none (found (drop left layers) block place))) read)
 
 -- all layers were looked at
 pub all_read : (sector : Option Sector) (was : Bool) (read : Option Sector) → IsRead sector was read → read ≡ Some (unwrap_or sector zero_sector)

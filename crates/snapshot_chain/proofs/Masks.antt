@@ -71,7 +71,7 @@ some_above m k set = elim (cases_eq (count_ones (m / 2 ^ k)) 0) [
 rank_less : (m k : ℕ) → bit_at m k ≡ 1 → rank m k < count_ones m
 rank_less m k set =
     let parts : count_ones m ≡ count_ones (m / 2 ^ k) + count_ones (m % 2 ^ k) =
-        ap count_ones (sym (div-add-mod' m (2 ^ k))) ∙ ones_cat k (m / 2 ^ k) (m % 2 ^ k) (mod_below m (2 ^ k) (pow_pos k)) in
+    ap count_ones (sym (div-add-mod' m (2 ^ k))) ∙ ones_cat k (m / 2 ^ k) (m % 2 ^ k) (mod_below m (2 ^ k) (pow_pos k)) in
     omega (arith, parts, some_above m k set)
 
 front : {X : Type 0} (xs ys : List X) (k : ℕ) → k < length xs → slice_get (xs ++ ys) k ≡ slice_get xs k

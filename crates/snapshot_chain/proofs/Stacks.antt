@@ -28,8 +28,10 @@ pub holds_refl : (xs : List LayerState) → HoldsSame xs xs
 holds_refl xs = record { at = λ block place within. refl }
 
 pub holds_append : (xs ys zs : List LayerState) → HoldsSame xs ys → HoldsSame (xs ++ zs) (ys ++ zs)
-holds_append xs ys zs same = record { at = λ block place within.
-    found-append ys zs block place ∙ ap (option_or (found zs block place)) (same.at block place within) ∙ sym (found-append xs zs block place) }
+holds_append xs ys zs same = record {
+  at = λ block place within.
+      found-append ys zs block place ∙ ap (option_or (found zs block place)) (same.at block place within) ∙ sym (found-append xs zs block place);
+}
 
 -- lists made from functions that agree are one
 pub map-same : {X : Type 0} (f g : ℕ → X) (a n : ℕ) → ((k : ℕ) → f k ≡ g k) → map f (range_with_len a n) ≡ map g (range_with_len a n)
@@ -82,7 +84,7 @@ snapshots-push c below (i ∷ ids) [] id layer long = absurd (omega (arith, long
 snapshots-push c below (i ∷ ids) (l ∷ layers) id layer long =
     ap (λ (ss : List Snapshot). snapshot_in c i (below ++ l ∷ []) ∷ ss) (snapshots-push c (below ++ l ∷ []) ids layers id layer (omega (arith, long)))
     ∙ (let all : (below ++ l ∷ []) ++ layers ≡ below ++ l ∷ layers = append_assoc below (l ∷ []) layers in
-      ap (λ (xs : List LayerState). snapshot_in c i (below ++ l ∷ []) ∷ (snapshots_in c (below ++ l ∷ []) ids layers ++ snapshot_in c id xs ∷ [])) all)
+    ap (λ (xs : List LayerState). snapshot_in c i (below ++ l ∷ []) ∷ (snapshots_in c (below ++ l ∷ []) ids layers ++ snapshot_in c id xs ∷ [])) all)
 
 two : {x y : Snapshot} {xs ys : List Snapshot} → x ≡ y → xs ≡ ys → x ∷ xs ≡ y ∷ ys
 two e h = cc
@@ -105,12 +107,14 @@ not_among j id (k ∷ ids) (suc i) apart at = not_among j id ids i (or_right (na
 
 -- over the layer below, another upper layer has the same
 raised_pair : (below : List LayerState) (lower old new : LayerState) → HasSameOver lower old new → HoldsSame ((below ++ lower ∷ []) ++ old ∷ []) ((below ++ lower ∷ []) ++ new ∷ [])
-raised_pair below lower old new same = record { at = λ block place within.
-    found-append (below ++ lower ∷ []) (new ∷ []) block place ∙ ap (option_or (sector_in new block place)) (found-append below (lower ∷ []) block place)
-    ∙ sym (or_assoc (sector_in new block place) (sector_in lower block place) (found below block place))
-    ∙ ap (λ (o : Option Sector). option_or o (found below block place)) (same block place within)
-    ∙ or_assoc (sector_in old block place) (sector_in lower block place) (found below block place)
-    ∙ sym (found-append (below ++ lower ∷ []) (old ∷ []) block place ∙ ap (option_or (sector_in old block place)) (found-append below (lower ∷ []) block place)) }
+raised_pair below lower old new same = record {
+  at = λ block place within.
+      found-append (below ++ lower ∷ []) (new ∷ []) block place ∙ ap (option_or (sector_in new block place)) (found-append below (lower ∷ []) block place)
+      ∙ sym (or_assoc (sector_in new block place) (sector_in lower block place) (found below block place))
+      ∙ ap (λ (o : Option Sector). option_or o (found below block place)) (same block place within)
+      ∙ or_assoc (sector_in old block place) (sector_in lower block place) (found below block place)
+      ∙ sym (found-append (below ++ lower ∷ []) (old ∷ []) block place ∙ ap (option_or (sector_in old block place)) (found-append below (lower ∷ []) block place));
+}
 
 pub snapshots-raised : (c : ℕ) (below : List LayerState) (ids : List ℕ) (layers : List LayerState) (i : ℕ) (upper : LayerState)
     → HasSameOver (layer_at layers i) (layer_at layers (suc i)) upper → suc i < length layers → snapshots_in c below ids (set layers (suc i) upper) ≡ snapshots_in c below ids layers
@@ -128,25 +132,31 @@ snapshots-raised c below (id ∷ ids) (l ∷ m ∷ rest) (suc i) upper same less
 pub holds-raised : (layers : List LayerState) (i : ℕ) (upper : LayerState) → HasSameOver (layer_at layers i) (layer_at layers (suc i)) upper → suc i < length layers → HoldsSame layers (set layers (suc i) upper)
 holds-raised [] i upper same less = absurd (omega (arith, less))
 holds-raised (lower ∷ []) i upper same less = absurd (omega (arith, less))
-holds-raised (lower ∷ up ∷ rest) zero upper same less = record { at = λ block place within.
-    or_assoc (found rest block place) (sector_in upper block place) (sector_in lower block place) ∙ ap (option_or (found rest block place)) (same block place within)
-    ∙ sym (or_assoc (found rest block place) (sector_in up block place) (sector_in lower block place)) }
+holds-raised (lower ∷ up ∷ rest) zero upper same less = record {
+  at = λ block place within.
+      or_assoc (found rest block place) (sector_in upper block place) (sector_in lower block place) ∙ ap (option_or (found rest block place)) (same block place within)
+      ∙ sym (or_assoc (found rest block place) (sector_in up block place) (sector_in lower block place));
+}
 holds-raised (l ∷ m ∷ rest) (suc i) upper same less =
     let tail : HoldsSame (m ∷ rest) (set (m ∷ rest) (suc i) upper) = holds-raised (m ∷ rest) i upper same (omega (arith, less)) in
     record { at = λ block place within. ap (λ (o : Option Sector). option_or o (sector_in l block place)) (tail.at block place within) }
 
 -- two layers that became one
 merged_pair : (below : List LayerState) (lower upper new : LayerState) → IsMerged lower upper new → HoldsSame ((below ++ lower ∷ []) ++ upper ∷ []) (below ++ new ∷ [])
-merged_pair below lower upper new merged = record { at = λ block place within.
-    found-append below (new ∷ []) block place ∙ ap (λ (o : Option Sector). option_or o (found below block place)) (merged block place within)
-    ∙ or_assoc (sector_in upper block place) (sector_in lower block place) (found below block place)
-    ∙ sym (found-append (below ++ lower ∷ []) (upper ∷ []) block place ∙ ap (option_or (sector_in upper block place)) (found-append below (lower ∷ []) block place)) }
+merged_pair below lower upper new merged = record {
+  at = λ block place within.
+      found-append below (new ∷ []) block place ∙ ap (λ (o : Option Sector). option_or o (found below block place)) (merged block place within)
+      ∙ or_assoc (sector_in upper block place) (sector_in lower block place) (found below block place)
+      ∙ sym (found-append (below ++ lower ∷ []) (upper ∷ []) block place ∙ ap (option_or (sector_in upper block place)) (found-append below (lower ∷ []) block place));
+}
 
 pub holds-merged : (layers : List LayerState) (i : ℕ) (new : LayerState) → IsMerged (layer_at layers i) (layer_at layers (suc i)) new → suc i < length layers → HoldsSame layers (set (remove layers i) i new)
 holds-merged [] i new merged less = absurd (omega (arith, less))
 holds-merged (lower ∷ []) i new merged less = absurd (omega (arith, less))
-holds-merged (lower ∷ up ∷ rest) zero new merged less = record { at = λ block place within.
-    ap (option_or (found rest block place)) (merged block place within) ∙ sym (or_assoc (found rest block place) (sector_in up block place) (sector_in lower block place)) }
+holds-merged (lower ∷ up ∷ rest) zero new merged less = record {
+  at = λ block place within.
+      ap (option_or (found rest block place)) (merged block place within) ∙ sym (or_assoc (found rest block place) (sector_in up block place) (sector_in lower block place));
+}
 holds-merged (l ∷ m ∷ rest) (suc i) new merged less =
     let tail : HoldsSame (m ∷ rest) (set (remove (m ∷ rest) i) i new) = holds-merged (m ∷ rest) i new merged (omega (arith, less)) in
     record { at = λ block place within. ap (λ (o : Option Sector). option_or o (sector_in l block place)) (tail.at block place within) }

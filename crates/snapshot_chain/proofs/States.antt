@@ -89,7 +89,7 @@ pub raised_state : (c : ℕ) (layers : List LayerState) (ids : List ℕ) (free :
 raised_state c layers ids free freeze_room merge_room i upper same less =
     let next : i + 1 ≡ suc i = omega arith in
     let P : ℕ → Type 0 = λ n. HasSameOver (layer_at layers i) (layer_at layers n) upper → n < length layers
-        → state_of c (set layers n upper) ids free freeze_room merge_room ≡ state_of c layers ids free freeze_room merge_room in
+    → state_of c (set layers n upper) ids free freeze_room merge_room ≡ state_of c layers ids free freeze_room merge_room in
     subst P (sym next) (λ over within.
     rw (contents-same c layers (set layers (suc i) upper) (holds-raised layers i upper over within), blocks-same c layers (set layers (suc i) upper) (holds-raised layers i upper over within), snapshots-raised c [] ids layers i upper over within) refl)
     same less
@@ -125,16 +125,18 @@ replaced-made f first ys c fits =
     let long : length (replaced old first ys) ≡ c = length-replaced old ys first within ∙ length-map-range_with_len f 0 c in
     ext_get_or zero_sector (replaced old first ys) new (long ∙ sym (length-map-range_with_len (λ s. unwrap_or (run_at first ys s) (f s)) 0 c))
     (λ s less. sym (unwrap_or-slice_get (replaced old first ys) s zero_sector)
-        ∙ ap (λ (o : Option Sector). unwrap_or o zero_sector) (at s (omega (arith, less, long)))
-        ∙ sym (get_or-map-range_with_len (λ k. unwrap_or (run_at first ys k) (f k)) 0 c s s zero_sector (omega (arith, less, long)) (omega arith)))
+    ∙ ap (λ (o : Option Sector). unwrap_or o zero_sector) (at s (omega (arith, less, long)))
+    ∙ sym (get_or-map-range_with_len (λ k. unwrap_or (run_at first ys k) (f k)) 0 c s s zero_sector (omega (arith, less, long)) (omega arith)))
   where
     made : (s : ℕ) → s < c → slice_get (map f (range_with_len 0 c)) s ≡ Some (f s)
     made s less =
         slice_get-get_or (map f (range_with_len 0 c)) s zero_sector (omega (arith, less, length-map-range_with_len f 0 c))
         ∙ ap (λ (x : Sector). Some x) (get_or-map-range_with_len f 0 c s s zero_sector less (omega arith))
+
     inside : (o : Option Sector) (d : Sector) → is_some o ≡ true → o ≡ Some (unwrap_or o d)
     inside None d some = absurd (false≢true some)
     inside (Some x) d some = refl
+
     at : (s : ℕ) → s < c → slice_get (replaced (map f (range_with_len 0 c)) first ys) s ≡ Some (unwrap_or (run_at first ys s) (f s))
     at s less =
         let within : first + length ys ≤ length (map f (range_with_len 0 c)) = omega (arith, fits, length-map-range_with_len f 0 c) in
@@ -159,6 +161,7 @@ written_state c layers ids free freeze_room merge_room first sectors new long fi
   where
     more : (block place : ℕ) → place < 128 → found (set layers (length ids) new) block place ≡ option_or (run_at first sectors (128 * block + place)) (found layers block place)
     more = raised-newest layers (length ids) first sectors new long written
+
     each : (s : ℕ) → sector_found (set layers (length ids) new) s ≡ unwrap_or (run_at first sectors s) (sector_found layers s)
     each s =
         let at : 128 * (s / 128) + s % 128 ≡ s = omega arith in
@@ -168,12 +171,14 @@ written_state c layers ids free freeze_room merge_room first sectors new long fi
         either : (a b : Option Sector) → unwrap_or (option_or a b) zero_sector ≡ unwrap_or a (unwrap_or b zero_sector)
         either None b = refl
         either (Some x) b = refl
+
     contents : contents_in c (set layers (length ids) new) ≡ replaced (contents_in c layers) first sectors
     contents = map-same (sector_found (set layers (length ids) new)) (λ s. unwrap_or (run_at first sectors s) (sector_found layers s)) 0 c each ∙ sym (replaced-made (sector_found layers) first sectors c fits)
+
     blocks : blocks_in c (set layers (length ids) new) ≡ with_touched c (record { first = first; sectors = sectors }) (blocks_in c layers)
     blocks = filter-within (has_found (set layers (length ids) new)) (λ b. list_any (nat_eq b) (blocks_in c layers) || touches b (record { first = first; sectors = sectors })) 0 (block_count c)
         (λ b from less. any-same (λ place. is_some (found (set layers (length ids) new) b place)) (λ place. is_some (option_or (run_at first sectors (128 * b + place)) (found layers b place))) 0 128
-            (λ place low within. ap is_some (more b place (omega (arith, within))))
+        (λ place low within. ap is_some (more b place (omega (arith, within))))
         ∙ has_more first sectors b (found layers b)
         ∙ ap (λ x. x || touches b (record { first = first; sectors = sectors })) (sym (among (has_found layers) b (block_count c) (omega (arith, less)))))
 
@@ -204,8 +209,8 @@ read_part f c first buf old same fits each =
     let long : length (take n (drop first made)) ≡ length buf = omega (arith, same, fits, length-take n (drop first made), length-drop first made, length-map-range_with_len f 0 c) in
     ext_get_or zero_sector buf (take n (drop first made)) (sym long)
     (λ k less. get_or_from_slice_get buf k (f (first + k)) zero_sector (each k (omega (arith, less, same)))
-        ∙ sym (get_or-take n (drop first made) k zero_sector (omega (arith, less, same)) ∙ get_or-drop first made k zero_sector
-            ∙ get_or-map-range_with_len f 0 c (first + k) (first + k) zero_sector (omega (arith, less, fits, same)) (omega arith)))
+    ∙ sym (get_or-take n (drop first made) k zero_sector (omega (arith, less, same)) ∙ get_or-drop first made k zero_sector
+    ∙ get_or-map-range_with_len f 0 c (first + k) (first + k) zero_sector (omega (arith, less, fits, same)) (omega arith)))
 
 pub live_in : (c id : ℕ) (ids : List ℕ) (layers : List LayerState) → length layers ≡ length ids + 1 → is_some (find (λ s. s.id == id) (snapshots_in c [] ids layers)) ≡ is_some (position (nat_eq id) ids)
 live_in c id ids layers long = ap is_some (find-in c id [] ids layers long) ∙ kept (position (nat_eq id) ids)

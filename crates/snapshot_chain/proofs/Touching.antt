@@ -83,5 +83,6 @@ has_more first xs block old =
     either None b = sym (or_false (is_some b))
     either (Some x) None = refl
     either (Some x) (Some y) = refl
+
     ends : ltb (max (128 * block + 0) first) (min (128 * block + 0 + 128) (first + length xs)) ≡ touches block (record { first = first; sectors = xs })
     ends = let e : 128 * block + 0 ≡ 128 * block = omega arith in ap (λ n. ltb (max n first) (min (n + 128) (first + length xs))) e

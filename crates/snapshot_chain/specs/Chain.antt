@@ -19,9 +19,9 @@ pub record ChainState : Type 0 where
   pub present : List Sector
   pub blocks : List ℕ
   pub snapshots : List Snapshot
-  pub free_from : ℕ                -- no snapshot had an id from here on
-  pub freeze_room : Bool           -- the next freeze takes no memory
-  pub merge_room : Option ℕ        -- the snapshot whose merge takes no memory
+  pub free_from : ℕ  -- no snapshot had an id from here on
+  pub freeze_room : Bool  -- the next freeze takes no memory
+  pub merge_room : Option ℕ  -- the snapshot whose merge takes no memory
 
 -- a disk that was never written
 abbrev pub fresh : ℕ → ChainState
@@ -44,8 +44,11 @@ after_writing w chain = record chain { present = after_write chain.present w; bl
 
 abbrev pub after_freezing : ℕ → ChainState → ChainState
 after_freezing id chain = record chain {
-    snapshots = chain.snapshots ++ record { id = id; contents = chain.present; blocks = chain.blocks } ∷ [];
-    free_from = id + 1; freeze_room = false; merge_room = None }
+  snapshots = chain.snapshots ++ record { id = id; contents = chain.present; blocks = chain.blocks } ∷ [];
+  free_from = id + 1;
+  freeze_room = false;
+  merge_room = None;
+}
 
 abbrev pub after_merging : ℕ → ChainState → ChainState
 after_merging id chain = record chain { snapshots = filter (λ s. not (s.id == id)) chain.snapshots; merge_room = None }

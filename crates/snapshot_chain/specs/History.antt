@@ -1,5 +1,5 @@
 -- What happened to a disk, step by step, and what a chain that stands for it holds.
-use Rattle.std.specs.Prelude.{◌≡◌, ℕ, ◌+◌, ◌≤◌, ◌==◌, List, [], ◌∷◌, ◌++◌, length, take, Bool, true, false, Option, Some, None, is_some, IfSome, if◌then◌else◌}
+use Rattle.std.specs.Prelude.{◌≡◌, ℕ, ◌+◌, ◌<◌, ◌≤◌, ◌==◌, ◌↔◌, List, [], ◌∷◌, ◌++◌, length, take, Bool, true, false, Option, Some, None, is_some, IfSome, if◌then◌else◌}
 use Rattle.std.specs.List.{fold, filter_map, list_any, position_or_len}
 use Rattle.sector_model.specs.Disk.{Write, fold_writes}
 use Rattle.sector_model.specs.Run.{touched_blocks, areas_of}
@@ -62,7 +62,9 @@ pub record StandsFor (chain : ChainState) (history : List Step) : Type 0 where
   pub blocks : chain.blocks ≡ touched_blocks chain.capacity (writes_in history)
   pub live : (s : ℕ) → is_some (snapshot_of s chain) ≡ is_live s history
   pub frozen : (s : ℕ) → IfSome (snapshot_of s chain) (IsFrozenAs chain.capacity s history)
-  pub free : (s : ℕ) → chain.free_from ≤ s → list_any (freezes s) history ≡ false
+  -- an id is free exactly where it is above all that were frozen
+  pub free : (id : ℕ)
+      → (chain.free_from ≤ id) ↔ ((s : ℕ) → list_any (freezes s) history ≡ true → s < id)
 
 -- whatever the old value stood for, the new one stands for with one step more
 abbrev pub Takes : Step → (old new : ChainState) → Type 0

@@ -10,8 +10,14 @@ use Rattle.snapshot_chain.specs.Layers.{contents_in, blocks_in, snapshots_in, la
 
 abbrev pub state_of : (c : ℕ) (layers : List LayerState) (ids : List ℕ) (free_from : ℕ) (freeze_room : Bool) (merge_room : Option ℕ) → ChainState
 state_of c layers ids free_from freeze_room merge_room = record {
-    capacity = c; present = contents_in c layers; blocks = blocks_in c layers; snapshots = snapshots_in c [] ids layers;
-    free_from = free_from; freeze_room = freeze_room; merge_room = merge_room }
+  capacity = c;
+  present = contents_in c layers;
+  blocks = blocks_in c layers;
+  snapshots = snapshots_in c [] ids layers;
+  free_from = free_from;
+  freeze_room = freeze_room;
+  merge_room = merge_room;
+}
 
 -- no two ids are one, and each is below a bound
 abbrev pub AreIds : ℕ → List ℕ → Type 0

@@ -13,3 +13,9 @@ pub record HoldsTheFold (chain : ChainState) (history : List Step) : Type 0 wher
 
 abbrev pub ReadsTheFold : Type 0
 ReadsTheFold = (chain : ChainState) (history : List Step) → StandsFor chain history → HoldsTheFold chain history
+
+-- the room for later calls is no part of what a chain stands for
+abbrev pub RoomIsNoPart : Type 0
+RoomIsNoPart = (chain : ChainState) (history : List Step) (freeze_room : Bool) (merge_room : Option ℕ)
+    → StandsFor chain history
+    → StandsFor (record chain { freeze_room = freeze_room; merge_room = merge_room }) history

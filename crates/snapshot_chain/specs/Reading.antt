@@ -19,7 +19,6 @@ TakesMissing None false old now new = (now ≡ false) × (new ≡ old)
 abbrev pub blocks_met : (first count : ℕ) → ℕ
 blocks_met first count = (first % 128 + count + 127) / 128
 
-
 -- what the layers down to one have is found and read; else zero stands there, and nothing was found
 abbrev pub IsRead : (sector : Option Sector) (found : Bool) (read : Option Sector) → Type 0
 IsRead sector true read = (IsSome sector) × (read ≡ sector)

@@ -11,6 +11,7 @@ use crate::reading::read_layers;
 use crate::{Layer, Steps};
 use sector_model::{NoMemory, Runs, Sector};
 use std::alloc::Global;
+use std::fmt;
 use std::marker::{Brand, Model};
 use std::sync::ledger::{Blank, Ledger};
 
@@ -23,6 +24,16 @@ pub enum ChainRefused {
     Range,
     /// Memory ran out. The call has changed nothing but the room that was made for later calls.
     NoMemory,
+}
+
+impl fmt::Display for ChainRefused {
+    fn fmt<W: fmt::Write>(&self, f: &mut fmt::Formatter<W>) -> fmt::Result {
+        f.write_str(match self {
+            ChainRefused::UnknownSnap => "unknown snapshot",
+            ChainRefused::Range => "range",
+            ChainRefused::NoMemory => "no memory",
+        })
+    }
 }
 
 impl From<NoMemory> for ChainRefused {
@@ -109,6 +120,7 @@ impl Chain {
     pub fn reserve_freeze(&mut self) -> Result<(), NoMemory>
         ensures ok { OnOk result (self.new ≡ record self.old { freeze_room = true }) }
         ensures err { OnErr result (self.new ≡ self.old) }
+        ensures room { self.old.freeze_room ≡ true → IsOk result }
     {
         self.ids.reserve(1)?;
         self.layers.reserve(1)?;
@@ -150,10 +162,14 @@ impl Chain {
         ensures refused { IsRefusedOr (snapshot_refusal self.old id) ChainRefused.NoMemory result }
         ensures ok { OnOk result (self.new ≡ record self.old { merge_room = Some id }) }
         ensures err { IsKeptAfter result self.old self.new }
+        ensures room { self.old.merge_room ≡ Some id → IsOk result }
     {
         let Some(index) = position_of(self.ids.as_slice(), id) else {
             return Err(ChainRefused::UnknownSnap);
         };
+        if self.merge_room == Some(id) {
+            return Ok(());
+        }
         self.merge_room = None;
         make_places_above(self.alloc, self.layers.as_mut_slice(), index)?;
         self.merge_room = Some(id);
@@ -192,12 +208,7 @@ impl Chain {
     /// Reads sectors from sector `first` on, of a snapshot or, without one, of what the disk holds now.
     /// `UnknownSnap` comes where the snapshot isn't live, then `Range` where the buffer is empty or the range
     /// passes the capacity. It takes no memory.
-    pub fn read(
-        &self,
-        id: Option<u32>,
-        first: u64,
-        buf: &mut [Sector],
-    ) -> Result<(), ChainRefused>
+    pub fn read(&self, id: Option<u32>, first: u64, buf: &mut [Sector]) -> Result<(), ChainRefused>
         ensures refused { IsRefusedBy (read_refusal self.now id first (length buf.old)) result }
         ensures ok { OnOk result (IfSome (contents_of id self.now)
             (λ contents. buf.new ≡ slice_range contents first (first + length buf.old))) }
@@ -239,6 +250,7 @@ impl Chain {
         ensures ok { OnOk result (IfSome (contents_of id self.now)
             (λ contents. buf.new ≡ slice_range contents first (first + length buf.old))) }
         ensures err { OnErr result (buf.new ≡ buf.old) }
+        ensures uncounted { OnErr result (steps.new ≡ steps.old) }
         ensures cost { steps.new ≤ steps.old + (length self.now.snapshots + 1) * blocks_met first (length buf.old) }
     {
         let Some(seen) = layers_seen(self.ids.as_slice(), id) else {

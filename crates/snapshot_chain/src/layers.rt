@@ -15,7 +15,11 @@ use std::collections::BTreeSet;
 use std::mem;
 
 /// Makes a place in the next newer layer for each page of the layer at an index. What is read stays.
-pub(crate) fn make_places_above(alloc: Global, layers: &mut [Layer], index: usize) -> Result<(), NoMemory>
+pub(crate) fn make_places_above(
+    alloc: Global,
+    layers: &mut [Layer],
+    index: usize,
+) -> Result<(), NoMemory>
     requires { index + 1 < length layers.old }
     ensures raised { RaisedAt index layers.old layers.new }
     ensures places { OnOk result (HasPlacesFor (layer_at layers.new index) (layer_at layers.new (index + 1))) }

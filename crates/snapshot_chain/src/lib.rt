@@ -12,9 +12,11 @@ mod layers;
 mod page128;
 mod reading;
 mod steps;
+#[cfg(test)]
+mod tests;
 
 pub use chain::{Chain, ChainRefused};
-pub use laws::reads_the_fold;
+pub use laws::{reads_the_fold, room_is_no_part};
 pub use layer::Layer;
 pub use page128::Page128;
 pub use steps::Steps;

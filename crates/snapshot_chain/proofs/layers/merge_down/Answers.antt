@@ -6,8 +6,10 @@ use Rattle.snapshot_chain.proofs.layers.merge_down.Goals as goal
 
 pub take_pages-requires : goal.take_pages-requires
 take_pages-requires c =
-    rw (lower_is c.args.layers.now.items c.args.index c.remove-lower.result c.requires.within c.remove-lower.ensures.value,
-        upper_is c.args.layers.now.items c.remove-lower.new.self.items c.args.index c.index_mut.result.now c.requires.within c.remove-lower.ensures.items c.index_mut.ensures.value)
+    rw (
+      lower_is c.args.layers.now.items c.args.index c.remove-lower.result c.requires.within c.remove-lower.ensures.value,
+      upper_is c.args.layers.now.items c.remove-lower.new.self.items c.args.index c.index_mut.result.now c.requires.within c.remove-lower.ensures.items c.index_mut.ensures.value,
+    )
     c.requires.places
 
 pub returns-clause-merged : goal.returns-clause-merged

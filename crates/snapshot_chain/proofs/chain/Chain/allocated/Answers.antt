@@ -47,8 +47,8 @@ pub returns-clause-ok : goal.returns-clause-ok
 returns-clause-ok c =
     let at : position (nat_eq c.args.id) c.self.inside.ids.items ≡ Some c.in-Some.index = rw c.as_slice.ensures.value at (sym c.position_of.ensures ∙ c.in-Some.is) in
     let areas : c.in_ok-from_blocks.field-0 ≡ areas_of c.self.inside.capacity (blocks_in c.self.inside.capacity (take (c.in-Some.index + 1) c.self.inside.layers.items)) =
-        c.in_ok-from_blocks.ensures ∙ ap (areas_of c.self.inside.capacity) c.as_slice-2.ensures.value
-        ∙ areas_same c.self.inside.capacity (take (c.in-Some.index + 1) c.deref.result.now) c.in_ok-blocks.blocks.items (λ b. c.in_ok-blocks.ensures.members b)
-        ∙ ap (λ (ls : List LayerState). areas_of c.self.inside.capacity (blocks_in c.self.inside.capacity (take (c.in-Some.index + 1) ls))) c.deref.ensures.value in
+    c.in_ok-from_blocks.ensures ∙ ap (areas_of c.self.inside.capacity) c.as_slice-2.ensures.value
+    ∙ areas_same c.self.inside.capacity (take (c.in-Some.index + 1) c.deref.result.now) c.in_ok-blocks.blocks.items (λ b. c.in_ok-blocks.ensures.members b)
+    ∙ ap (λ (ls : List LayerState). areas_of c.self.inside.capacity (blocks_in c.self.inside.capacity (take (c.in-Some.index + 1) ls))) c.deref.ensures.value in
     rw (← c.self.view_is)
     (rw (snapshot_seen c.self.inside.capacity c.args.id c.self.inside.layers.items c.self.inside.ids.items c.in-Some.index c.self.invariant.long at) areas)

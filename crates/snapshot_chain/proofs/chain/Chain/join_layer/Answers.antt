@@ -16,7 +16,7 @@ invariant_of-self c =
           let at : position (nat_eq c.args.id) c.self.inside.ids.items ≡ Some w.in-Some.index = rw c.as_slice.ensures.value at (sym c.position_of.ensures ∙ w.in-Some.is) in
           let inside : w.in-Some.index < length c.self.inside.ids.items = (at_position c.args.id c.self.inside.ids.items w.in-Some.index at).1 in
           let layers : length w.merge_down.new.layers.items + 1 ≡ length c.self.inside.layers.items =
-              merged_long w.in-Some.index c.self.inside.layers.items w.merge_down.new.layers.items w.merge_down.ensures.merged (omega (arith, inside, c.self.invariant.long)) in
+          merged_long w.in-Some.index c.self.inside.layers.items w.merge_down.new.layers.items w.merge_down.ensures.merged (omega (arith, inside, c.self.invariant.long)) in
           let ids : length w.remove.new.self.items + 1 ≡ length c.self.inside.ids.items = ap (λ (xs : List ℕ). length xs + 1) w.remove.ensures.items ∙ length-remove c.self.inside.ids.items w.in-Some.index inside in
           rw w.self-inside-is
           (record {

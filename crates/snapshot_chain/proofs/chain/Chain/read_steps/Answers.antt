@@ -45,9 +45,9 @@ returns-clause-ok g c =
     let some : layers_seen c.args.id c.self.inside.ids.items ≡ Some c.in-Some.seen = rw c.as_slice.ensures.value at (sym c.layers_seen.ensures ∙ c.in-Some.is) in
     let inside : c.args.first + length c.args.buf.now ≤ c.self.inside.capacity = fits c.self.inside.capacity c.args.first (length c.args.buf.now) (rw (← c.self.view_is) at (sym c.is_within.ensures.within ∙ c.if-not-is_within.false)) in
     let seen : contents_of c.args.id c.args.self.now ≡ Some (contents_in c.self.inside.capacity (take c.in-Some.seen c.self.inside.layers.items)) =
-        rw (← c.self.view_is)
-        (contents_seen c.self.inside.capacity c.self.inside.layers.items c.self.inside.ids.items c.self.inside.free_from c.self.inside.freeze_room c.self.inside.merge_room c.args.id c.self.invariant.long
-        ∙ ap (option_map (λ n. contents_in c.self.inside.capacity (take n c.self.inside.layers.items))) some) in
+    rw (← c.self.view_is)
+    (contents_seen c.self.inside.capacity c.self.inside.layers.items c.self.inside.ids.items c.self.inside.free_from c.self.inside.freeze_room c.self.inside.merge_room c.args.id c.self.invariant.long
+    ∙ ap (option_map (λ n. contents_in c.self.inside.capacity (take n c.self.inside.layers.items))) some) in
     rw seen
     (read_part (sector_found (take c.in-Some.seen c.self.inside.layers.items)) c.self.inside.capacity c.args.first c.read_layers.new.buf c.args.buf.now c.read_layers.auto.buf inside
     (λ k less. c.read_layers.ensures.sectors k less ∙ ap (λ (ls : List LayerState). Some (sector_found (take c.in-Some.seen ls) (c.args.first + k))) c.deref.ensures.value))
@@ -57,8 +57,8 @@ returns-clause-cost g c =
     let some : layers_seen c.args.id c.self.inside.ids.items ≡ Some c.in-Some.seen = rw c.as_slice.ensures.value at (sym c.layers_seen.ensures ∙ c.in-Some.is) in
     let few : c.in-Some.seen ≤ length c.self.inside.ids.items + 1 = seen_few c.args.id c.self.inside.ids.items c.in-Some.seen some in
     let all : length c.args.self.now.snapshots ≡ length c.self.inside.ids.items =
-        rw (← c.self.view_is) (snapshots_long c.self.inside.capacity [] c.self.inside.ids.items c.self.inside.layers.items c.self.invariant.long) in
+    rw (← c.self.view_is) (snapshots_long c.self.inside.capacity [] c.self.inside.ids.items c.self.inside.layers.items c.self.invariant.long) in
     let more : length (take c.in-Some.seen c.deref.result.now) * blocks_met c.args.first (length c.args.buf.now) ≤ (length c.args.self.now.snapshots + 1) * blocks_met c.args.first (length c.args.buf.now) =
-        mul-le (length (take c.in-Some.seen c.deref.result.now)) (blocks_met c.args.first (length c.args.buf.now)) (length c.args.self.now.snapshots + 1) (blocks_met c.args.first (length c.args.buf.now))
-        (omega (arith, few, all, length-take c.in-Some.seen c.deref.result.now)) (omega arith) in
+    mul-le (length (take c.in-Some.seen c.deref.result.now)) (blocks_met c.args.first (length c.args.buf.now)) (length c.args.self.now.snapshots + 1) (blocks_met c.args.first (length c.args.buf.now))
+    (omega (arith, few, all, length-take c.in-Some.seen c.deref.result.now)) (omega arith) in
     omega (arith, more, c.read_layers.ensures.cost)

@@ -22,7 +22,7 @@ invariant_of-self c =
     let raised : RaisedAt c.in-Some.index c.self.inside.layers.items c.make_places_above.new.layers = rw c.as_mut_slice.ensures.value at c.in_err-make_places_above.ensures.raised in
     let same : length c.make_places_above.new.layers ≡ length c.self.inside.layers.items = raised_long c.in-Some.index c.self.inside.layers.items c.make_places_above.new.layers raised in
     let items : take c.self.inside.layers.len (c.make_places_above.new.layers ++ drop (length c.make_places_above.new.layers) c.self.inside.layers.items) ≡ c.make_places_above.new.layers =
-        whole_items c.self.inside.layers.len c.self.inside.layers.items c.make_places_above.new.layers c.self.inside.layers.ok.0 same in
+    whole_items c.self.inside.layers.len c.self.inside.layers.items c.make_places_above.new.layers c.self.inside.layers.ok.0 same in
     record {
       long = ap length items ∙ same ∙ c.self.invariant.long;
       distinct = c.self.invariant.distinct;
@@ -45,7 +45,7 @@ returns-in_err-make_places_above-clause-err c =
     let raised : RaisedAt c.in-Some.index c.self.inside.layers.items c.make_places_above.new.layers = rw c.as_mut_slice.ensures.value at c.in_err-make_places_above.ensures.raised in
     let same : length c.make_places_above.new.layers ≡ length c.self.inside.layers.items = raised_long c.in-Some.index c.self.inside.layers.items c.make_places_above.new.layers raised in
     let items : take c.self.inside.layers.len (c.make_places_above.new.layers ++ drop (length c.make_places_above.new.layers) c.self.inside.layers.items) ≡ c.make_places_above.new.layers =
-        whole_items c.self.inside.layers.len c.self.inside.layers.items c.make_places_above.new.layers c.self.inside.layers.ok.0 same in
+    whole_items c.self.inside.layers.len c.self.inside.layers.items c.make_places_above.new.layers c.self.inside.layers.ok.0 same in
     no_memory c.from_residual.result _ _ c.from_residual.ensures.1
     (rw (items, ← c.self.view_is)
     (raised_holds c.self.inside.capacity c.self.inside.ids.items c.self.inside.free_from c.self.inside.freeze_room None c.in-Some.index c.self.inside.layers.items c.make_places_above.new.layers raised less))
@@ -57,7 +57,7 @@ invariant_of-self-2 c =
     let raised : RaisedAt c.in-Some.index c.self.inside.layers.items c.make_places_above.new.layers = rw c.as_mut_slice.ensures.value at c.in_ok-make_places_above.ensures.raised in
     let same : length c.make_places_above.new.layers ≡ length c.self.inside.layers.items = raised_long c.in-Some.index c.self.inside.layers.items c.make_places_above.new.layers raised in
     let items : take c.self.inside.layers.len (c.make_places_above.new.layers ++ drop (length c.make_places_above.new.layers) c.self.inside.layers.items) ≡ c.make_places_above.new.layers =
-        whole_items c.self.inside.layers.len c.self.inside.layers.items c.make_places_above.new.layers c.self.inside.layers.ok.0 same in
+    whole_items c.self.inside.layers.len c.self.inside.layers.items c.make_places_above.new.layers c.self.inside.layers.ok.0 same in
     record {
       long = ap length items ∙ same ∙ c.self.invariant.long;
       distinct = c.self.invariant.distinct;
@@ -72,6 +72,12 @@ returns-clause-refused c =
     refuse_live (is_some (snapshot_of c.args.id c.args.self.now)) (Ok tt)
     (rw (← c.self.view_is) (live_in c.self.inside.capacity c.args.id c.self.inside.ids.items c.self.inside.layers.items c.self.invariant.long ∙ ap is_some at)) tt
 
+pub returns-then-eq-clause-refused : goal.returns-then-eq-clause-refused
+returns-then-eq-clause-refused c =
+    let at : position (nat_eq c.args.id) c.self.inside.ids.items ≡ Some c.in-Some.index = rw c.as_slice.ensures.value at (sym c.position_of.ensures ∙ c.in-Some.is) in
+    refuse_live (is_some (snapshot_of c.args.id c.args.self.now)) (Ok tt)
+    (rw (← c.self.view_is) (live_in c.self.inside.capacity c.args.id c.self.inside.ids.items c.self.inside.layers.items c.self.invariant.long ∙ ap is_some at)) tt
+
 pub returns-clause-ok : goal.returns-clause-ok
 returns-clause-ok c =
     let at : position (nat_eq c.args.id) c.self.inside.ids.items ≡ Some c.in-Some.index = rw c.as_slice.ensures.value at (sym c.position_of.ensures ∙ c.in-Some.is) in
@@ -79,6 +85,6 @@ returns-clause-ok c =
     let raised : RaisedAt c.in-Some.index c.self.inside.layers.items c.make_places_above.new.layers = rw c.as_mut_slice.ensures.value at c.in_ok-make_places_above.ensures.raised in
     let same : length c.make_places_above.new.layers ≡ length c.self.inside.layers.items = raised_long c.in-Some.index c.self.inside.layers.items c.make_places_above.new.layers raised in
     let items : take c.self.inside.layers.len (c.make_places_above.new.layers ++ drop (length c.make_places_above.new.layers) c.self.inside.layers.items) ≡ c.make_places_above.new.layers =
-        whole_items c.self.inside.layers.len c.self.inside.layers.items c.make_places_above.new.layers c.self.inside.layers.ok.0 same in
+    whole_items c.self.inside.layers.len c.self.inside.layers.items c.make_places_above.new.layers c.self.inside.layers.ok.0 same in
     rw (items, ← c.self.view_is)
     (raised_holds c.self.inside.capacity c.self.inside.ids.items c.self.inside.free_from c.self.inside.freeze_room (Some c.args.id) c.in-Some.index c.self.inside.layers.items c.make_places_above.new.layers raised less)

@@ -45,7 +45,7 @@ pub returns-in_err-write-clause-err : goal.returns-in_err-write-clause-err
 returns-in_err-write-clause-err c =
     let at : c.len-newest.result ≡ length c.self.inside.ids.items = c.len-newest.ensures ∙ c.self.inside.ids.ok.0 in
     let newest : c.index_mut-layer.result.now ≡ layer_at c.self.inside.layers.items (length c.self.inside.ids.items) =
-        element c.self.inside.layers.items c.len-newest.result (length c.self.inside.ids.items) c.index_mut-layer.result.now at (omega (arith, c.self.invariant.long)) c.index_mut-layer.ensures.value in
+    element c.self.inside.layers.items c.len-newest.result (length c.self.inside.ids.items) c.index_mut-layer.result.now at (omega (arith, c.self.invariant.long)) c.index_mut-layer.ensures.value in
     no_memory c.from_residual.result _ _ c.from_residual.ensures.1
     (rw (at, ← c.self.view_is)
     (unwritten_state c.self.inside.capacity c.self.inside.layers.items c.self.inside.ids.items c.self.inside.free_from c.self.inside.freeze_room None c.write.new.self c.self.invariant.long (rw (← newest) c.in_err-write.ensures.err)))
@@ -56,7 +56,7 @@ returns-clause-ok c =
     let at : c.len-newest.result ≡ length c.self.inside.ids.items = c.len-newest.ensures ∙ c.self.inside.ids.ok.0 in
     let inside : c.args.first + length c.args.sectors.now ≤ cap = fits cap c.args.first (length c.args.sectors.now) (rw (← c.self.view_is) at (sym c.if-not-is_within.ensures.within)) in
     let newest : c.index_mut-layer.result.now ≡ layer_at c.self.inside.layers.items (length c.self.inside.ids.items) =
-        element c.self.inside.layers.items c.len-newest.result (length c.self.inside.ids.items) c.index_mut-layer.result.now at (omega (arith, c.self.invariant.long)) c.index_mut-layer.ensures.value in
+    element c.self.inside.layers.items c.len-newest.result (length c.self.inside.ids.items) c.index_mut-layer.result.now at (omega (arith, c.self.invariant.long)) c.index_mut-layer.ensures.value in
     rw (at, ← c.self.view_is)
     (written_state cap c.self.inside.layers.items c.self.inside.ids.items c.self.inside.free_from c.self.inside.freeze_room c.self.inside.merge_room c.args.first c.args.sectors.now c.write.new.self
     c.self.invariant.long inside (rw (← newest) c.in_ok-write.ensures.ok))

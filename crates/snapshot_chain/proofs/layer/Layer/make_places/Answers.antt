@@ -16,7 +16,7 @@ use Rattle.snapshot_chain.proofs.layer.Layer.make_places.Goals as goal
 pub loop-block-preserved : goal.loop-block-preserved
 loop-block-preserved c =
     let inside : page_of c.lower.inside.pages.entries c.in-Some.block.now ≡ Some c.in-Some.page.now =
-        All-turn deref_pair (λ e. page_of c.lower.inside.pages.entries e.0 ≡ Some e.1) _ _ _ _ _ _ _ c.into_iter-block-iterator.ensures.into_iter_gives.6 c.into_iter-block-iterator.ensures.into_iter_gives.0 c.loop-block.yielded_by c.in-Some.is c.next.ensures.steps in
+    All-turn deref_pair (λ e. page_of c.lower.inside.pages.entries e.0 ≡ Some e.1) _ _ _ _ _ _ _ c.into_iter-block-iterator.ensures.into_iter_gives.6 c.into_iter-block-iterator.ensures.into_iter_gives.0 c.loop-block.yielded_by c.in-Some.is c.next.ensures.steps in
     let met : page_of c.args.lower.now c.in-Some.block.now ≡ Some c.in-Some.page.now = rw c.lower.view_is at inside in
     let e = c.in_ok-make_place.ensures in
     let made : IsPlaceFor (page_of c.args.lower.now c.in-Some.block.now) (page_of c.make_place.new.self c.in-Some.block.now) = rw met e.place in
