@@ -1,14 +1,15 @@
 -- The source disk of a move, write by write.
 use Rattle.std.proofs.Common.{◌≡◌, ℕ, zero, suc, ◌+◌, ◌*◌, ◌/◌, ◌<◌, ◌≤◌, min, max, Bool, true, false, cond, ltb, eqb, ◌||◌, ◌&&◌, List, [], ◌∷◌, length, get_or, take, inl, inr, refl, sym, ap, subst, ◌∙◌, arith}
-use Rattle.std.specs.Prelude.{replicate, All}
+use Rattle.std.specs.Prelude.{replicate, All, unwrap_or}
 use Rattle.std.specs.List.{list_any, fold, filter, range_with_len, AllByRecursion}
 use Rattle.std.proofs.lemmas.Bool.{or_parts, cases_lt, cases_eq, ltb-false, lt-ltb, eq-eqb}
 use Rattle.std.proofs.lemmas.Grind.{fold-append}
 use Rattle.std.proofs.lemmas.List.{map_more, length-replicate, get_or-replicate}
 use Rattle.std.proofs.lemmas.List.Folds.{list_any-append}
 use Rattle.std.proofs.lemmas.List.Elements.{recursion_from_All}
+use Rattle.std.proofs.lemmas.Option.{unwrap_or-slice_get}
 use Rattle.sector_model.specs.Sector.{zero_sector, filled}
-use Rattle.sector_model.specs.Disk.{Write, after_write, fresh_disk}
+use Rattle.sector_model.specs.Disk.{Write, Fits, after_write, fresh_disk}
 use Rattle.sector_model.specs.Run.{block_count, touches, touched_blocks, in_blocks, areas_of}
 use Rattle.sector_model.specs.declared.sector.Sector.{Sector}
 use Rattle.sector_model.proofs.Exact.{in_runs_of}
@@ -16,43 +17,32 @@ use Rattle.migrate_server.specs.declared.command.MoveWrite.{MoveWrite}
 use Rattle.migrate_server.specs.WrittenDisk.{disk_write, disk_writes, written_disk}
 use Rattle.migrate_server.specs.WrittenDisk.{AreFlagged, FlagsAfter, meets}
 use Rattle.migrate_server.specs.Copy.{IsClearOutside}
-use Rattle.sector_model.proofs.Replaced.{length-replaced}
-use Rattle.migrate_server.proofs.Lists.{replaced_below, replaced_behind, filter-range_same}
+use Rattle.sector_model.proofs.Replaced.{length-after_writes, untouched}
+use Rattle.migrate_server.proofs.Lists.{filter-range_same}
 
 -- ---- sectors
 
-length-after_write : (disk : List Sector) (w : MoveWrite) → w.first + w.count ≤ length disk → length (after_write disk (disk_write w)) ≡ length disk
-length-after_write disk w within = length-replaced disk (replicate w.count (filled w.fill)) w.first (let e = length-replicate w.count (filled w.fill) in omega arith)
+-- the writes as writes of the disk lie within it too
+all_fit : (c : ℕ) (ws : List MoveWrite) → AllByRecursion (λ w. w.first + w.count ≤ c) ws → AllByRecursion (Fits c) (disk_writes ws)
+all_fit c [] within = tt
+all_fit c (w ∷ ws) within = (let e = length-replicate w.count (filled w.fill) in omega (arith, e, within.0), all_fit c ws within.1)
 
 pub length-fold : (ws : List MoveWrite) (disk : List Sector) (c : ℕ) → length disk ≡ c → AllByRecursion (λ w. w.first + w.count ≤ c) ws
     → length (fold after_write disk (disk_writes ws)) ≡ c
-length-fold [] disk c long within = long
-length-fold (w ∷ ws) disk c long within = length-fold ws (after_write disk (disk_write w)) c (length-after_write disk w (omega (arith, within.0)) ∙ long) within.1
+length-fold ws disk c long within = length-after_writes c disk (disk_writes ws) long (all_fit c ws within)
 
 pub disk-more : (c : ℕ) (ws : List MoveWrite) (i : ℕ) (d : MoveWrite) → i < length ws
     → after_write (written_disk c (take i ws)) (disk_write (get_or ws i d)) ≡ written_disk c (take (i + 1) ws)
 disk-more c ws i d within =
     sym (ap (fold after_write (fresh_disk c)) (map_more disk_write ws i d within) ∙ fold-append after_write (fresh_disk c) (disk_writes (take i ws)) (disk_write (get_or ws i d) ∷ []))
 
--- a write that doesn't touch the sector's block leaves the sector
-untouched_by : (disk : List Sector) (w : MoveWrite) (s : ℕ) → w.first + w.count ≤ length disk → touches (s / 128) (disk_write w) ≡ false
-    → get_or (after_write disk (disk_write w)) s zero_sector ≡ get_or disk s zero_sector
-untouched_by disk w s within none =
-    let long = length-replicate w.count (filled w.fill) in
-    let apart = ltb-false (max (128 * (s / 128)) w.first) (min (128 * (s / 128) + 128) (w.first + length (replicate w.count (filled w.fill)))) none in
-    elim (cases_lt s w.first) [
-      | inl below ↦ replaced_below disk (replicate w.count (filled w.fill)) w.first s zero_sector below (omega arith)
-      | inr from ↦ replaced_behind disk (replicate w.count (filled w.fill)) w.first s zero_sector (omega arith) (omega arith)
-    ]
-
-untouched : (ws : List MoveWrite) (disk : List Sector) (s : ℕ) → AllByRecursion (λ w. w.first + w.count ≤ length disk) ws → list_any (touches (s / 128)) (disk_writes ws) ≡ false
+-- writes that touch nothing of a sector's block leave the sector
+same_sector : (ws : List MoveWrite) (disk : List Sector) (s c : ℕ) → length disk ≡ c → AllByRecursion (λ w. w.first + w.count ≤ c) ws → list_any (touches (s / 128)) (disk_writes ws) ≡ false
     → get_or (fold after_write disk (disk_writes ws)) s zero_sector ≡ get_or disk s zero_sector
-untouched [] disk s within none = refl
-untouched (w ∷ ws) disk s within none =
-    let parts = or_parts (touches (s / 128) (disk_write w)) (list_any (touches (s / 128)) (disk_writes ws)) none in
-    let same = length-after_write disk w within.0 in
-    untouched ws (after_write disk (disk_write w)) s (subst (λ (n : ℕ). AllByRecursion (λ w. w.first + w.count ≤ n) ws) (sym same) within.1) parts.1
-    ∙ untouched_by disk w s within.0 parts.0
+same_sector ws disk s c long within none =
+    sym (unwrap_or-slice_get (fold after_write disk (disk_writes ws)) s zero_sector)
+    ∙ ap (λ o. unwrap_or o zero_sector) (untouched c disk (disk_writes ws) s long (all_fit c ws within) none)
+    ∙ unwrap_or-slice_get disk s zero_sector
 
 or_false : (b : Bool) → (b || false) ≡ b
 or_false true = refl
@@ -85,7 +75,7 @@ disk_clear c ws within s below outside =
     let inside : s < c = let e = length-fold ws (fresh_disk c) c long each in omega arith in
     let blocks = touched_blocks c (disk_writes ws) in
     let not_in : in_blocks blocks s ≡ false = sym (ap (λ b. b && in_blocks blocks s) (lt-ltb s c inside)) ∙ sym (in_runs_of (in_blocks blocks) c s) ∙ outside in
-    untouched ws (fresh_disk c) s (subst (λ (n : ℕ). AllByRecursion (λ w. w.first + w.count ≤ n) ws) (sym long) each) (none_touches c (disk_writes ws) s inside not_in)
+    same_sector ws (fresh_disk c) s c long each (none_touches c (disk_writes ws) s inside not_in)
     ∙ get_or-replicate c s zero_sector zero_sector inside
 
 -- ---- flags

@@ -1,16 +1,9 @@
--- Parts of lists, and lists of numbers that pass a test.
+-- Lists of numbers that pass a test.
 use Rattle.std.proofs.Common.{◌≡◌, ℕ, zero, suc, ◌+◌, ◌-◌, ◌<◌, ◌≤◌, Bool, true, false, cond, List, [], ◌∷◌, ◌++◌, length, get_or, refl, sym, ap, subst, ◌∙◌, arith}
 use Rattle.std.specs.List.{filter, range_with_len}
 use Rattle.std.specs.List.Sorted.{IsStrictlyIncreasing}
 use Rattle.std.proofs.lemmas.List.{places, map-id}
 use Rattle.std.proofs.lemmas.List.FromFn.{filter_of_map_range_with_len_more}
-use Rattle.sector_model.specs.Disk.{replaced}
-
-pub replaced_below : {X : Type 0} (xs ys : List X) (at k : ℕ) (d : X) → k < at → at ≤ length xs → get_or (replaced xs at ys) k d ≡ get_or xs k d
-replaced_below xs ys at k d below within = search (places, arith)
-
-pub replaced_behind : {X : Type 0} (xs ys : List X) (at k : ℕ) (d : X) → at + length ys ≤ k → at + length ys ≤ length xs → get_or (replaced xs at ys) k d ≡ get_or xs k d
-replaced_behind xs ys at k d from within = search (places, arith)
 
 pub filter-range_more : (p : ℕ → Bool) (n : ℕ) → filter p (range_with_len 0 (n + 1)) ≡ filter p (range_with_len 0 n) ++ cond (p n) (n ∷ []) []
 filter-range_more p n =
