@@ -28,7 +28,8 @@ finished checkpoint = checkpoint_of checkpoint.previous checkpoint.current true
 -- finishing turns the last one alone, and no checkpoint's snapshots
 abbrev pub LastIsFinished : Type 0
 LastIsFinished = (checkpoints : List Checkpoint)
-    → last_checkpoint (with_last_done checkpoints) ≡ option_map finished (last_checkpoint checkpoints)
+    → last_checkpoint (with_last_done checkpoints)
+        ≡ option_map finished (last_checkpoint checkpoints)
 
 abbrev pub SnapshotsStay : Type 0
 SnapshotsStay = (checkpoints : List Checkpoint)
