@@ -29,7 +29,7 @@ finished checkpoint = checkpoint_of checkpoint.previous checkpoint.current true
 abbrev pub LastIsFinished : Type 0
 LastIsFinished = (checkpoints : List Checkpoint)
     → last_checkpoint (with_last_done checkpoints)
-        ≡ option_map finished (last_checkpoint checkpoints)
+    ≡ option_map finished (last_checkpoint checkpoints)
 
 abbrev pub SnapshotsStay : Type 0
 SnapshotsStay = (checkpoints : List Checkpoint)
