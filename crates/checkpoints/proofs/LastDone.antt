@@ -1,7 +1,7 @@
 -- A write to the last checkpoint.
 use Rattle.std.proofs.Common.{◌≡◌, ℕ, suc, zero, true, List, [], ◌∷◌, length, slice_index_or, slice_set, ap, arith}
 use Rattle.checkpoints.specs.declared.checkpoint.Checkpoint.{Checkpoint}
-use Rattle.checkpoints.specs.Import.{with_last_done}
+use Rattle.checkpoints.specs.DataVolume.{with_last_done}
 
 pub set_last : (xs : List Checkpoint) (c : Checkpoint) (k : ℕ) → suc k ≡ length xs → c ≡ slice_index_or xs k c
     → slice_set xs k (record { previous = c.previous; current = c.current; done = true }) ≡ with_last_done xs

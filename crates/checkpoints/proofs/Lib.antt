@@ -1,1 +1,2 @@
 pub mod LastDone
+pub mod Order

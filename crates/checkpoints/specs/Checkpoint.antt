@@ -1,4 +1,5 @@
--- What the phases of an import are called, and the numbers of refusals.
+-- What the phases of an import are called, as replies show them, and the numbers of the refusals,
+-- which a caller keeps or prints in place of the refusal itself.
 use Rattle.std.specs.Prelude.{ℕ, List, Option, Some, None, codes}
 use Rattle.checkpoints.specs.declared.checkpoint.DvPhase.{DvPhase}
 use Rattle.checkpoints.specs.declared.checkpoint.DvPhase.TheVariants.{Pending, InProgress, Paused, Succeeded}

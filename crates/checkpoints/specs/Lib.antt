@@ -1,2 +1,4 @@
 pub mod Checkpoint
-pub mod Import
+pub mod DataVolume
+pub mod Laws
+pub mod SmallImports

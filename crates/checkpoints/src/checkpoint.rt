@@ -1,4 +1,5 @@
-//! One checkpoint, what a data volume's phase may be, and why a call is refused.
+//! One checkpoint, the phases of a data volume, and why a call is refused: what the calls of a data
+//! volume speak of, apart from its state.
 ghost use Rattle.std.specs.Prelude.{◌≡◌};
 ghost use Rattle.checkpoints.specs.Checkpoint.{refusal_number};
 
@@ -49,7 +50,8 @@ impl fmt::Display for DvPhase {
 /// Why a call of a [`DataVolume`](crate::DataVolume) is refused. A refused call changes nothing.
 #[derive(Clone, Copy, Debug, PartialEq, Eq)]
 pub enum CheckRefused {
-    /// The checkpoint doesn't go on from a finished one, or there is none to finish.
+    /// The checkpoint doesn't go on from a finished one; there is none to finish, or it is finished
+    /// already.
     Order,
     /// The final checkpoint was added before.
     Final,
@@ -73,7 +75,7 @@ impl CheckRefused {
 impl fmt::Display for CheckRefused {
     fn fmt<W: fmt::Write>(&self, f: &mut fmt::Formatter<W>) -> fmt::Result {
         match self {
-            CheckRefused::Order => write!(f, "a checkpoint goes on from the last, finished one"),
+            CheckRefused::Order => write!(f, "the checkpoint is out of order"),
             CheckRefused::Final => write!(f, "the final checkpoint was added before"),
             CheckRefused::NoMemory => write!(f, "memory ran out"),
         }

@@ -3,9 +3,11 @@
 #![tactic(auto)]
 
 mod checkpoint;
+mod data_volume;
+mod laws;
 #[cfg(test)]
 mod tests;
-mod volume;
 
 pub use checkpoint::{CheckRefused, Checkpoint, DvPhase};
-pub use volume::DataVolume;
+pub use data_volume::DataVolume;
+pub use laws::{calls_keep_order, calls_move_the_phase, finishing_turns_the_last};

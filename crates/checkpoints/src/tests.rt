@@ -1,25 +1,26 @@
 //! The public calls once, and what no clause says.
-ghost use Rattle.std.specs.Prelude.{◌≡◌, [], ◌∷◌, Some, None, true, false};
-ghost use Rattle.checkpoints.specs.Import.{fresh, add_refusal, after_add, after_done, done_refusal, phase_of};
+ghost use Rattle.std.specs.Prelude.{◌≡◌, Some, None};
+ghost use Rattle.checkpoints.specs.DataVolume.{no_checkpoints, add_refusal, after_done, done_refusal, phase_of};
+ghost use Rattle.checkpoints.specs.SmallImports.{one_added, final_added};
 
 use crate::{CheckRefused, Checkpoint, DataVolume, DvPhase};
 use std::test::Fail;
 
 /// The definitions on small imports. The proof computes them.
 fn definitions_on_small_imports()
-    ensures first { add_refusal fresh 0 1 ≡ None }
-    ensures no_first { add_refusal fresh 1 2 ≡ Some CheckRefused.Order }
-    ensures nothing_done { done_refusal fresh.checkpoints ≡ Some CheckRefused.Order }
-    ensures unfinished { add_refusal (after_add fresh 0 1 false) 1 2 ≡ Some CheckRefused.Order }
-    ensures next { add_refusal (after_done (after_add fresh 0 1 false)) 1 2 ≡ None }
-    ensures same { add_refusal (after_done (after_add fresh 0 1 false)) 1 1 ≡ Some CheckRefused.Order }
-    ensures other { add_refusal (after_done (after_add fresh 0 1 false)) 0 2 ≡ Some CheckRefused.Order }
-    ensures after_final { add_refusal (after_add fresh 0 1 true) 0 1 ≡ Some CheckRefused.Final }
-    ensures twice { done_refusal (after_done (after_add fresh 0 1 false)).checkpoints ≡ Some CheckRefused.Order }
-    ensures pending { phase_of fresh ≡ DvPhase.Pending }
-    ensures running { phase_of (after_add fresh 0 1 true) ≡ DvPhase.InProgress }
-    ensures paused { phase_of (after_done (after_add fresh 0 1 false)) ≡ DvPhase.Paused }
-    ensures succeeded { phase_of (after_done (after_add fresh 0 1 true)) ≡ DvPhase.Succeeded }
+    ensures first { add_refusal no_checkpoints 0 1 ≡ None }
+    ensures no_first { add_refusal no_checkpoints 1 2 ≡ Some CheckRefused.Order }
+    ensures nothing_done { done_refusal no_checkpoints ≡ Some CheckRefused.Order }
+    ensures unfinished { add_refusal one_added 1 2 ≡ Some CheckRefused.Order }
+    ensures next { add_refusal (after_done one_added) 1 2 ≡ None }
+    ensures same { add_refusal (after_done one_added) 1 1 ≡ Some CheckRefused.Order }
+    ensures other { add_refusal (after_done one_added) 0 2 ≡ Some CheckRefused.Order }
+    ensures after_final { add_refusal final_added 0 1 ≡ Some CheckRefused.Final }
+    ensures twice { done_refusal (after_done one_added) ≡ Some CheckRefused.Order }
+    ensures pending { phase_of no_checkpoints ≡ DvPhase.Pending }
+    ensures running { phase_of final_added ≡ DvPhase.InProgress }
+    ensures paused { phase_of (after_done one_added) ≡ DvPhase.Paused }
+    ensures succeeded { phase_of (after_done final_added) ≡ DvPhase.Succeeded }
 {}
 
 #[test]

@@ -1,7 +1,7 @@
 use Rattle.std.proofs.Common.{◌-◌, refl, arith}
 use Rattle.std.specs.Vec.{vec_len}
 use Rattle.checkpoints.proofs.LastDone.{set_last}
-use Rattle.checkpoints.proofs.volume.finish_last.Goals as goal
+use Rattle.checkpoints.proofs.data_volume.finish_last.Goals as goal
 
 pub returns-clause-finished : goal.returns-clause-finished
 returns-clause-finished c =

@@ -1,6 +1,8 @@
-//! The checkpoints of one data volume, in the order in which they were added.
-ghost use Rattle.std.specs.Prelude.{◌≡◌, OnOk, OnErr};
-ghost use Rattle.checkpoints.specs.Import.{fresh, goes_on, add_refusal, after_add, with_last_done, done_refusal, after_done, phase_of, IsRefusedBy, IsRefusedByOrNoMemory};
+//! The checkpoints of one data volume, in the order in which they were added. An import can't be
+//! carried on from a copy that isn't whole, so only what goes on from a finished one is added.
+ghost use Rattle.std.specs.Prelude.{◌≡◌, OnOk, OnErr, Some, None, if◌then◌else◌};
+ghost use Rattle.basics.specs.Refusal.{IsRefusedBy, IsRefusedOr};
+ghost use Rattle.checkpoints.specs.DataVolume.{no_checkpoints, goes_on, add_refusal, after_add, is_unfinished, last_checkpoint, with_last_done, done_refusal, after_done, phase_of};
 
 use crate::{CheckRefused, Checkpoint, DvPhase};
 use std::alloc::Global;
@@ -15,9 +17,9 @@ pub struct DataVolume {
 }
 
 impl Model for DataVolume {
-    ghost use Rattle.checkpoints.specs.Import.{Import};
+    ghost use Rattle.checkpoints.specs.DataVolume.{DataVolumeState};
 
-    ghost Value = { Import };
+    ghost Value = { DataVolumeState };
 
     ghost view = { λ v. record { checkpoints = v.checkpoints.items; has_final = v.has_final } };
 }
@@ -25,7 +27,7 @@ impl Model for DataVolume {
 impl DataVolume {
     /// A data volume without a checkpoint. What is added is kept on `alloc`.
     pub fn new(alloc: Global) -> DataVolume
-        ensures { result ≡ fresh }
+        ensures { result ≡ no_checkpoints }
     {
         DataVolume {
             checkpoints: Vec::new(alloc),
@@ -33,12 +35,13 @@ impl DataVolume {
         }
     }
 
-    /// Adds the checkpoint from snapshot `previous`, or 0 for none, to snapshot `current`, the final
-    /// one where `last`. [`CheckRefused::Final`] where the final one was added before;
+    /// Adds the checkpoint from snapshot `previous`, or 0 for none, to snapshot `current`; it is
+    /// the final one where `last`. [`CheckRefused::Final`] where the final one was added before;
     /// [`CheckRefused::Order`] where the last checkpoint isn't done, `previous` isn't the snapshot
     /// that it copied (0 where there is none), or `current` isn't above `previous`.
     pub fn add(&mut self, previous: u32, current: u32, last: bool) -> Result<(), CheckRefused>
-        ensures refused { IsRefusedByOrNoMemory (add_refusal self.old previous current) result }
+        ensures refused { IsRefusedOr (add_refusal self.old previous current)
+            CheckRefused.NoMemory result }
         ensures added { OnOk result (self.new ≡ after_add self.old previous current last) }
         ensures kept { OnErr result (self.new ≡ self.old) }
     {
@@ -60,7 +63,7 @@ impl DataVolume {
     /// The last checkpoint is copied. [`CheckRefused::Order`] where there is none, or it was done
     /// before.
     pub fn done(&mut self) -> Result<(), CheckRefused>
-        ensures refused { IsRefusedBy (done_refusal self.old.checkpoints) result }
+        ensures refused { IsRefusedBy (done_refusal self.old) result }
         ensures finished { OnOk result (self.new ≡ after_done self.old) }
         ensures kept { OnErr result (self.new ≡ self.old) }
     {
@@ -106,7 +109,8 @@ impl DataVolume {
 }
 
 fn finish_last(checkpoints: &mut Vec<Checkpoint>) -> Result<(), CheckRefused>
-    ensures refused { IsRefusedBy (done_refusal checkpoints.old.items) result }
+    ensures refused { IsRefusedBy (if is_unfinished (last_checkpoint checkpoints.old.items)
+        then None else Some CheckRefused.Order) result }
     ensures finished { OnOk result (checkpoints.new.items ≡ with_last_done checkpoints.old.items) }
     ensures kept { OnErr result (checkpoints.new.items ≡ checkpoints.old.items) }
 {

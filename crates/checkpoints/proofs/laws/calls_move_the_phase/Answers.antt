@@ -1,0 +1,5 @@
+use Rattle.checkpoints.proofs.Order.{finished_is_paused_or_succeeded}
+use Rattle.checkpoints.proofs.laws.calls_move_the_phase.Goals as goal
+
+pub returns-clause-done : goal.returns-clause-done
+returns-clause-done c = finished_is_paused_or_succeeded
