@@ -17,7 +17,7 @@ no_calls failing = record { failing = failing; made = 0; faults = 0 }
 abbrev pub FailsNext : CallLog → Type 0
 FailsNext calls = Contains calls.failing (counted_by 1 calls.made)
 
--- no call is to fail
+-- it was told of no failing call
 abbrev pub never_fails : CallLog → Bool
 never_fails calls = length calls.failing == 0
 

@@ -1,5 +1,5 @@
-//! The calls of an object in memory: how many there were, how many of them failed, and which are to
-//! fail. A test makes such an object fail where it likes, and nowhere else.
+//! The calls of an object in memory: how many there were, how many of them failed, and which are
+//! to fail. A test makes such an object fail where it likes, and nowhere else.
 ghost use Rattle.std.specs.Prelude.{◌≡◌, ◌≤◌, ◌↔◌, IsErr, is_ok, false};
 ghost use Rattle.basics.specs.Calls.{no_calls, never_fails, FailsNext, after_call};
 ghost use Rattle.basics.specs.Faults.{HasCause, counted_by, Rose};
@@ -49,8 +49,8 @@ impl Calls {
         self.failing.is_empty()
     }
 
-    /// Counts a call. [`Failed`] exactly where its number is among those that are to fail, and then
-    /// it counts a fault too.
+    /// Counts a call. [`Failed`] exactly where its number is among those that are to fail, and
+    /// then it counts a fault too.
     pub fn next(&mut self) -> Result<(), Failed>
         ensures fails { IsErr result ↔ FailsNext self.old }
         ensures log { self.new ≡ after_call self.old (is_ok result) }

@@ -64,3 +64,14 @@ fn a_list_of_numbers_keeps_them_in_order(rt: HostRuntime) -> Result<(), Fail> {
     assert_eq!(rt; list.as_slice(), [7].as_slice());
     Ok(())
 }
+
+#[test]
+fn counts_end(rt: HostRuntime) -> Result<(), Fail> {
+    let mut calls = Calls::new(vec![in rt.alloc(); 0, 1]?);
+    calls.add_faults(u64::MAX);
+    assert_eq!(rt; calls.next(), Err(Failed));
+    assert_eq!(rt; calls.faults(), u64::MAX);
+    let longest = Name::of(rt.alloc(), "abcdefghijklmnopqrstuvwxyz012345")?;
+    assert_eq!(rt; longest.as_str().len(), 32);
+    Ok(())
+}

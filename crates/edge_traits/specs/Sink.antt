@@ -3,7 +3,8 @@ use Rattle.std.specs.Prelude.{ℕ, ◌≤◌, List, length, take, Option}
 use Rattle.std.specs.Io.KnownBytes.{Appends}
 
 pub record SinkState : Type 0 where
-  -- the bytes that it was given; a sink outside, as a file, doesn't tell them
+  -- the bytes that it was given; a sink outside, as a file, doesn't tell them, and one that tells
+  -- them goes on telling them
   pub held : Option (List ℕ)
   -- how often it has failed, a count that ends at 2^64 - 1
   pub faults : ℕ

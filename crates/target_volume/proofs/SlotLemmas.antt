@@ -13,7 +13,7 @@ use Rattle.std.specs.Ordering.{match_ordering}
 use Rattle.basics.specs.Calls.{CallLog, never_fails, after_call}
 use Rattle.basics.specs.Faults.{counted_by}
 use Rattle.target_volume.specs.MemVolume.{HeldState, MemVolumeState, held_state, volume_state}
-use Rattle.target_volume.specs.MemVolumes.{SlotState, Home, Lent, MemVolumesState, slot_state, stored_of, loan_in, named_loan, IsKept, AreKept, IsWhole, volume_calls, store_state, next_volume, after_opening, after_keeping, IsHome, IsHomeWith, IsLent, IsLentWith}
+use Rattle.target_volume.specs.MemVolumes.{SlotState, Home, Lent, MemVolumesState, slot_state, stored_of, loan_in, named_loan, IsCountedIn, AreCountedIn, IsWhole, volume_calls, store_state, next_volume, after_opening, after_keeping, IsHome, IsHomeWith, IsLent, IsLentWith}
 use Rattle.target_volume.specs.VolumeName.{volume_cmp, volumes_total, find_volume, with_volume, without_volume, AreAscending}
 use Rattle.target_volume.specs.VolumeStore.{StoredVolume, Loan, Lends, IsThere, IsOrderly, lent_out, after_lending, after_taking_back}
 use Rattle.target_volume.specs.declared.mem_volume.Held.{Held}
@@ -26,33 +26,33 @@ use Rattle.target_volume.proofs.NameLemmas.{exact_volumes}
 -- ---- what is kept stays kept
 
 put_step : (sound : Bool) (faults : ℕ) (name : VolumeName) (slot : Slot) (e : VolumeName × Slot)
-    (es : List (VolumeName × Slot)) (r : Ordering) → IsKept sound faults (slot_state slot)
-    → IsKept sound faults (slot_state e.1) → AreKept sound faults es
-    → AreKept sound faults (insert_entry volume_cmp es name slot)
-    → AreKept sound faults (match_ordering r ((name, slot) ∷ e ∷ es) ((e.0, slot) ∷ es)
+    (es : List (VolumeName × Slot)) (r : Ordering) → IsCountedIn sound faults (slot_state slot)
+    → IsCountedIn sound faults (slot_state e.1) → AreCountedIn sound faults es
+    → AreCountedIn sound faults (insert_entry volume_cmp es name slot)
+    → AreCountedIn sound faults (match_ordering r ((name, slot) ∷ e ∷ es) ((e.0, slot) ∷ es)
     (e ∷ insert_entry volume_cmp es name slot))
 put_step sound faults name slot e es Less put first kept rest = (put, (first, kept))
 put_step sound faults name slot e es Equal put first kept rest = (put, kept)
 put_step sound faults name slot e es Greater put first kept rest = (first, rest)
 
 pub kept_put : (sound : Bool) (faults : ℕ) (name : VolumeName) (slot : Slot)
-    (es : List (VolumeName × Slot)) → IsKept sound faults (slot_state slot)
-    → AreKept sound faults es → AreKept sound faults (insert_entry volume_cmp es name slot)
+    (es : List (VolumeName × Slot)) → IsCountedIn sound faults (slot_state slot)
+    → AreCountedIn sound faults es → AreCountedIn sound faults (insert_entry volume_cmp es name slot)
 kept_put sound faults name slot [] put kept = (put, tt)
 kept_put sound faults name slot (e ∷ es) put kept =
     put_step sound faults name slot e es (volume_cmp name e.0) put kept.0 kept.1
     (kept_put sound faults name slot es put kept.1)
 
 one_later : (sound less : Bool) (faults more : ℕ) (slot : SlotState)
-    → (IsTrue less → IsTrue sound) → faults ≤ more → IsKept sound faults slot
-    → IsKept less more slot
+    → (IsTrue less → IsTrue sound) → faults ≤ more → IsCountedIn sound faults slot
+    → IsCountedIn less more slot
 one_later sound less faults more (Home h) still later kept =
     (kept.0, omega arith, λ t. kept.2 (still t))
 one_later sound less faults more (Lent loan) still later kept = omega arith
 
 pub kept_later : (sound less : Bool) (faults more : ℕ) (es : List (VolumeName × Slot))
-    → (IsTrue less → IsTrue sound) → faults ≤ more → AreKept sound faults es
-    → AreKept less more es
+    → (IsTrue less → IsTrue sound) → faults ≤ more → AreCountedIn sound faults es
+    → AreCountedIn less more es
 kept_later sound less faults more [] still later kept = tt
 kept_later sound less faults more (e ∷ es) still later kept = (
   one_later sound less faults more (slot_state e.1) still later kept.0,
@@ -60,17 +60,17 @@ kept_later sound less faults more (e ∷ es) still later kept = (
 )
 
 found_step : (sound : Bool) (faults : ℕ) (e : VolumeName × Slot) (b : Bool) (rest : Option Slot)
-    (slot : Slot) → IsKept sound faults (slot_state e.1)
-    → (rest ≡ Some slot → IsKept sound faults (slot_state slot))
-    → cond b (Some e.1) rest ≡ Some slot → IsKept sound faults (slot_state slot)
+    (slot : Slot) → IsCountedIn sound faults (slot_state e.1)
+    → (rest ≡ Some slot → IsCountedIn sound faults (slot_state slot))
+    → cond b (Some e.1) rest ≡ Some slot → IsCountedIn sound faults (slot_state slot)
 found_step sound faults e true rest slot first others found =
     let same : e.1 ≡ slot = cc in
-    subst (λ s. IsKept sound faults (slot_state s)) same first
+    subst (λ s. IsCountedIn sound faults (slot_state s)) same first
 found_step sound faults e false rest slot first others found = others found
 
 pub kept_found : (sound : Bool) (faults : ℕ) (t : VolumeName → Bool)
-    (es : List (VolumeName × Slot)) (slot : Slot) → AreKept sound faults es
-    → lookup t es ≡ Some slot → IsKept sound faults (slot_state slot)
+    (es : List (VolumeName × Slot)) (slot : Slot) → AreCountedIn sound faults es
+    → lookup t es ≡ Some slot → IsCountedIn sound faults (slot_state slot)
 kept_found sound faults t [] slot kept found = cc
 kept_found sound faults t (e ∷ es) slot kept found =
     found_step sound faults e (t e.0) (lookup t es) slot kept.0
@@ -93,12 +93,12 @@ whole_called sound failing calls after es whole same later = record {
 -- a slot that is put in
 pub whole_put : (sound : Bool) (failing : List ℕ) (calls : CallLog) (name : VolumeName)
     (slot : Slot) (es after : List (VolumeName × Slot)) → IsWhole sound failing calls es
-    → IsKept sound calls.faults (slot_state slot) → after ≡ insert_entry volume_cmp es name slot
+    → IsCountedIn sound calls.faults (slot_state slot) → after ≡ insert_entry volume_cmp es name slot
     → AreAscending after → IsWhole sound failing calls after
 whole_put sound failing calls name slot es after whole put is ordered = record {
   own = whole.own;
   given = whole.given;
-  kept = subst (λ l. AreKept sound calls.faults l) (sym is)
+  kept = subst (λ l. AreCountedIn sound calls.faults l) (sym is)
       (kept_put sound calls.faults name slot es put whole.kept);
   ordered = ordered;
 }
@@ -398,7 +398,7 @@ not_lent (Some slot) lent none = cc
 -- its count of faults as it went out is in the store's
 lent_inside : (sound : Bool) (faults lent : ℕ) (found : Option Slot)
     → IsLentWith lent (option_map slot_state found)
-    → ((slot : Slot) → found ≡ Some slot → IsKept sound faults (slot_state slot)) → lent ≤ faults
+    → ((slot : Slot) → found ≡ Some slot → IsCountedIn sound faults (slot_state slot)) → lent ≤ faults
 lent_inside sound faults lent None with kept = absurd with
 lent_inside sound faults lent (Some (SlotHome held)) with kept = absurd with
 lent_inside sound faults lent (Some (SlotLent c f)) with kept =
@@ -406,7 +406,7 @@ lent_inside sound faults lent (Some (SlotLent c f)) with kept =
     omega arith
 
 pub lent_counted : (sound : Bool) (faults lent : ℕ) (name : VolumeName)
-    (es : List (VolumeName × Slot)) → AreKept sound faults es
+    (es : List (VolumeName × Slot)) → AreCountedIn sound faults es
     → IsLentWith lent (option_map slot_state (lookup (is_at (volume_cmp name)) es)) → lent ≤ faults
 lent_counted sound faults lent name es kept with =
     lent_inside sound faults lent (lookup (is_at (volume_cmp name)) es) with
@@ -435,7 +435,7 @@ whole_kept sound more failing calls after es slots name held whole same later bo
       own = λ t. ap (λ f. length f == 0) same
           ∙ whole.own (first_true sound (never_fails held.calls) (sym both ∙ t));
       given = λ t. whole.given (first_true sound (never_fails held.calls) (sym both ∙ t));
-      kept = subst (λ l. AreKept more after.faults l) (sym is)
+      kept = subst (λ l. AreCountedIn more after.faults l) (sym is)
           (kept_put more after.faults name (SlotHome held) es (
             (refl, sized),
             counted,
@@ -587,12 +587,12 @@ there_at name capacity faults es home =
 -- ---- a whole store is orderly
 
 kept_told : (sound : Bool) (faults : ℕ) (found : Option Slot)
-    → ((slot : Slot) → found ≡ Some slot → IsKept sound faults (slot_state slot))
-    → (st : SlotState) → option_map slot_state found ≡ Some st → IsKept sound faults st
+    → ((slot : Slot) → found ≡ Some slot → IsCountedIn sound faults (slot_state slot))
+    → (st : SlotState) → option_map slot_state found ≡ Some st → IsCountedIn sound faults st
 kept_told sound faults None kept st is = cc
 kept_told sound faults (Some slot) kept st is =
     let same : slot_state slot ≡ st = cc in
-    subst (λ (t : SlotState). IsKept sound faults t) same (kept slot refl)
+    subst (λ (t : SlotState). IsCountedIn sound faults t) same (kept slot refl)
 
 home_case : (o : Option SlotState) → IfSome (option_map stored_of o)
     (λ v. IsSome v.contents ⊎ IsSome (option_and_then loan_in o))
@@ -601,27 +601,27 @@ home_case (Some (Home h)) = inl refl
 home_case (Some (Lent loan)) = inr refl
 
 sized_case : (sound : Bool) (faults : ℕ) (o : Option SlotState)
-    → ((st : SlotState) → o ≡ Some st → IsKept sound faults st)
+    → ((st : SlotState) → o ≡ Some st → IsCountedIn sound faults st)
     → IfSome (option_map stored_of o) (λ v. IfSome v.contents (IsSized v.capacity))
 sized_case sound faults None kept = tt
 sized_case sound faults (Some (Home h)) kept = (kept (Home h) refl).0
 sized_case sound faults (Some (Lent loan)) kept = tt
 
 counted_case : (sound : Bool) (faults : ℕ) (o : Option SlotState)
-    → ((st : SlotState) → o ≡ Some st → IsKept sound faults st)
+    → ((st : SlotState) → o ≡ Some st → IsCountedIn sound faults st)
     → IfSome (option_and_then loan_in o) (λ loan. loan.faults ≤ faults)
 counted_case sound faults None kept = tt
 counted_case sound faults (Some (Home h)) kept = tt
 counted_case sound faults (Some (Lent loan)) kept = kept (Lent loan) refl
 
 orderly : (s : MemVolumesState) (es : List (VolumeName × Slot)) → s.slots ≡ slots_of es
-    → AreAscending es → AreKept s.sound s.calls.faults es → IsOrderly (store_state s)
+    → AreAscending es → AreCountedIn s.sound s.calls.faults es → IsOrderly (store_state s)
 orderly s es is ordered kept =
     let ascending : AreAscending s.slots =
     subst (λ (l : List (VolumeName × SlotState)). AreAscending l) (sym is)
     (slots_ordered es ordered) in
     let each : (name : VolumeName) (st : SlotState) → find_volume name s.slots ≡ Some st
-    → IsKept s.sound s.calls.faults st = λ name st found.
+    → IsCountedIn s.sound s.calls.faults st = λ name st found.
     kept_told s.sound s.calls.faults (lookup (is_at (volume_cmp name)) es)
     (λ slot at. kept_found s.sound s.calls.faults (is_at (volume_cmp name)) es slot kept at) st
     (sym (slots_found name es)
@@ -651,7 +651,7 @@ orderly s es is ordered kept =
     }
 
 pub orderly_now : (s now : MemVolumesState) (es : List (VolumeName × Slot)) → s ≡ now
-    → s.slots ≡ slots_of es → AreAscending es → AreKept s.sound s.calls.faults es
+    → s.slots ≡ slots_of es → AreAscending es → AreCountedIn s.sound s.calls.faults es
     → IsOrderly (store_state now)
 orderly_now s now es same is ordered kept =
     subst (λ (t : MemVolumesState). IsOrderly (store_state t)) same (orderly s es is ordered kept)

@@ -1,4 +1,5 @@
--- A store in memory: its volumes by name, the junk byte of new ones, and the calls that are to fail.
+-- A store in memory: its volumes by name, the junk byte of new ones, and the calls that are to
+-- fail.
 use Rattle.std.specs.Prelude.{◌≡◌, ℕ, ◌/◌, ◌%◌, ◌-◌, ◌≤◌, Bool, ◌&&◌, true, false, ◌==◌, List, [], ◌∷◌, length, map, Option, Some, None, option_map, nat_lt, All, IsTrue}
 use Rattle.std.specs.List.{filter, filter_map}
 use Rattle.std.specs.Map.{values_of}
@@ -149,23 +150,23 @@ is_failure Exists = false
 is_failure Failed = true
 is_failure NoMemory = false
 
--- of a slot, where its store has this soundness and count of faults: its own count is in the store's,
--- and it doesn't fail where the store is sound
-abbrev pub IsKept : (sound : Bool) (faults : ℕ) → SlotState → Type 0
-IsKept sound faults (Home h) = IsSized (length h.contents.sectors) h.contents
+-- of a slot, where its store has this soundness and count of faults: its own count is in the
+-- store's, and it doesn't fail where the store is sound
+abbrev pub IsCountedIn : (sound : Bool) (faults : ℕ) → SlotState → Type 0
+IsCountedIn sound faults (Home h) = IsSized (length h.contents.sectors) h.contents
     × (h.calls.faults ≤ faults) × (IsTrue sound → IsTrue (never_fails h.calls))
-IsKept sound faults (Lent loan) = loan.faults ≤ faults
+IsCountedIn sound faults (Lent loan) = loan.faults ≤ faults
 
-abbrev pub AreKept : (sound : Bool) (faults : ℕ) → List (VolumeName × Slot) → Type 0
-AreKept sound faults [] = Unit {0}
-AreKept sound faults (slot ∷ slots) = IsKept sound faults (slot_state slot.1)
-    × AreKept sound faults slots
+abbrev pub AreCountedIn : (sound : Bool) (faults : ℕ) → List (VolumeName × Slot) → Type 0
+AreCountedIn sound faults [] = Unit {0}
+AreCountedIn sound faults (slot ∷ slots) = IsCountedIn sound faults (slot_state slot.1)
+    × AreCountedIn sound faults slots
 
--- what holds of a store's fields: where it is sound nothing was told to fail, its slots are kept, and
--- they are in order
+-- what holds of a store's fields: where it is sound nothing was told to fail, its slots are kept,
+-- and they are in order
 pub record IsWhole (sound : Bool) (failing : List ℕ) (calls : CallLog)
     (slots : List (VolumeName × Slot)) : Type 0 where
   pub own : IsTrue sound → IsTrue (never_fails calls)
   pub given : IsTrue sound → length failing ≡ 0
-  pub kept : AreKept sound calls.faults slots
+  pub kept : AreCountedIn sound calls.faults slots
   pub ordered : AreAscending slots

@@ -50,8 +50,8 @@ BreaksTold first count None (Some new) = ⊥
 BreaksTold first count (Some old) None = ⊥
 BreaksTold first count (Some old) (Some new) = IsBrokenAt first count old new
 
--- a failed write or zeroing of `count` sectors leaves anything in its range, which is loose, and has
--- written at most those; all else is as before, and the count of faults rose
+-- a failed write or zeroing of `count` sectors leaves anything in its range, which is loose, and
+-- has written at most those; all else is as before, and the count of faults rose
 pub record Breaks (first count : ℕ) (old new : VolumeState) : Type 0 where
   pub kept : new ≡ record old {
     contents = new.contents;

@@ -1,5 +1,6 @@
--- The order of the names of volumes, and lists of pairs of a name and a value in that order, which is
--- how a store tells its volumes and what it has lent out: plain data, read by the words below alone.
+-- The order of the names of volumes, and lists of pairs of a name and a value in that order,
+-- which is how a store tells its volumes and what it has lent out: plain data, read by the words
+-- below alone.
 use Rattle.std.specs.Prelude.{ℕ, List, [], Option, not}
 use Rattle.std.specs.List.{filter}
 use Rattle.std.specs.List.Sorted.{IsStrictlySortedBy}

@@ -1,6 +1,6 @@
--- What a store of volumes is to whoever has volumes made and lent out, and what each call leaves of
--- that. It lends a volume out and takes it back, and what it holds of one is told only while that is
--- at home: so a store and its loans together tell of each volume once.
+-- What a store of volumes is to whoever has volumes made and lent out, and what each call leaves
+-- of that. It lends a volume out and takes it back, and what it holds of one is told only while
+-- that is at home: so a store and its loans together tell of each volume once.
 use Rattle.std.specs.Prelude.{◌≡◌, ℕ, ◌-◌, ◌≤◌, ◌⊎◌, Bool, true, ◌&&◌, Option, Some, None, option_map, IsTrue, IfSome, IsSome, IsSomeAnd, List}
 use Rattle.basics.specs.Faults.{counted_by, Rose}
 use Rattle.sector_model.specs.VolumeContents.{VolumeContents, IsSized}
@@ -48,8 +48,8 @@ after_lending name capacity faults s = record s {
   loans = with_volume name (record { capacity = capacity; faults = faults }) s.loans;
 }
 
--- what a call that lends a volume out gives, and what it leaves of the store. The store's count has
--- in it that of the volume, and no volume is lent out twice.
+-- what a call that lends a volume out gives, and what it leaves of the store. The store's count
+-- has in it that of the volume, and no volume is lent out twice.
 pub record Lends (name : VolumeName) (capacity : ℕ) (volume : VolumeState) (old new : StoreState)
     : Type 0 where
   pub named : volume.name ≡ Some name
@@ -91,8 +91,8 @@ find_loan (Some name) loans = find_volume name loans
 abbrev pub IsLentOut : VolumeState → StoreState → Type 0
 IsLentOut v s = IsSomeAnd (find_loan v.name s.loans) (λ loan. loan.capacity ≡ v.capacity)
 
--- after a volume was taken back: it is at home as it is now, and no longer lent out, and the store's
--- count went up by as much as the volume's did since it was lent out with `lent` faults
+-- after a volume was taken back: it is at home as it is now, and no longer lent out, and the
+-- store's count went up by as much as the volume's did since it was lent out with `lent` faults
 abbrev pub after_taking_back : VolumeName → (lent : ℕ) → VolumeState → StoreState → StoreState
 after_taking_back name lent v s = record {
   volumes = option_map (with_volume name (at_home v)) s.volumes;

@@ -1,7 +1,7 @@
 //! Target volumes, the stores that keep them by name, and a store in memory.
 //!
-//! A volume is a disk of a fixed number of sectors that a migration fills. What is written to it is
-//! loose until a flush succeeds. A store lends its volumes out, and takes each back.
+//! A volume is a disk of a fixed number of sectors that a migration fills. What is written to it
+//! is loose until a flush succeeds. A store lends its volumes out, and takes each back.
 #![tactic(auto)]
 
 mod mem_volume;

@@ -1,4 +1,5 @@
-//! A volume in memory. It holds all its sectors, and fails where its store was told that it should.
+//! A volume in memory. It holds all its sectors, and fails where its store was told that it
+//! should.
 ghost use Rattle.std.specs.Prelude.{◌≡◌, ◌+◌, ◌≤◌, ◌↔◌, length, take, drop, replicate, true, false, is_ok, IsTrue, IsOk, IsErr, IfSome, IfOk, OnOk, OnErr};
 ghost use Rattle.basics.specs.Calls.{FailsNext, after_call};
 ghost use Rattle.sector_model.specs.Disk.{replaced};
@@ -43,7 +44,8 @@ impl Held {
     }
 }
 
-/// A volume in memory. It holds all its sectors, and fails where its store was told that it should.
+/// A volume in memory. It holds all its sectors, and fails where its store was told that it
+/// should.
 #[derive(Debug, Drop)]
 pub struct MemVolume {
     pub(crate) name: VolumeName,

@@ -60,8 +60,8 @@ impl Model for MemVolumes {
 impl MemVolumes {
     /// An empty store, whose new volumes are full of the byte `junk`. In `fail` a number below
     /// [`VOLUME_CALLS`] is that of a call of `size`, `create` and `open`, from 1, that fails. The
-    /// number `i * VOLUME_CALLS + k` is the k-th call of `read`, `write`, `zero` and `flush` on the
-    /// i-th volume that was created. It answers only want of memory.
+    /// number `i * VOLUME_CALLS + k` is the k-th call of `read`, `write`, `zero` and `flush` on
+    /// the i-th volume that was created. It answers only want of memory.
     pub fn new(alloc: Global, junk: u8, fail: &[u64]) -> Result<MemVolumes, NoMemory>
         ensures { IfOk result (λ store. store ≡ new_store junk fail.now) }
     {
@@ -227,7 +227,8 @@ impl VolumeStore for MemVolumes {
         Ok(self.make(name, capacity)?)
     }
 
-    /// Fails exactly where it was told to, or where no volume of that name and capacity is at home.
+    /// Fails exactly where it was told to, or where no volume of that name and capacity is at
+    /// home.
     fn open(&mut self, name: &VolumeName, capacity: u64) -> Result<MemVolume, StoreRefused>
         ensures lent { IfOk result (λ vol. Lends name.now capacity (volume_state vol)
             (store_state self.old) (store_state self.new)) }

@@ -43,8 +43,8 @@ pub trait VolumeStore {
         ensures refused { IfErr result (λ why. Refuses why (state self.old) (state self.new)) }
         ensures sound { IsTrue (state self.old).sound → IsErrOf result StoreRefused.Failed → ⊥ };
 
-    /// Lends a volume out, as the store holds it. [`StoreRefused::Failed`] comes too where there is
-    /// none of that name at home, or one of another capacity. It never answers
+    /// Lends a volume out, as the store holds it. [`StoreRefused::Failed`] comes too where there
+    /// is none of that name at home, or one of another capacity. It never answers
     /// [`StoreRefused::Exists`].
     fn open(&mut self, name: &VolumeName, capacity: u64) -> Result<Self::Vol, StoreRefused>
         ensures lent { IfOk result (λ vol. Lends name.now capacity (Self.Vol.state vol)

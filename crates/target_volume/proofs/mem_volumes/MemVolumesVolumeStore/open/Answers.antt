@@ -7,7 +7,7 @@ use Rattle.std.specs.Prelude.{IsSome, IsErrAnd}
 use Rattle.basics.specs.Calls.{CallLog, FailsNext}
 use Rattle.target_volume.proofs.SlotLemmas.{whole_called, whole_put, kept_found, told_of, told_found, slots_of, slots_put, slots_found, slots_ordered, not_there, away_at, home_at, home_not_lent, there_at, lends_opened, opened_state}
 use Rattle.target_volume.specs.MemVolume.{MemVolumeState, held_state}
-use Rattle.target_volume.specs.MemVolumes.{MemVolumesState, Home, Lent, slot_state, stored_of, named_loan, IsHome, IsHomeWith, IsKept}
+use Rattle.target_volume.specs.MemVolumes.{MemVolumesState, Home, Lent, slot_state, stored_of, named_loan, IsHome, IsHomeWith, IsCountedIn}
 use Rattle.target_volume.specs.VolumeName.{volume_cmp, find_volume, with_volume}
 use Rattle.target_volume.specs.VolumeStore.{IsThere}
 use Rattle.target_volume.specs.declared.mem_volumes.Slot.TheVariants.{Home as SlotHome, Lent as SlotLent}
@@ -37,7 +37,7 @@ home c = subst (λ o. IsHomeWith c.args.capacity c.in-Some.faults (option_map sl
     c.in-Some.ensures
 
 kept : (c : goal.In-Some-Home)
-    → IsKept c.self.inside.sound c.self.inside.calls.faults (Home (held_state c.in-Some-Home.held))
+    → IsCountedIn c.self.inside.sound c.self.inside.calls.faults (Home (held_state c.in-Some-Home.held))
 kept c = kept_found c.self.inside.sound c.self.inside.calls.faults (is_at (volume_cmp c.args.name.now))
     c.self.inside.slots.entries (SlotHome c.in-Some-Home.held) c.self.invariant.kept (found c)
 
