@@ -1,0 +1,4 @@
+pub mod Calendar
+pub mod Moments
+pub mod Way
+pub mod Plans
