@@ -2,3 +2,4 @@ pub mod Calendar
 pub mod Moments
 pub mod Way
 pub mod Plans
+pub mod Book

@@ -4,6 +4,7 @@ use Rattle.std.specs.Prelude.{ℕ, ◌+◌, ◌-◌, ◌*◌, Bool, ◌&&◌, �
 use Rattle.std.specs.List.{list_all, zip}
 use Rattle.std.specs.Char.{is_ascii_digit}
 use Rattle.plan_model.specs.Calendar.{is_date, days_before}
+use Rattle.plan_model.specs.declared.reading.Reading.{Reading}
 use Rattle.plan_model.specs.declared.moment.Moment.{Moment}
 use Rattle.plan_model.specs.declared.moment.MomentRefused.{MomentRefused}
 use Rattle.plan_model.specs.declared.moment.MomentRefused.TheVariants.{Form, NoMemory}
@@ -16,21 +17,12 @@ abbrev pub fits : (place byte : ℕ) → Bool
 fits place byte = if place == 48 then is_ascii_digit byte else byte == place
 
 abbrev pub has_shape : List ℕ → Bool
-has_shape text = (length text == 20) && list_all (λ p. fits p.0 p.1) (zip shape text)
+has_shape text = (length text == length shape) && list_all (λ p. fits p.0 p.1) (zip shape text)
 
 -- the number that two digits write
 abbrev pub two_digits : (text : List ℕ) (place : ℕ) → ℕ
 two_digits text place =
     (slice_index text place - 48) * 10 + (slice_index text (place + 1) - 48)
-
--- a date and a time of day
-pub record Reading : Type 0 where
-  pub year : ℕ
-  pub month : ℕ
-  pub day : ℕ
-  pub hour : ℕ
-  pub minute : ℕ
-  pub second : ℕ
 
 -- what a text of that shape says
 abbrev pub reading : List ℕ → Reading

@@ -1,6 +1,6 @@
 -- When machines may be put into a plan of a name. Each reason looks at the whole list of names and
 -- tells the first, in the list's order, to which it applies.
-use Rattle.std.specs.Prelude.{◌≡◌, ℕ, ◌+◌, Bool, true, false, not, ◌==◌, ◌⊎◌, List, [], ◌∷◌, length, map, Option, Some, None, option_map, is_some, Result, Err, IfErr, IsErrAnd, if◌then◌else◌}
+use Rattle.std.specs.Prelude.{◌≡◌, ℕ, ◌+◌, Bool, true, false, not, ◌==◌, ◌⊎◌, List, length, map, count_by, nat_lt, Option, Some, None, option_map, is_some, Result, Err, IfErr, IsErrAnd, if◌then◌else◌}
 use Rattle.std.specs.List.{list_any, find}
 use Rattle.std.specs.Option.{option_map_or}
 use Rattle.std.specs.Str.{bytes_eq}
@@ -13,11 +13,13 @@ use Rattle.plan_model.specs.declared.plan.PlanRefused.TheVariants.{Empty, Unknow
 abbrev pub is_taken : (name : List ℕ) (plans : List Plan) → Bool
 is_taken name plans = list_any (λ plan. bytes_eq plan.name name) plans
 
--- the first name that stands again later
-abbrev pub first_doubled : List (List ℕ) → Option (List ℕ)
-first_doubled [] = None
-first_doubled (name ∷ rest) =
-    if list_any (bytes_eq name) rest then Some name else first_doubled rest
+-- how often a name stands in the list
+abbrev pub count_of : (vms : List (List ℕ)) (name : List ℕ) → ℕ
+count_of vms name = count_by (λ vm. bytes_eq vm name) vms
+
+-- A name stands twice or more. The first such name of a list is the first that stands again later.
+abbrev pub is_doubled : (vms : List (List ℕ)) (name : List ℕ) → Bool
+is_doubled vms name = nat_lt 1 (count_of vms name)
 
 -- what is known of the machine of this name
 abbrev pub fact_of : (known : List VmFact) (name : List ℕ) → Option VmFact
@@ -40,7 +42,7 @@ or_else (Some first) next = Some first
 
 -- why the listed machines, one or more, may not go into a plan together
 abbrev pub list_refusal : (vms : List (List ℕ)) (known : List VmFact) → Option PlanRefused
-list_refusal vms known = or_else (option_map Doubled (first_doubled vms))
+list_refusal vms known = or_else (option_map Doubled (find (is_doubled vms) vms))
     (or_else (option_map UnknownVm (find (is_unknown known) vms))
     (or_else (option_map InPlan (find (is_in_plan known) vms))
     (option_map NoTracking (find (is_untracked known) vms))))

@@ -3,9 +3,10 @@
 #![tactic(auto)]
 
 mod book;
-
+mod calendar;
 mod moment;
 mod plan;
+mod reading;
 #[cfg(test)]
 mod tests;
 mod validation;

@@ -1,14 +1,11 @@
 //! A moment in whole seconds, and the one spelling of it that is read.
 ghost use Rattle.std.specs.Prelude.{◌≡◌, IfOk, Some};
 ghost use Rattle.basics.specs.Refusal.{IsRefusedOr};
-ghost use Rattle.plan_model.specs.Moments.{moment_of, moment_refusal, moment_refusal_number, has_shape, fits};
+ghost use Rattle.plan_model.specs.Moments.{moment_of, moment_refusal, moment_refusal_number};
 
-use jiff::Timestamp;
+use crate::reading::{has_shape, is_told, read, seconds_before};
 use std::error::Error;
 use std::fmt;
-
-/// What a text of a moment looks like: a digit where this has a 0, and elsewhere this very byte.
-const SHAPE: &[u8] = b"0000-00-00T00:00:00Z";
 
 /// A moment, in seconds since 1970-01-01T00:00:00Z. A day has 86,400 of them, as in POSIX.
 #[derive(Clone, Copy, Debug, PartialEq, Eq, PartialOrd, Ord)]
@@ -22,13 +19,15 @@ impl Moment {
         ensures refused { IsRefusedOr (moment_refusal text.now) MomentRefused.NoMemory result }
         ensures told { IfOk result (λ moment. moment_of text.now ≡ Some moment) }
     {
-        if !has_shape(text.as_bytes()) {
+        let text = text.as_bytes();
+        if !has_shape(text) {
             return Err(MomentRefused::Form);
         }
-        match text.parse::<Timestamp>() {
-            Ok(instant) => Ok(Moment(instant.as_second() as u64)),
-            Err(_) => Err(MomentRefused::Form),
+        let reading = read(text);
+        if !is_told(reading) {
+            return Err(MomentRefused::Form);
         }
+        Ok(Moment(seconds_before(reading)))
     }
 }
 
@@ -63,20 +62,3 @@ impl fmt::Display for MomentRefused {
 }
 
 impl Error for MomentRefused {}
-
-// Whether a text has the length, the digits and the marks of a moment.
-fn has_shape(text: &[u8]) -> bool
-    ensures { result ≡ has_shape text.now }
-{
-    text.len() == 20 && SHAPE.iter().zip(text).all(|(place, byte)| fits(*place, *byte))
-}
-
-fn fits(place: u8, byte: u8) -> bool
-    ensures { result ≡ fits place byte }
-{
-    if place == b'0' {
-        byte.is_ascii_digit()
-    } else {
-        byte == place
-    }
-}
