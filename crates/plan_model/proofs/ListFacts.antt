@@ -7,6 +7,7 @@ use Rattle.std.proofs.lemmas.Slice.Eq.{bytes_eq-Decides}
 use Rattle.std.proofs.lemmas.List.Sums.{count_by_more_yes, count_by_more_no}
 use Rattle.std.proofs.lemmas.List.{take_more}
 use Rattle.std.proofs.lemmas.List.Folds.{find-append}
+use Rattle.basics.specs.declared.number_list.NumberList.{NumberList}
 use Rattle.plan_model.specs.declared.plan.VmFact.{VmFact}
 use Rattle.plan_model.specs.declared.book.Standing.{Standing}
 use Rattle.std.specs.Option.{option_map_or}
@@ -130,14 +131,14 @@ find_untracked g known vms h =
     find_same (λ name. is_not_tracked (g name)) (is_untracked known) vms (λ x. ap (λ (o : Option Standing). is_not_tracked o) (h x) ∙ untracked_is (fact_of known x))
 
 -- what a list of names is refused for, from what was found
-pub refused_unknown : {A : Type 0} (vms : List (List ℕ)) (known : List VmFact) (vm copy : List ℕ) → find (is_doubled vms) vms ≡ None → find (is_unknown known) vms ≡ Some vm → copy ≡ vm → IsPlanRefusedBy {A = A} (list_refusal vms known) (Err (UnknownVm copy))
+pub refused_unknown : (vms : List (List ℕ)) (known : List VmFact) (vm copy : List ℕ) → find (is_doubled vms) vms ≡ None → find (is_unknown known) vms ≡ Some vm → copy ≡ vm → IsPlanRefusedBy {A = NumberList} (list_refusal vms known) (Err (UnknownVm copy))
 refused_unknown vms known vm copy d u same = rw (d, u) (inl (ap UnknownVm same))
 
-pub refused_planned : {A : Type 0} (vms : List (List ℕ)) (known : List VmFact) (vm copy : List ℕ) → find (is_doubled vms) vms ≡ None → find (is_unknown known) vms ≡ None → find (is_in_plan known) vms ≡ Some vm → copy ≡ vm → IsPlanRefusedBy {A = A} (list_refusal vms known) (Err (InPlan copy))
+pub refused_planned : (vms : List (List ℕ)) (known : List VmFact) (vm copy : List ℕ) → find (is_doubled vms) vms ≡ None → find (is_unknown known) vms ≡ None → find (is_in_plan known) vms ≡ Some vm → copy ≡ vm → IsPlanRefusedBy {A = NumberList} (list_refusal vms known) (Err (InPlan copy))
 refused_planned vms known vm copy d u p same = rw (d, u, p) (inl (ap InPlan same))
 
-pub refused_untracked : {A : Type 0} (vms : List (List ℕ)) (known : List VmFact) (vm copy : List ℕ) → find (is_doubled vms) vms ≡ None → find (is_unknown known) vms ≡ None → find (is_in_plan known) vms ≡ None → find (is_untracked known) vms ≡ Some vm → copy ≡ vm → IsPlanRefusedBy {A = A} (list_refusal vms known) (Err (NoTracking copy))
+pub refused_untracked : (vms : List (List ℕ)) (known : List VmFact) (vm copy : List ℕ) → find (is_doubled vms) vms ≡ None → find (is_unknown known) vms ≡ None → find (is_in_plan known) vms ≡ None → find (is_untracked known) vms ≡ Some vm → copy ≡ vm → IsPlanRefusedBy {A = NumberList} (list_refusal vms known) (Err (NoTracking copy))
 refused_untracked vms known vm copy d u p t same = rw (d, u, p, t) (inl (ap NoTracking same))
 
-pub accepted_list : {A : Type 0} (vms : List (List ℕ)) (known : List VmFact) (value : A) → find (is_doubled vms) vms ≡ None → find (is_unknown known) vms ≡ None → find (is_in_plan known) vms ≡ None → find (is_untracked known) vms ≡ None → IsPlanRefusedBy {A = A} (list_refusal vms known) (Ok value)
+pub accepted_list : (vms : List (List ℕ)) (known : List VmFact) (value : NumberList) → find (is_doubled vms) vms ≡ None → find (is_unknown known) vms ≡ None → find (is_in_plan known) vms ≡ None → find (is_untracked known) vms ≡ None → IsPlanRefusedBy {A = NumberList} (list_refusal vms known) (Ok value)
 accepted_list vms known value d u p t = rw (d, u, p, t) tt

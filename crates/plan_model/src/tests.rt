@@ -1,8 +1,9 @@
 //! Moments in one table, and the public calls once.
-ghost use Rattle.std.specs.Prelude.{◌≡◌, Some, None, codes};
-ghost use Rattle.plan_model.specs.Moments.{moment_of};
+ghost use Rattle.std.specs.Prelude.{◌≤◌, length};
 
 use crate::{Cutover, Moment, MomentRefused, Name, Plan, PlanRefused, VmFact, Way, due, validate};
+use basics::{NoMemory, is_name};
+use std::alloc::Global;
 use std::test::Fail;
 
 #[test]
@@ -54,4 +55,48 @@ fn what_is_due_at_its_second(rt: HostRuntime) -> Result<(), Fail> {
     assert_eq!(rt; due(Moment(0), Moment(0), 10, Some(Cutover { at: None })), Way::Cutover);
     assert_eq!(rt; due(Moment(u64::MAX), Moment(u64::MAX), 1, None), Way::Nothing);
     Ok(())
+}
+
+fn machine(alloc: Global, name: &str, number: u32, in_plan: bool) -> Result<VmFact, NoMemory>
+    requires some { 1 ≤ length name.now }
+    requires few { length name.now ≤ 32 }
+{
+    let name = Name::of(alloc, name)?;
+    Ok(VmFact {
+        name,
+        number,
+        in_plan,
+        tracking: number != 7,
+    })
+}
+
+#[test]
+fn a_plan_tells_its_first_fault(rt: HostRuntime) -> Result<(), Fail> {
+    let alloc = rt.alloc();
+    let mut known = Vec::new(alloc);
+    known.push(machine(alloc, "a", 3, false).ok().ok_or("memory")?).ok().ok_or("memory")?;
+    known.push(machine(alloc, "b", 5, true).ok().ok_or("memory")?).ok().ok_or("memory")?;
+    known.push(machine(alloc, "c", 7, true).ok().ok_or("memory")?).ok().ok_or("memory")?;
+    let mut vms = Vec::new(alloc);
+    vms.push(Name::of(alloc, "a").ok().ok_or("memory")?).ok().ok_or("memory")?;
+    let plan = plan_of(alloc, &vms, &known).ok().ok_or("refused")?;
+    assert_eq!(rt; plan.number, 1);
+    assert_eq!(rt; plan.interval, 10);
+    assert_eq!(rt; plan.vms.as_slice(), [3].as_slice());
+    vms.push(Name::of(alloc, "c").ok().ok_or("memory")?).ok().ok_or("memory")?;
+    let refused = plan_of(alloc, &vms, &known).err().ok_or("accepted")?;
+    assert_eq!(rt; refused.number(), Some(3));
+    vms.push(Name::of(alloc, "d").ok().ok_or("memory")?).ok().ok_or("memory")?;
+    let refused = plan_of(alloc, &vms, &known).err().ok_or("accepted")?;
+    let text = format!(in alloc; "{refused}")?;
+    assert_eq!(rt; text.as_str(), "there is no machine d");
+    Ok(())
+}
+
+fn plan_of(alloc: Global, vms: &[Name], known: &[VmFact]) -> Result<Plan, PlanRefused> {
+    let name = Name::of(alloc, "plan")?;
+    if !is_name(name.as_str().as_bytes()) {
+        return Err(PlanRefused::Empty);
+    }
+    validate(alloc, name.as_str(), vms, known, &[], 10)
 }
