@@ -1,0 +1,5 @@
+pub mod Calendar
+pub mod Moments
+pub mod Way
+pub mod Plans
+pub mod Book

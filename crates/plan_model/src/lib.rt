@@ -1,0 +1,19 @@
+//! Plans of machines that migrate together, the moments at which something is to be done, and what
+//! is due at one.
+#![tactic(auto)]
+
+mod book;
+mod calendar;
+mod moment;
+mod plan;
+mod reading;
+#[cfg(test)]
+mod tests;
+mod validation;
+mod way;
+
+pub use basics::{Name, NumberList};
+pub use way::{Cutover, SECONDS_PER_MINUTE, Way, due};
+pub use moment::{Moment, MomentRefused};
+pub use plan::{MAX_INTERVAL, Plan, PlanRefused, VmFact};
+pub use validation::validate;

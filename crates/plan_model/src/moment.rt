@@ -1,0 +1,64 @@
+//! A moment in whole seconds, and the one spelling of it that is read.
+ghost use Rattle.std.specs.Prelude.{◌≡◌, IfOk, Some};
+ghost use Rattle.basics.specs.Refusal.{IsRefusedOr};
+ghost use Rattle.plan_model.specs.Moments.{moment_of, moment_refusal, moment_refusal_number};
+
+use crate::reading::{has_shape, is_told, read, seconds_before};
+use std::error::Error;
+use std::fmt;
+
+/// A moment, in seconds since 1970-01-01T00:00:00Z. A day has 86,400 of them, as in POSIX.
+#[derive(Clone, Copy, Debug, PartialEq, Eq, PartialOrd, Ord)]
+pub struct Moment(pub u64);
+
+impl Moment {
+    /// The moment that a text tells: `YYYY-MM-DDThh:mm:ssZ`, a date of the years 2000 to 2999 and
+    /// a time of day in UTC, as in RFC 3339. Every other text is [`MomentRefused::Form`]: another
+    /// spelling that RFC 3339 has, a date that the calendar lacks, `24:00:00`, a leap second.
+    pub fn parse(text: &str) -> Result<Moment, MomentRefused>
+        ensures refused { IsRefusedOr (moment_refusal text.now) MomentRefused.NoMemory result }
+        ensures told { IfOk result (λ moment. moment_of text.now ≡ Some moment) }
+    {
+        let text = text.as_bytes();
+        if !has_shape(text) {
+            return Err(MomentRefused::Form);
+        }
+        let reading = read(text);
+        if !is_told(reading) {
+            return Err(MomentRefused::Form);
+        }
+        Ok(Moment(seconds_before(reading)))
+    }
+}
+
+/// Why a text isn't read as a moment.
+#[derive(Clone, Copy, Debug, PartialEq, Eq)]
+pub enum MomentRefused {
+    /// The text isn't the spelling of a moment.
+    Form,
+    /// Memory ran out.
+    NoMemory,
+}
+
+impl MomentRefused {
+    /// The number of the refusal, 1. Want of memory has none.
+    pub fn number(&self) -> Option<u8>
+        ensures { result ≡ moment_refusal_number self.now }
+    {
+        match self {
+            MomentRefused::Form => Some(1),
+            MomentRefused::NoMemory => None,
+        }
+    }
+}
+
+impl fmt::Display for MomentRefused {
+    fn fmt<W: fmt::Write>(&self, f: &mut fmt::Formatter<W>) -> fmt::Result {
+        match self {
+            MomentRefused::Form => write!(f, "a moment is written YYYY-MM-DDThh:mm:ssZ"),
+            MomentRefused::NoMemory => write!(f, "memory ran out"),
+        }
+    }
+}
+
+impl Error for MomentRefused {}

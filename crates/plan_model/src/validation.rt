@@ -1,0 +1,75 @@
+//! Whether machines may be put into a plan of a name, and the plan that this makes.
+ghost use Rattle.std.specs.Prelude.{◌≡◌, ◌<◌, ◌≤◌, IfOk, length, map};
+ghost use Rattle.basics.specs.Spelled.{IsName};
+ghost use Rattle.plan_model.specs.Plans.{is_taken, list_refusal, number_of, plan_refusal, next_plan, IsPlanRefusedBy};
+
+use crate::book::{book_of, first_doubled, first_in_plan, first_unknown, first_untracked};
+use crate::book::{marks_of, numbers_of};
+use crate::{MAX_INTERVAL, Name, NumberList, Plan, PlanRefused, VmFact};
+use std::alloc::Global;
+
+/// The plan of the machines `vms` under `name`, with `interval` minutes between copies, 1 to
+/// [`MAX_INTERVAL`], where `known` is what is known of machines and `plans` are those so far.
+/// It takes the number after them. The reasons to refuse are tested in this order, and each tells
+/// the first name of the list to which it applies: [`PlanRefused::NameTaken`],
+/// [`PlanRefused::Empty`], [`PlanRefused::Doubled`] for a name that stands again later,
+/// [`PlanRefused::UnknownVm`], [`PlanRefused::InPlan`], [`PlanRefused::NoTracking`].
+pub fn validate(
+    alloc: Global,
+    name: &str,
+    vms: &[Name],
+    known: &[VmFact],
+    plans: &[Plan],
+    interval: u32,
+) -> Result<Plan, PlanRefused>
+    requires named { IsName name.now }
+    requires room { length plans.now < u32.MAX }
+    requires some { 1 ≤ interval }
+    requires week { interval ≤ MAX_INTERVAL }
+    ensures refused { IsPlanRefusedBy (plan_refusal name.now vms.now known.now plans.now) result }
+    ensures made { IfOk result
+        (λ plan. plan ≡ next_plan name.now vms.now known.now plans.now interval) }
+{
+    if is_taken(name, plans) {
+        return Err(PlanRefused::NameTaken);
+    }
+    if vms.is_empty() {
+        return Err(PlanRefused::Empty);
+    }
+    let vms = listed(alloc, vms, known)?;
+    let name = Name::of(alloc, name)?;
+    Ok(Plan {
+        number: plans.len() as u32 + 1,
+        name,
+        interval,
+        vms,
+    })
+}
+
+fn is_taken(name: &str, plans: &[Plan]) -> bool
+    ensures { result ≡ is_taken name.now plans.now }
+{
+    plans.iter().any(|plan| plan.name.as_str() == name)
+}
+
+// The numbers of the listed machines, if they may go into a plan together.
+fn listed(alloc: Global, vms: &[Name], known: &[VmFact]) -> Result<NumberList, PlanRefused>
+    ensures refused { IsPlanRefusedBy (list_refusal vms.now known.now) result }
+    ensures numbers { IfOk result (λ numbers. numbers ≡ map (number_of known.now) vms.now) }
+{
+    let marks = marks_of(alloc, vms)?;
+    if let Some(vm) = first_doubled(&marks, vms) {
+        return Err(PlanRefused::Doubled(vm.clone()?));
+    }
+    let book = book_of(alloc, known)?;
+    if let Some(vm) = first_unknown(&book, vms) {
+        return Err(PlanRefused::UnknownVm(vm.clone()?));
+    }
+    if let Some(vm) = first_in_plan(&book, vms) {
+        return Err(PlanRefused::InPlan(vm.clone()?));
+    }
+    if let Some(vm) = first_untracked(&book, vms) {
+        return Err(PlanRefused::NoTracking(vm.clone()?));
+    }
+    Ok(numbers_of(alloc, &book, vms)?)
+}
