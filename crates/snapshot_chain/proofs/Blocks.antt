@@ -4,6 +4,7 @@ use Rattle.std.specs.List.{list_any, range_with_len, All, AllByRecursion}
 use Rattle.std.specs.BTreeMap.{is_at}
 use Rattle.std.specs.Map.{keys_of}
 use Rattle.std.specs.Map.Iter.{deref_pair}
+use Rattle.std.proofs.Math.Bool.{or-false}
 use Rattle.std.proofs.lemmas.Bool.{cases_eq, eq-eqb, ne_eqb, eqb-true, false≢true}
 use Rattle.std.proofs.lemmas.List.Folds.{list_any-append}
 use Rattle.std.proofs.lemmas.Map.Lookups.{exact_unsigned}
@@ -27,10 +28,6 @@ Entry = Bor ℕ × Bor PageState
 abbrev pub among : LayerState → List Entry → ℕ → Bool
 among layer seen b = list_any (λ e. nat_eq b e.0.now && has_sector layer b) seen
 
-or_false : (x : Bool) → (x || false) ≡ x
-or_false true = refl
-or_false false = refl
-
 and_false : (x : Bool) → (x && false) ≡ false
 and_false true = refl
 and_false false = refl
@@ -38,8 +35,8 @@ and_false false = refl
 pub block_passed : (layer : LayerState) (now was : Bool) (seen : List Entry) (e : Entry) (b : ℕ) → has_sector layer e.0.now ≡ false → now ≡ (was || among layer seen b)
     → now ≡ (was || among layer (seen ++ e ∷ []) b)
 block_passed layer now was seen e b none before =
-    before ∙ ap (λ x. was || x) (sym (list_any-append (λ x. nat_eq b x.0.now && has_sector layer b) seen (e ∷ []) ∙ ap (λ x. among layer seen b || x) (or_false (nat_eq b e.0.now && has_sector layer b) ∙ gone)
-    ∙ or_false (among layer seen b)))
+    before ∙ ap (λ x. was || x) (sym (list_any-append (λ x. nat_eq b x.0.now && has_sector layer b) seen (e ∷ []) ∙ ap (λ x. among layer seen b || x) (or-false (nat_eq b e.0.now && has_sector layer b) ∙ gone)
+    ∙ or-false (among layer seen b)))
   where
     gone : (nat_eq b e.0.now && has_sector layer b) ≡ false
     gone = elim (cases_eq b e.0.now) [
@@ -60,7 +57,7 @@ pub block_added : (layer : LayerState) (now was new : Bool) (seen : List Entry) 
     → new ≡ cond (is_at (nat_cmp e.0.now) b) true now → new ≡ (was || among layer (seen ++ e ∷ []) b)
 block_added layer now was new seen e b some before put =
     put ∙ ap (λ x. cond x true now) (at_is e.0.now b) ∙ by (cases_eq e.0.now b)
-    ∙ sym (ap (λ x. was || x) (list_any-append (λ x. nat_eq b x.0.now && has_sector layer b) seen (e ∷ []) ∙ ap (λ x. among layer seen b || x) (or_false (nat_eq b e.0.now && has_sector layer b))))
+    ∙ sym (ap (λ x. was || x) (list_any-append (λ x. nat_eq b x.0.now && has_sector layer b) seen (e ∷ []) ∙ ap (λ x. among layer seen b || x) (or-false (nat_eq b e.0.now && has_sector layer b))))
   where
     late : (x y : Bool) → (x || (y || true)) ≡ true
     late true y = refl
@@ -73,7 +70,7 @@ block_added layer now was new seen e b some before put =
         ∙ sym (ap (λ x. was || (among layer seen b || (x && has_sector layer b))) (eq-eqb b e.0.now (sym same)) ∙ ap (λ x. was || (among layer seen b || x)) (ap (has_sector layer) (sym same) ∙ some) ∙ late was (among layer seen b))
     by (inr other) =
         ap (λ x. cond x true now) (ne_eqb e.0.now b other) ∙ before
-        ∙ sym (ap (λ x. was || (among layer seen b || (x && has_sector layer b))) (ne_eqb b e.0.now (λ q. other (sym q))) ∙ ap (λ x. was || x) (or_false (among layer seen b)))
+        ∙ sym (ap (λ x. was || (among layer seen b || (x && has_sector layer b))) (ne_eqb b e.0.now (λ q. other (sym q))) ∙ ap (λ x. was || x) (or-false (among layer seen b)))
 
 both : (h : Bool) (seen : List Entry) (b : ℕ) → list_any (λ e. nat_eq b e.0.now && h) seen ≡ (list_any (λ p. nat_eq b p.0) (map deref_pair seen) && h)
 both h [] b = refl
@@ -121,7 +118,7 @@ has_push layers layer b =
     (λ k. ap is_some (found-append layers (layer ∷ []) b k) ∙ either (sector_in layer b k) (found layers b k))
   where
     either : (x y : Option Sector) → is_some (option_or x y) ≡ (is_some y || is_some x)
-    either None y = sym (or_false (is_some y))
+    either None y = sym (or-false (is_some y))
     either (Some x) None = refl
     either (Some x) (Some y) = refl
 

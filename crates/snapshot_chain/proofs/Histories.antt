@@ -2,6 +2,7 @@
 use Rattle.std.proofs.Common.{◌≡◌, ◌≢◌, ℕ, zero, suc, ◌+◌, ◌<◌, ◌≤◌, List, [], ◌∷◌, ◌++◌, length, take, Bool, true, false, Option, Some, None, is_some, IfSome, ◌↔◌, sym, ap, subst, refl, ◌∙◌, arith, inl, inr, ◌⊎◌, cond, eqb, nat_eq, ◌==◌, not, ◌||◌, ◌&&◌}
 use Rattle.std.specs.Option.{option_or}
 use Rattle.std.specs.List.{fold, list_any, range_with_len, filter, filter_map, find, position_or_len}
+use Rattle.std.proofs.Math.Bool.{or-false}
 use Rattle.std.proofs.lemmas.Bool.{eq-eqb, eqb-true, cases_eq, ne_eqb, false≢true, false_from_ne_true}
 use Rattle.std.proofs.lemmas.List.{take-append-le, append-nil}
 use Rattle.std.proofs.lemmas.List.Sums.{fold-append}
@@ -98,12 +99,8 @@ free_stays chain history step stands none id = (
   (λ all. (stands.free id).1 (λ s is. all s (same s ∙ is))),
 )
   where
-    or_false : (a : Bool) → (a || false) ≡ a
-    or_false true = refl
-    or_false false = refl
-
     same : (s : ℕ) → list_any (freezes s) (history ++ step ∷ []) ≡ list_any (freezes s) history
-    same s = list_any-append (freezes s) history (step ∷ []) ∙ ap (λ x. list_any (freezes s) history || (x || false)) (none s) ∙ or_false (list_any (freezes s) history)
+    same s = list_any-append (freezes s) history (step ∷ []) ∙ ap (λ x. list_any (freezes s) history || (x || false)) (none s) ∙ or-false (list_any (freezes s) history)
 
 -- ---- a write
 

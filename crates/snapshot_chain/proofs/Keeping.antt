@@ -8,7 +8,7 @@ use Rattle.snapshot_chain.specs.declared.chain.ChainRefused.{ChainRefused}
 use Rattle.snapshot_chain.specs.declared.chain.ChainRefused.TheVariants.{UnknownSnap, Range, NoMemory}
 use Rattle.snapshot_chain.specs.Chain.{ChainState, IsKeptAfter}
 use Rattle.snapshot_chain.specs.Kept.{AreIds}
-use Rattle.snapshot_chain.proofs.Stacks.{or_left, or_right}
+use Rattle.std.proofs.lemmas.Bool.{or_parts}
 
 either : (a b : Bool) → a ≡ false → b ≡ false → (a || b) ≡ false
 either a b ea eb = rw (ea, eb) refl
@@ -24,8 +24,8 @@ ids-push free id (j ∷ ids) le are = (
 remove-none : (p : ℕ → Bool) (ids : List ℕ) (i : ℕ) → list_any p ids ≡ false → list_any p (remove ids i) ≡ false
 remove-none p [] zero none = refl
 remove-none p [] (suc i) none = refl
-remove-none p (j ∷ ids) zero none = or_right (p j) (list_any p ids) none
-remove-none p (j ∷ ids) (suc i) none = either (p j) (list_any p (remove ids i)) (or_left (p j) (list_any p ids) none) (remove-none p ids i (or_right (p j) (list_any p ids) none))
+remove-none p (j ∷ ids) zero none = (or_parts (p j) (list_any p ids) none).1
+remove-none p (j ∷ ids) (suc i) none = either (p j) (list_any p (remove ids i)) ((or_parts (p j) (list_any p ids) none).0) (remove-none p ids i ((or_parts (p j) (list_any p ids) none).1))
 
 pub ids-remove : (free : ℕ) (ids : List ℕ) (i : ℕ) → AreIds free ids → AreIds free (remove ids i)
 ids-remove free [] zero are = tt

@@ -1,7 +1,7 @@
 -- What lists of layers hold when one of them changes.
 use Rattle.std.proofs.Common.{◌≡◌, ◌≢◌, ℕ, zero, suc, ◌+◌, ◌-◌, ◌*◌, ◌/◌, ◌%◌, ◌<◌, ◌≤◌, List, [], ◌∷◌, ◌++◌, length, take, drop, set, get_or, map, Bool, true, false, Option, Some, None, is_some, sym, ap, subst, refl, ◌∙◌, arith, inl, inr, ◌⊎◌, append_assoc, cond, eqb, nat_eq, ◌==◌, not, ◌||◌}
 use Rattle.std.specs.Option.{option_or, unwrap_or, option_map}
-use Rattle.std.proofs.lemmas.Bool.{eq-eqb, eqb-true, cases_eq}
+use Rattle.std.proofs.lemmas.Bool.{eq-eqb, eqb-true, cases_eq, or_parts}
 use Rattle.std.proofs.lemmas.Bool.Decides.{nat_tests}
 use Rattle.snapshot_chain.specs.Kept.{AreIds}
 use Rattle.std.specs.List.{list_any, range_with_len, filter, remove, position, find, slice_get}
@@ -89,21 +89,13 @@ snapshots-push c below (i ∷ ids) (l ∷ layers) id layer long =
 two : {x y : Snapshot} {xs ys : List Snapshot} → x ≡ y → xs ≡ ys → x ∷ xs ≡ y ∷ ys
 two e h = cc
 
-pub or_left : (a b : Bool) → (a || b) ≡ false → a ≡ false
-or_left true b h = h
-or_left false b h = refl
-
-pub or_right : (a b : Bool) → (a || b) ≡ false → b ≡ false
-or_right true b h = absurd (cc)
-or_right false b h = h
-
 eqb_sym : (a b : ℕ) → eqb a b ≡ eqb b a
 eqb_sym a b = grind (arith, nat_tests)
 
 not_among : (j id : ℕ) (ids : List ℕ) (i : ℕ) → list_any (nat_eq j) ids ≡ false → slice_get ids i ≡ Some id → eqb j id ≡ false
 not_among j id [] i apart at = absurd (cc)
-not_among j id (k ∷ ids) zero apart at = let same : k ≡ id = cc in rw (← same) (or_left (nat_eq j k) (list_any (nat_eq j) ids) apart)
-not_among j id (k ∷ ids) (suc i) apart at = not_among j id ids i (or_right (nat_eq j k) (list_any (nat_eq j) ids) apart) at
+not_among j id (k ∷ ids) zero apart at = let same : k ≡ id = cc in rw (← same) ((or_parts (nat_eq j k) (list_any (nat_eq j) ids) apart).0)
+not_among j id (k ∷ ids) (suc i) apart at = not_among j id ids i ((or_parts (nat_eq j k) (list_any (nat_eq j) ids) apart).1) at
 
 -- over the layer below, another upper layer has the same
 raised_pair : (below : List LayerState) (lower old new : LayerState) → HasSameOver lower old new → HoldsSame ((below ++ lower ∷ []) ++ old ∷ []) ((below ++ lower ∷ []) ++ new ∷ [])
@@ -166,7 +158,7 @@ filter-apart : (c id : ℕ) (below : List LayerState) (ids : List ℕ) (layers :
 filter-apart c id below [] layers apart = refl
 filter-apart c id below (j ∷ ids) [] apart = refl
 filter-apart c id below (j ∷ ids) (l ∷ layers) apart =
-    rw (eqb_sym j id, or_left (nat_eq id j) (list_any (nat_eq id) ids) apart, filter-apart c id (below ++ l ∷ []) ids layers (or_right (nat_eq id j) (list_any (nat_eq id) ids) apart)) refl
+    rw (eqb_sym j id, (or_parts (nat_eq id j) (list_any (nat_eq id) ids) apart).0, filter-apart c id (below ++ l ∷ []) ids layers ((or_parts (nat_eq id j) (list_any (nat_eq id) ids) apart).1)) refl
 
 head_merged : (c id : ℕ) (below : List LayerState) (ids : List ℕ) (lower up : LayerState) (rest : List LayerState) (new : LayerState) → list_any (nat_eq id) ids ≡ false → IsMerged lower up new
     → snapshots_in c below ids (new ∷ rest) ≡ filter (λ s. not (s.id == id)) (snapshots_in c (below ++ lower ∷ []) ids (up ∷ rest))

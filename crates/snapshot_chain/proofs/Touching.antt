@@ -2,6 +2,7 @@
 use Rattle.std.proofs.Common.{◌≡◌, ℕ, zero, suc, ◌+◌, ◌-◌, ◌*◌, ◌/◌, ◌<◌, ◌≤◌, min, max, List, [], ◌∷◌, ◌++◌, length, Bool, true, false, Option, Some, None, is_some, sym, ap, refl, ◌∙◌, arith, cond, eqb, ltb, leb, nat_eq, ◌||◌, ◌&&◌, inl, inr}
 use Rattle.std.specs.Option.{option_or}
 use Rattle.std.specs.List.{list_any, range_with_len, filter, slice_get}
+use Rattle.std.proofs.Math.Bool.{or-false}
 use Rattle.std.proofs.lemmas.Bool.{eqb-true, cases_lt, lt-ltb, le-ltb, le-leb, lt-leb}
 use Rattle.std.proofs.lemmas.Bool.Decides.{nat_tests}
 use Rattle.std.proofs.lemmas.Option.{slice_get_past, slice_get-get_or}
@@ -28,14 +29,10 @@ among p b n less =
     and_true true = refl
     and_true false = refl
 
-or_false : (x : Bool) → (x || false) ≡ x
-or_false true = refl
-or_false false = refl
-
 pub touched_push : (c : ℕ) (ws : List Write) (w : Write) → with_touched c w (touched_blocks c ws) ≡ touched_blocks c (ws ++ w ∷ [])
 touched_push c ws w = filter-within (λ b. list_any (nat_eq b) (touched_blocks c ws) || touches b w) (λ b. list_any (touches b) (ws ++ w ∷ [])) 0 (block_count c)
     (λ b from less. ap (λ x. x || touches b w) (among (λ k. list_any (touches k) ws) b (block_count c) (omega (arith, less)))
-    ∙ sym (list_any-append (touches b) ws (w ∷ []) ∙ ap (λ x. list_any (touches b) ws || x) (or_false (touches b w))))
+    ∙ sym (list_any-append (touches b) ws (w ∷ []) ∙ ap (λ x. list_any (touches b) ws || x) (or-false (touches b w))))
 
 -- a run has a sector of a block exactly if the two ranges meet
 some_at : (first : ℕ) (xs : List Sector) (s : ℕ) → is_some (run_at first xs s) ≡ (leb first s && ltb s (first + length xs))
@@ -80,7 +77,7 @@ has_more first xs block old =
     ∙ ap (λ x. list_any (λ p. is_some (old p)) (range_with_len 0 128) || x) (meets first (first + length xs) (128 * block) 0 128 ∙ ends)
   where
     either : (a b : Option Sector) → is_some (option_or a b) ≡ (is_some b || is_some a)
-    either None b = sym (or_false (is_some b))
+    either None b = sym (or-false (is_some b))
     either (Some x) None = refl
     either (Some x) (Some y) = refl
 

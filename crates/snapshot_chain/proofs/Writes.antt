@@ -5,20 +5,10 @@ use Rattle.std.specs.List.{slice_get}
 use Rattle.std.proofs.lemmas.Bool.{cases_eq, cases_lt, le-leb, lt-leb, eq-eqb, false≢true}
 use Rattle.std.proofs.lemmas.Option.{slice_get_past}
 use Rattle.std.proofs.lemmas.List.{take_all}
+use Rattle.sector_model.proofs.ItemAt.{slice_get-take, slice_get-drop}
 use Rattle.sector_model.specs.declared.sector.Sector.{Sector}
 use Rattle.snapshot_chain.specs.Page128.{PageState, sector_at, run_at, IsRewritten}
 use Rattle.snapshot_chain.specs.Layer.{LayerState, page_of, sector_of, sector_in, HasSame, IsWritten, IsWithin}
-
-slice_get-take : {X : Type 0} (xs : List X) (n k : ℕ) → k < n → slice_get (take n xs) k ≡ slice_get xs k
-slice_get-take xs zero k less = absurd (omega arith)
-slice_get-take [] (suc n) k less = refl
-slice_get-take (x ∷ xs) (suc n) zero less = refl
-slice_get-take (x ∷ xs) (suc n) (suc k) less = slice_get-take xs n k (omega arith)
-
-slice_get-drop : {X : Type 0} (xs : List X) (n k : ℕ) → slice_get (drop n xs) k ≡ slice_get xs (n + k)
-slice_get-drop xs zero k = ap (slice_get xs) (let e : k ≡ 0 + k = omega arith in e)
-slice_get-drop [] (suc n) k = refl
-slice_get-drop (x ∷ xs) (suc n) k = slice_get-drop xs n k ∙ ap (slice_get (x ∷ xs)) (let e : suc (n + k) ≡ suc n + k = omega arith in e)
 
 pub run_before : (first : ℕ) (xs : List Sector) (s : ℕ) → s < first → run_at first xs s ≡ None
 run_before first xs s less = rw (lt-leb first s less) refl
