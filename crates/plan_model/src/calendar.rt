@@ -4,6 +4,7 @@ ghost use Rattle.plan_model.specs.Calendar.{is_leap_year, days_of_year, days_of_
 
 /// The first and the last year of a moment.
 pub(crate) const MIN_YEAR: u64 = 2000;
+
 pub(crate) const MAX_YEAR: u64 = 2999;
 
 /// Whether the calendar has this date.
