@@ -53,10 +53,7 @@ pub(crate) fn marks_of(alloc: Global, vms: &[Name]) -> Result<BTreeMap<Name, boo
 }
 
 /// The first name that is listed twice.
-pub(crate) fn first_doubled<'a>(
-    marks: &BTreeMap<Name, bool>,
-    vms: &'a [Name],
-) -> Option<&'a Name>
+pub(crate) fn first_doubled<'a>(marks: &BTreeMap<Name, bool>, vms: &'a [Name]) -> Option<&'a Name>
     ensures { option_copied result
         ≡ find (λ name. is_marked (get (slice_cmp nat_cmp) marks.now name)) vms.now }
 {

@@ -2,15 +2,19 @@
 ghost use Rattle.std.specs.Prelude.{◌≡◌, ◌≤◌, ◌*◌, IsTrue};
 ghost use Rattle.plan_model.specs.Calendar.{is_leap_year, days_of_year, days_of_month, days_of_years, days_of_months, days_before, is_date};
 
+use jiff::civil::Date;
+
 /// The first and the last year of a moment.
 pub(crate) const MIN_YEAR: u64 = 2000;
+
 pub(crate) const MAX_YEAR: u64 = 2999;
 
 /// Whether the calendar has this date.
 pub(crate) fn is_date(year: u64, month: u64, day: u64) -> bool
+    requires { year ≤ 2999 }
     ensures { result ≡ is_date year month day }
 {
-    1 <= month && month <= 12 && 1 <= day && day <= days_of_month(year, month)
+    month <= 12 && day <= 31 && Date::new(year as i16, month as i8, day as i8).is_ok()
 }
 
 /// The days from 1 January 1970 up to the date.

@@ -13,7 +13,7 @@ mod validation;
 mod way;
 
 pub use basics::{Name, NumberList};
-pub use way::{Cutover, SECONDS_PER_MINUTE, Way, due};
 pub use moment::{Moment, MomentRefused};
 pub use plan::{MAX_INTERVAL, Plan, PlanRefused, VmFact};
 pub use validation::validate;
+pub use way::{Cutover, SECONDS_PER_MINUTE, Way, due};

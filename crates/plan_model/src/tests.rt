@@ -47,13 +47,21 @@ fn moments_have_one_spelling(rt: HostRuntime) -> Result<(), Fail> {
 
 #[test]
 fn what_is_due_at_its_second(rt: HostRuntime) -> Result<(), Fail> {
-    let at = |seconds| Some(Cutover { at: Some(Moment(seconds)) });
+    let at = |seconds| Some(Cutover {
+        at: Some(Moment(seconds)),
+    });
     assert_eq!(rt; due(Moment(699), Moment(100), 10, None), Way::Nothing);
     assert_eq!(rt; due(Moment(700), Moment(100), 10, None), Way::Precopy);
     assert_eq!(rt; due(Moment(700), Moment(100), 10, at(700)), Way::Cutover);
     assert_eq!(rt; due(Moment(700), Moment(100), 10, at(701)), Way::Precopy);
-    assert_eq!(rt; due(Moment(0), Moment(0), 10, Some(Cutover { at: None })), Way::Cutover);
-    assert_eq!(rt; due(Moment(u64::MAX), Moment(u64::MAX), 1, None), Way::Nothing);
+    assert_eq!(rt;
+        due(Moment(0), Moment(0), 10, Some(Cutover { at: None })),
+        Way::Cutover
+    );
+    assert_eq!(rt;
+        due(Moment(u64::MAX), Moment(u64::MAX), 1, None),
+        Way::Nothing
+    );
     Ok(())
 }
 
@@ -74,19 +82,34 @@ fn machine(alloc: Global, name: &str, number: u32, in_plan: bool) -> Result<VmFa
 fn a_plan_tells_its_first_fault(rt: HostRuntime) -> Result<(), Fail> {
     let alloc = rt.alloc();
     let mut known = Vec::new(alloc);
-    known.push(machine(alloc, "a", 3, false).ok().ok_or("memory")?).ok().ok_or("memory")?;
-    known.push(machine(alloc, "b", 5, true).ok().ok_or("memory")?).ok().ok_or("memory")?;
-    known.push(machine(alloc, "c", 7, true).ok().ok_or("memory")?).ok().ok_or("memory")?;
+    known
+        .push(machine(alloc, "a", 3, false).ok().ok_or("memory")?)
+        .ok()
+        .ok_or("memory")?;
+    known
+        .push(machine(alloc, "b", 5, true).ok().ok_or("memory")?)
+        .ok()
+        .ok_or("memory")?;
+    known
+        .push(machine(alloc, "c", 7, true).ok().ok_or("memory")?)
+        .ok()
+        .ok_or("memory")?;
     let mut vms = Vec::new(alloc);
-    vms.push(Name::of(alloc, "a").ok().ok_or("memory")?).ok().ok_or("memory")?;
+    vms.push(Name::of(alloc, "a").ok().ok_or("memory")?)
+        .ok()
+        .ok_or("memory")?;
     let plan = plan_of(alloc, &vms, &known).ok().ok_or("refused")?;
     assert_eq!(rt; plan.number, 1);
     assert_eq!(rt; plan.interval, 10);
     assert_eq!(rt; plan.vms.as_slice(), [3].as_slice());
-    vms.push(Name::of(alloc, "c").ok().ok_or("memory")?).ok().ok_or("memory")?;
+    vms.push(Name::of(alloc, "c").ok().ok_or("memory")?)
+        .ok()
+        .ok_or("memory")?;
     let refused = plan_of(alloc, &vms, &known).err().ok_or("accepted")?;
     assert_eq!(rt; refused.number(), Some(3));
-    vms.push(Name::of(alloc, "d").ok().ok_or("memory")?).ok().ok_or("memory")?;
+    vms.push(Name::of(alloc, "d").ok().ok_or("memory")?)
+        .ok()
+        .ok_or("memory")?;
     let refused = plan_of(alloc, &vms, &known).err().ok_or("accepted")?;
     let text = format!(in alloc; "{refused}")?;
     assert_eq!(rt; text.as_str(), "there is no machine d");

@@ -3,8 +3,9 @@ ghost use Rattle.std.specs.Prelude.{◌≡◌, ◌<◌, ◌≤◌, IfOk, length,
 ghost use Rattle.basics.specs.Spelled.{IsName};
 ghost use Rattle.plan_model.specs.Plans.{is_taken, list_refusal, number_of, plan_refusal, next_plan, IsPlanRefusedBy};
 
-use crate::book::{book_of, first_doubled, first_in_plan, first_unknown, first_untracked};
-use crate::book::{marks_of, numbers_of};
+use crate::book::{
+    book_of, first_doubled, first_in_plan, first_unknown, first_untracked, marks_of, numbers_of,
+};
 use crate::{MAX_INTERVAL, Name, NumberList, Plan, PlanRefused, VmFact};
 use std::alloc::Global;
 
