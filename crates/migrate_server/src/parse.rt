@@ -195,7 +195,7 @@ fn has_only_move_members(value: &Value) -> bool
 fn are_move_members(members: &Map<String, Value>) -> bool
     ensures { result
         ≡ list_all (λ name. list_any (bytes_eq (string_bytes name)) move_members)
-            (keys members.now) }
+        (keys members.now) }
 {
     members.keys().all(|name| is_move_member(name.as_str()))
 }
