@@ -6,7 +6,6 @@ use Rattle.std.proofs.lemmas.Bool.Decides.{nat_tests}
 use Rattle.std.proofs.lemmas.Slice.Eq.{bytes_eq-Decides}
 use Rattle.std.proofs.lemmas.List.Sums.{count_by_more_yes, count_by_more_no}
 use Rattle.std.proofs.lemmas.List.{take_more}
-use Rattle.std.proofs.lemmas.List.Folds.{find-append}
 use Rattle.basics.specs.declared.number_list.NumberList.{NumberList}
 use Rattle.plan_model.specs.declared.plan.VmFact.{VmFact}
 use Rattle.plan_model.specs.declared.book.Standing.{Standing}

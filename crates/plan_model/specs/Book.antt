@@ -1,5 +1,5 @@
 -- What is kept of machines and of listed names while a plan is validated.
-use Rattle.std.specs.Prelude.{◌≡◌, ℕ, Bool, false, not, ◌==◌, nat_lt, List, Option, Some, None, option_map, is_some, if◌then◌else◌}
+use Rattle.std.specs.Prelude.{ℕ, Bool, false, not, ◌==◌, nat_lt, Option, Some, None, is_some, if◌then◌else◌}
 use Rattle.std.specs.Option.{option_map_or}
 use Rattle.plan_model.specs.declared.plan.VmFact.{VmFact}
 use Rattle.plan_model.specs.declared.book.Standing.{Standing}

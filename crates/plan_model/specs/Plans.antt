@@ -1,6 +1,6 @@
 -- When machines may be put into a plan of a name. Each reason looks at the whole list of names and
 -- tells the first, in the list's order, to which it applies.
-use Rattle.std.specs.Prelude.{◌≡◌, ℕ, ◌+◌, Bool, true, false, not, ◌==◌, ◌⊎◌, List, length, map, count_by, nat_lt, Option, Some, None, option_map, is_some, Result, Err, IfErr, IsErrAnd, if◌then◌else◌}
+use Rattle.std.specs.Prelude.{◌≡◌, ℕ, ◌+◌, Bool, true, false, not, ◌==◌, ◌⊎◌, List, length, map, count_by, nat_lt, Option, Some, None, option_map, is_some, Result, IfErr, IsErrAnd, if◌then◌else◌}
 use Rattle.std.specs.List.{list_any, find}
 use Rattle.std.specs.Option.{option_map_or}
 use Rattle.std.specs.Str.{bytes_eq}

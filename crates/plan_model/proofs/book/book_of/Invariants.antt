@@ -2,8 +2,8 @@ use Rattle.std.proofs.Common.{◌≡◌, ℕ, List, option_map, take}
 use Rattle.std.specs.BTreeMap.{get}
 use Rattle.std.specs.Cmp.Lexicographic.{slice_cmp}
 use Rattle.std.specs.Ordering.{nat_cmp}
-use Rattle.plan_model.specs.Plans.{fact_of, count_of}
-use Rattle.plan_model.specs.Book.{standing_of, mark_of}
+use Rattle.plan_model.specs.Plans.{fact_of}
+use Rattle.plan_model.specs.Book.{standing_of}
 use Rattle.plan_model.proofs.book.book_of.Given as goal
 
 abbrev pub invariant-loop-vm : goal.invariant-loop-vm

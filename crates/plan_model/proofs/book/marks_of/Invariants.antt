@@ -1,9 +1,9 @@
-use Rattle.std.proofs.Common.{◌≡◌, ℕ, List, option_map, take}
+use Rattle.std.proofs.Common.{◌≡◌, ℕ, List, take}
 use Rattle.std.specs.BTreeMap.{get}
 use Rattle.std.specs.Cmp.Lexicographic.{slice_cmp}
 use Rattle.std.specs.Ordering.{nat_cmp}
-use Rattle.plan_model.specs.Plans.{fact_of, count_of}
-use Rattle.plan_model.specs.Book.{standing_of, mark_of}
+use Rattle.plan_model.specs.Plans.{count_of}
+use Rattle.plan_model.specs.Book.{mark_of}
 use Rattle.plan_model.proofs.book.marks_of.Given as goal
 
 abbrev pub invariant-loop-name : goal.invariant-loop-name
