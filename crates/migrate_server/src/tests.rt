@@ -95,7 +95,6 @@ fn read_back(alloc: Global, mut store: MemVolumes) -> Result<[Sector; 256], Fail
     let mut volume = store.open(&name, 256)?;
     let mut sectors = [Sector::filled(1); 256];
     volume.read(0, &mut sectors)?;
-    store.keep_back(volume);
     Ok(sectors)
 }
 
@@ -326,7 +325,6 @@ fn moved(rt: &HostRuntime, writes: &[(u64, u64, u8)]) -> Result<[Sector; 3], Fai
     let mut volume = store.open(&name, 3)?;
     let mut sectors = [Sector::filled(1); 3];
     volume.read(0, &mut sectors)?;
-    store.keep_back(volume);
     Ok(sectors)
 }
 
