@@ -77,48 +77,32 @@ fn refused(alloc: Global, error: &str, carried: Carried) -> Result<Reply, Fail> 
 #[test]
 fn a_refusal_may_carry_nothing(rt: HostRuntime) -> Result<(), Fail> {
     let reply = refused(rt.alloc(), "name-taken", Carried::Nothing)?;
-    shows(
-        &rt,
-        rt.alloc(),
-        &reply,
-        r#"{"error":"name-taken","ok":false}"#,
-    )
+    let text = r#"{"error":"name-taken","ok":false}"#;
+    shows(&rt, rt.alloc(), &reply, text)
 }
 
 #[test]
 fn a_refusal_may_carry_a_name(rt: HostRuntime) -> Result<(), Fail> {
     let name = Text::of(rt.alloc(), "start")?;
     let reply = refused(rt.alloc(), "number", Carried::Name(name))?;
-    shows(
-        &rt,
-        rt.alloc(),
-        &reply,
-        r#"{"error":"number","name":"start","ok":false}"#,
-    )
+    let text = r#"{"error":"number","name":"start","ok":false}"#;
+    shows(&rt, rt.alloc(), &reply, text)
 }
 
 #[test]
 fn a_refusal_may_carry_a_machine(rt: HostRuntime) -> Result<(), Fail> {
     let vm = Text::of(rt.alloc(), "a")?;
     let reply = refused(rt.alloc(), "no-tracking", Carried::Vm(vm))?;
-    shows(
-        &rt,
-        rt.alloc(),
-        &reply,
-        r#"{"error":"no-tracking","ok":false,"vm":"a"}"#,
-    )
+    let text = r#"{"error":"no-tracking","ok":false,"vm":"a"}"#;
+    shows(&rt, rt.alloc(), &reply, text)
 }
 
 #[test]
 fn a_refusal_may_carry_a_cause(rt: HostRuntime) -> Result<(), Fail> {
     let cause = Text::of(rt.alloc(), "uuid")?;
     let reply = refused(rt.alloc(), "since", Carried::Cause(cause))?;
-    shows(
-        &rt,
-        rt.alloc(),
-        &reply,
-        r#"{"cause":"uuid","error":"since","ok":false}"#,
-    )
+    let text = r#"{"cause":"uuid","error":"since","ok":false}"#;
+    shows(&rt, rt.alloc(), &reply, text)
 }
 
 fn id(resets: u64, seq: u64) -> ChangeId {
@@ -138,12 +122,8 @@ fn a_refusal_may_carry_an_identifier(rt: HostRuntime) -> Result<(), Fail> {
 #[test]
 fn a_refusal_may_carry_no_identifier(rt: HostRuntime) -> Result<(), Fail> {
     let reply = refused(rt.alloc(), "strange", Carried::Id(None))?;
-    shows(
-        &rt,
-        rt.alloc(),
-        &reply,
-        r#"{"error":"strange","id":null,"ok":false}"#,
-    )
+    let text = r#"{"error":"strange","id":null,"ok":false}"#;
+    shows(&rt, rt.alloc(), &reply, text)
 }
 
 #[test]
@@ -265,12 +245,8 @@ fn fleet(alloc: Global) -> Result<Reply, Fail> {
 #[test]
 fn a_fleet_may_be_empty(rt: HostRuntime) -> Result<(), Fail> {
     let reply = inventory(Vec::new(rt.alloc()), Vec::new(rt.alloc()));
-    shows(
-        &rt,
-        rt.alloc(),
-        &reply,
-        r#"{"hosts":[],"ok":true,"vms":[]}"#,
-    )
+    let text = r#"{"hosts":[],"ok":true,"vms":[]}"#;
+    shows(&rt, rt.alloc(), &reply, text)
 }
 
 #[test]
