@@ -251,6 +251,7 @@ impl Chain {
             (λ contents. buf.new ≡ slice_range contents first (first + length buf.old))) }
         ensures err { OnErr result (buf.new ≡ buf.old) }
         ensures uncounted { OnErr result (steps.new ≡ steps.old) }
+        ensures counted { steps.old ≤ steps.new }
         ensures cost { steps.new ≤ steps.old + (length self.now.snapshots + 1) * blocks_met first (length buf.old) }
     {
         let Some(seen) = layers_seen(self.ids.as_slice(), id) else {

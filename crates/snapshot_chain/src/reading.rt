@@ -20,6 +20,7 @@ pub(crate) fn read_layers<L: Ledger>(
 )
     requires { first + length buf.old < 2 ^ 64 }
     ensures sectors { (k : ℕ) → k < length buf.old → slice_get buf.new k ≡ Some (sector_found layers.now (first + k)) }
+    ensures counted { steps.old ≤ steps.new }
     ensures cost { steps.new ≤ steps.old + length layers.now * blocks_met first (length buf.old) }
 {
     let end = first + buf.len() as u64;
@@ -43,6 +44,7 @@ fn read_block<L: Ledger>(
 )
     requires { place + length buf.old ≤ 128 }
     ensures sectors { (k : ℕ) → k < length buf.old → slice_get buf.new k ≡ Some (unwrap_or (found layers.now block (place + k)) zero_sector) }
+    ensures counted { steps.old ≤ steps.new }
     ensures cost { steps.new ≤ steps.old + length layers.now }
 {
     let mut is_found = [false; PAGE_SECTORS as usize];
