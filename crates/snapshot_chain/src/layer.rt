@@ -2,7 +2,7 @@
 ghost use Rattle.std.specs.Prelude.{◌≡◌, ◌≢◌, ◌+◌, ◌*◌, ◌<◌, ◌≤◌, ◌^◌, [], length, ◌||◌, IfOk, OnOk, OnErr, IsSome, ℕ};
 ghost use Rattle.std.specs.Option.{option_copied, option_or};
 ghost use Rattle.snapshot_chain.specs.Page128.{PageState, sector_at, run_at, IsRewritten};
-ghost use Rattle.snapshot_chain.specs.Layer.{page_of, sector_of, sector_in, HasSame, IsWritten, HasSameOver, IsMerged, KeepsPlaces, IsWithin, IsPlaceFor, HasPlacesFor, HasPlaceOver, LayerState, has_sector};
+ghost use Rattle.snapshot_chain.specs.Layer.{page_of, slot_of, sector_of, sector_in, HasSame, IsWritten, HasSameOver, IsMerged, KeepsPlaces, IsWithin, IsPlaceFor, HasPlacesFor, HasPlaceOver, LayerState, has_sector};
 ghost use Rattle.std.specs.BTreeSet.{contains};
 ghost use Rattle.std.specs.Ordering.{nat_cmp};
 
@@ -39,18 +39,21 @@ impl Layer {
         }
     }
 
-    /// The page of a block, which takes one step. None where the layer has no such page.
+    /// The page of a block, which takes one step. None where the layer has no sector of the block.
     pub fn page<L: Ledger>(&self, block: u64, steps: &mut Steps<L>) -> Option<&Page128>
         ensures page { option_copied result ≡ page_of self.now block }
         ensures step { steps.new ≡ steps.old + 1 }
     {
         steps.tick();
-        self.pages.get(&block)
+        match self.pages.get(&block) {
+            Some(page) if !page.is_empty() => Some(page),
+            _ => None,
+        }
     }
 
     /// Keeps a place for the page of a block, so that `put` can't fail. Nothing that the layer holds changes.
     fn keep_place(&mut self, alloc: Global, block: u64) -> Result<(), NoMemory>
-        ensures place { OnOk result (IsSome (page_of self.new block)) }
+        ensures place { OnOk result (IsSome (slot_of self.new block)) }
         ensures same { HasSame self.old self.new }
         ensures places { KeepsPlaces self.old self.new }
         ensures within { (c : ℕ) → 128 * block < c → IsWithin c self.old → IsWithin c self.new }
@@ -63,9 +66,9 @@ impl Layer {
 
     /// Puts a page into its place. It takes no memory.
     fn put(&mut self, block: u64, page: Page128)
-        requires { IsSome (page_of self.old block) }
-        ensures here { page_of self.new block ≡ Some page }
-        ensures others { (other : ℕ) → other ≢ block → page_of self.new other ≡ page_of self.old other }
+        requires { IsSome (slot_of self.old block) }
+        ensures here { slot_of self.new block ≡ Some page }
+        ensures others { (other : ℕ) → other ≢ block → slot_of self.new other ≡ slot_of self.old other }
     {
         let put: Result<_, _> = self.pages.insert(block, page);
         put.unwrap();
@@ -132,9 +135,9 @@ impl Layer {
 
     /// Makes the place for one page of the layer below. An `Err` changes nothing.
     fn make_place(&mut self, alloc: Global, block: u64, lower: &Page128) -> Result<(), NoMemory>
-        ensures place { OnOk result (IsPlaceFor (Some lower.now) (page_of self.new block)) }
-        ensures here { OnOk result (HasPlaceOver (Some lower.now) (page_of self.old block) (page_of self.new block)) }
-        ensures others { (other : ℕ) → other ≢ block → page_of self.new other ≡ page_of self.old other }
+        ensures place { OnOk result (IsPlaceFor (Some lower.now) (slot_of self.new block)) }
+        ensures here { OnOk result (HasPlaceOver (Some lower.now) (slot_of self.old block) (slot_of self.new block)) }
+        ensures others { (other : ℕ) → other ≢ block → slot_of self.new other ≡ slot_of self.old other }
         ensures err { OnErr result (self.new ≡ self.old) }
     {
         let page = match self.pages.get(&block) {
@@ -159,10 +162,10 @@ impl Layer {
 
     /// Takes one page of the layer below into its place, where none stands there that has its sectors.
     fn take_page(&mut self, block: u64, lower: Page128)
-        requires { IsPlaceFor (Some lower) (page_of self.old block) }
+        requires { IsPlaceFor (Some lower) (slot_of self.old block) }
         ensures here { (place : ℕ) → place < 128
             → sector_in self.new block place ≡ option_or (sector_in self.old block place) (sector_at lower place) }
-        ensures others { (other : ℕ) → other ≢ block → page_of self.new other ≡ page_of self.old other }
+        ensures others { (other : ℕ) → other ≢ block → slot_of self.new other ≡ slot_of self.old other }
         ensures places { KeepsPlaces self.old self.new }
         ensures kept { KeepsPlaces self.new self.old }
     {
