@@ -59,7 +59,7 @@ impl Layer {
         ensures within { (c : ℕ) → 128 * block < c → IsWithin c self.old → IsWithin c self.new }
     {
         if !self.pages.contains_key(&block) {
-            self.pages.insert(block, Page128::empty(alloc))?;
+            self.pages.insert(block, Page128::empty(alloc)?)?;
         }
         Ok(())
     }
@@ -88,7 +88,7 @@ impl Layer {
     {
         match self.pages.get(&block) {
             Some(page) => page.rewritten(alloc, first, sectors),
-            None => Page128::empty(alloc).rewritten(alloc, first, sectors),
+            None => Page128::empty(alloc)?.rewritten(alloc, first, sectors),
         }
     }
 
@@ -142,7 +142,7 @@ impl Layer {
     {
         let page = match self.pages.get(&block) {
             Some(upper) if !upper.is_empty() => Page128::joined(alloc, lower, upper)?,
-            _ => Page128::empty(alloc),
+            _ => Page128::empty(alloc)?,
         };
         self.pages.insert(block, page)?;
         Ok(())
