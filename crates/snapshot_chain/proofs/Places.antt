@@ -1,9 +1,8 @@
 -- Pages and the places that are kept for them.
-use Rattle.std.proofs.Common.{◌≡◌, ◌≢◌, ℕ, zero, suc, ◌+◌, ◌-◌, ◌*◌, ◌/◌, ◌%◌, ◌<◌, ◌≤◌, List, [], ◌∷◌, ◌++◌, length, take, drop, Option, Some, None, sym, ap, subst, refl, ◌∙◌, arith, inl, inr, ◌⊎◌}
+use Rattle.std.proofs.Common.{◌≡◌, ◌≢◌, ℕ, ◌<◌, Option, Some, None, sym, subst, refl, ◌∙◌, inl, inr}
 use Rattle.std.specs.Option.{option_or}
-use Rattle.sector_model.specs.declared.sector.Sector.{Sector}
-use Rattle.snapshot_chain.specs.Page128.{PageState, sector_at, run_at, IsJoined, IsRewritten}
-use Rattle.snapshot_chain.specs.Layer.{LayerState, slot_of, sector_of, sector_in, HasSame, IsWritten, HasSameOver, IsPlaceFor, HasPlacesFor, HasPlaceOver, IsWithin}
+use Rattle.snapshot_chain.specs.Page128.{PageState, sector_at, IsJoined}
+use Rattle.snapshot_chain.specs.Layer.{LayerState, slot_of, sector_in, HasSameOver, IsPlaceFor, HasPlaceOver, IsWithin}
 use Rattle.std.proofs.lemmas.Bool.{cases_eq}
 
 pub or_none : {X : Type 0} (o : Option X) → option_or o None ≡ o

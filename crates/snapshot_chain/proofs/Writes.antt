@@ -1,5 +1,5 @@
 -- A run of sectors, block by block.
-use Rattle.std.proofs.Common.{◌≡◌, ◌≢◌, ℕ, zero, suc, ◌+◌, ◌-◌, ◌*◌, ◌/◌, ◌%◌, ◌<◌, ◌≤◌, min, List, [], ◌∷◌, ◌++◌, length, take, drop, Bool, true, false, cond, leb, eqb, Option, Some, None, sym, ap, refl, ◌∙◌, arith, inl, inr, ◌⊎◌, subst, length-drop, length-take, IsSome}
+use Rattle.std.proofs.Common.{◌≡◌, ◌≢◌, ℕ, ◌+◌, ◌-◌, ◌*◌, ◌/◌, ◌%◌, ◌<◌, ◌≤◌, min, List, length, take, drop, false, eqb, Option, Some, None, sym, ap, refl, ◌∙◌, arith, inl, inr, subst, length-drop, length-take}
 use Rattle.std.specs.Option.{option_or}
 use Rattle.std.specs.List.{slice_get}
 use Rattle.std.proofs.lemmas.Bool.{cases_eq, cases_lt, le-leb, lt-leb, eq-eqb, false≢true}
@@ -7,7 +7,7 @@ use Rattle.std.proofs.lemmas.Option.{slice_get_past}
 use Rattle.std.proofs.lemmas.List.{take_all}
 use Rattle.sector_model.proofs.ItemAt.{slice_get-take, slice_get-drop}
 use Rattle.sector_model.specs.declared.sector.Sector.{Sector}
-use Rattle.snapshot_chain.specs.Page128.{PageState, sector_at, run_at, IsRewritten}
+use Rattle.snapshot_chain.specs.Page128.{PageState, run_at, IsRewritten}
 use Rattle.snapshot_chain.specs.Layer.{LayerState, slot_of, sector_of, sector_in, HasSame, IsWritten, IsWithin}
 
 pub run_before : (first : ℕ) (xs : List Sector) (s : ℕ) → s < first → run_at first xs s ≡ None

@@ -16,8 +16,8 @@ use std::sync::ledger::Ledger;
 
 /// Pages under the numbers of their blocks: what was written between two freezes.
 ///
-/// A page without sectors holds nothing: it only keeps its place, so that a page can be put there without
-/// memory.
+/// A page without sectors holds nothing: it only keeps its place, so that a page can be put there
+/// without memory.
 #[derive(Debug, Drop)]
 pub struct Layer {
     pages: BTreeMap<u64, Page128>,
@@ -51,7 +51,8 @@ impl Layer {
         }
     }
 
-    /// Keeps a place for the page of a block, so that `put` can't fail. Nothing that the layer holds changes.
+    /// Keeps a place for the page of a block, so that `put` can't fail. Nothing that the layer
+    /// holds changes.
     fn keep_place(&mut self, alloc: Global, block: u64) -> Result<(), NoMemory>
         ensures place { OnOk result (IsSome (slot_of self.new block)) }
         ensures same { HasSame self.old self.new }
@@ -68,14 +69,15 @@ impl Layer {
     fn put(&mut self, block: u64, page: Page128)
         requires { IsSome (slot_of self.old block) }
         ensures here { slot_of self.new block ≡ Some page }
-        ensures others { (other : ℕ) → other ≢ block → slot_of self.new other ≡ slot_of self.old other }
+        ensures others { (other : ℕ) → other ≢ block
+            → slot_of self.new other ≡ slot_of self.old other }
     {
         let put: Result<_, _> = self.pages.insert(block, page);
         put.unwrap();
     }
 
-    /// The page of a block with a run of sectors from a place on in place of its own. It answers only want of
-    /// memory.
+    /// The page of a block with a run of sectors from a place on in place of its own. It answers
+    /// only want of memory.
     fn rewritten(
         &self,
         alloc: Global,
@@ -92,8 +94,9 @@ impl Layer {
         }
     }
 
-    /// Writes sectors from sector `first` of the disk on. All memory is taken before a page is put, so an
-    /// `Err` changes nothing that the layer holds. A call within itself writes each further block.
+    /// Writes sectors from sector `first` of the disk on. All memory is taken before a page is
+    /// put, so an `Err` changes nothing that the layer holds. A call within itself writes each
+    /// further block.
     pub(crate) fn write(
         &mut self,
         alloc: Global,
@@ -104,7 +107,8 @@ impl Layer {
         ensures ok { OnOk result (IsWritten self.old self.new first sectors.now) }
         ensures err { OnErr result (HasSame self.old self.new) }
         ensures places { KeepsPlaces self.old self.new }
-        ensures within { (c : ℕ) → first + length sectors.now ≤ c → IsWithin c self.old → IsWithin c self.new }
+        ensures within { (c : ℕ) → first + length sectors.now ≤ c → IsWithin c self.old
+            → IsWithin c self.new }
     {
         if sectors.is_empty() {
             return Ok(());
@@ -119,13 +123,14 @@ impl Layer {
         Ok(())
     }
 
-    /// Makes a place for each page of the layer below, so that `take_pages` takes no memory: an empty page,
-    /// or one that has the lower sectors too where this layer has a page. Over the layer below, nothing
-    /// that is read changes.
+    /// Makes a place for each page of the layer below, so that `take_pages` takes no memory: an
+    /// empty page, or one that has the lower sectors too where this layer has a page. Over the
+    /// layer below, nothing that is read changes.
     pub(crate) fn make_places(&mut self, alloc: Global, lower: &Layer) -> Result<(), NoMemory>
         ensures places { OnOk result (HasPlacesFor lower.now self.new) }
         ensures same { HasSameOver lower.now self.old self.new }
-        ensures within { (c : ℕ) → IsWithin c lower.now → IsWithin c self.old → IsWithin c self.new }
+        ensures within { (c : ℕ) → IsWithin c lower.now → IsWithin c self.old
+            → IsWithin c self.new }
     {
         for (block, page) in &lower.pages {
             self.make_place(alloc, *block, page)?;
@@ -136,8 +141,10 @@ impl Layer {
     /// Makes the place for one page of the layer below. An `Err` changes nothing.
     fn make_place(&mut self, alloc: Global, block: u64, lower: &Page128) -> Result<(), NoMemory>
         ensures place { OnOk result (IsPlaceFor (Some lower.now) (slot_of self.new block)) }
-        ensures here { OnOk result (HasPlaceOver (Some lower.now) (slot_of self.old block) (slot_of self.new block)) }
-        ensures others { (other : ℕ) → other ≢ block → slot_of self.new other ≡ slot_of self.old other }
+        ensures here { OnOk result
+            (HasPlaceOver (Some lower.now) (slot_of self.old block) (slot_of self.new block)) }
+        ensures others { (other : ℕ) → other ≢ block
+            → slot_of self.new other ≡ slot_of self.old other }
         ensures err { OnErr result (self.new ≡ self.old) }
     {
         let page = match self.pages.get(&block) {
@@ -160,12 +167,15 @@ impl Layer {
         }
     }
 
-    /// Takes one page of the layer below into its place, where none stands there that has its sectors.
+    /// Takes one page of the layer below into its place, where none stands there that has its
+    /// sectors.
     fn take_page(&mut self, block: u64, lower: Page128)
         requires { IsPlaceFor (Some lower) (slot_of self.old block) }
         ensures here { (place : ℕ) → place < 128
-            → sector_in self.new block place ≡ option_or (sector_in self.old block place) (sector_at lower place) }
-        ensures others { (other : ℕ) → other ≢ block → slot_of self.new other ≡ slot_of self.old other }
+            → sector_in self.new block place
+            ≡ option_or (sector_in self.old block place) (sector_at lower place) }
+        ensures others { (other : ℕ) → other ≢ block
+            → slot_of self.new other ≡ slot_of self.old other }
         ensures places { KeepsPlaces self.old self.new }
         ensures kept { KeepsPlaces self.new self.old }
     {
@@ -180,7 +190,9 @@ impl Layer {
 
     /// Adds the number of each block of which this layer has a sector.
     pub(crate) fn add_blocks(&self, blocks: &mut BTreeSet<u64>) -> Result<(), NoMemory>
-        ensures { OnOk result ((b : ℕ) → contains nat_cmp blocks.new b ≡ (contains nat_cmp blocks.old b || has_sector self.now b)) }
+        ensures { OnOk result ((b : ℕ)
+            → contains nat_cmp blocks.new b
+            ≡ (contains nat_cmp blocks.old b || has_sector self.now b)) }
     {
         for (block, page) in &self.pages {
             if !page.is_empty() {

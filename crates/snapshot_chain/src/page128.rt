@@ -2,17 +2,18 @@
 ghost use Rattle.std.specs.Prelude.{◌≡◌, ◌+◌, ◌*◌, ◌<◌, ◌≤◌, ◌^◌, ◌++◌, ◌∷◌, [], length, IsTrue, ◌↔◌, IfOk, OnOk, OnErr, ℕ};
 ghost use Rattle.snapshot_chain.specs.Page128.{PageState, IsPage, sector_at, run_at, with_sector, IsJoined, IsRewritten};
 
-use sector_model::{NoMemory, Sector};
+use sector_model::{BLOCK_SECTORS, NoMemory, Sector};
 use std::alloc::Global;
 use std::marker::Model;
 
 /// Sectors of a page, which is a block's number of sectors.
-pub const PAGE_SECTORS: u64 = 128;
+pub const PAGE_SECTORS: u64 = BLOCK_SECTORS;
 
 /// Which sectors of a block a layer has, and these sectors in ascending order.
 ///
-/// Bit `p` of the mask is set where the page has the sector at place `p` of its block. A page takes memory
-/// for the sectors that it has, and no more. It is one pointer wide, since a map keeps free entries.
+/// Bit `p` of the mask is set where the page has the sector at place `p` of its block. A page
+/// takes memory for the sectors that it has, and no more. It is one pointer wide, since a map
+/// keeps free entries.
 #[derive(Debug, Drop)]
 pub struct Page128 {
     kept: Box<Kept>,
@@ -30,7 +31,8 @@ impl Model for Page128 {
 
     ghost view = { λ a. record { mask = a.kept.value.mask; sectors = a.kept.value.sectors.items } };
 
-    ghost invariant = { λ a. IsPage (record { mask = a.kept.value.mask; sectors = a.kept.value.sectors.items }) };
+    ghost invariant = { λ a. IsPage
+        (record { mask = a.kept.value.mask; sectors = a.kept.value.sectors.items }) };
 }
 
 impl Page128 {
@@ -100,7 +102,8 @@ impl Page128 {
         Ok(())
     }
 
-    /// The sectors of both pages; where both have one, the upper page's. It answers only want of memory.
+    /// The sectors of both pages; where both have one, the upper page's. It answers only want of
+    /// memory.
     pub(crate) fn joined(
         alloc: Global,
         lower: &Page128,
@@ -118,8 +121,8 @@ impl Page128 {
         Ok(page)
     }
 
-    /// The sectors of this page, with a run of sectors from a place on in place of its own. It answers only
-    /// want of memory.
+    /// The sectors of this page, with a run of sectors from a place on in place of its own. It
+    /// answers only want of memory.
     pub(crate) fn rewritten(
         &self,
         alloc: Global,

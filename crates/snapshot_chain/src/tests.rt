@@ -58,8 +58,8 @@ impl Image {
     }
 }
 
-/// Does what a draw says, to the chain and to the plain disk: a freeze under the id, a merge, or a write of
-/// the byte.
+/// Does what a draw says, to the chain and to the plain disk: a freeze under the id, a merge, or a
+/// write of the byte.
 fn act(
     alloc: Global,
     chain: &mut Chain,

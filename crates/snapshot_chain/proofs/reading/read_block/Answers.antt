@@ -1,6 +1,5 @@
 -- Layer by layer, from the newest down.
-use Rattle.std.proofs.Common.{◌≡◌, ℕ, ◌+◌, ◌-◌, ◌<◌, ◌≤◌, length, sym, ap, ◌∙◌, arith, drop, get_or, false}
-use Rattle.std.specs.List.{slice_get}
+use Rattle.std.proofs.Common.{◌≡◌, ◌+◌, ◌<◌, length, sym, arith}
 use Rattle.snapshot_chain.specs.Layers.{found}
 use Rattle.snapshot_chain.proofs.LayersRead.{none_yet, one_more, none_more, all_read, found_early}
 use Rattle.snapshot_chain.proofs.reading.read_block.Goals as goal

@@ -1,5 +1,5 @@
 -- What the layers from `left` on have is read; what they don't have is zero.
-use Rattle.std.proofs.Common.{◌≡◌, ℕ, ◌+◌, ◌-◌, ◌<◌, ◌≤◌, length, get_or, drop, false}
+use Rattle.std.proofs.Common.{◌≡◌, ℕ, ◌+◌, ◌<◌, ◌≤◌, length, get_or, drop, false}
 use Rattle.std.specs.List.{slice_get}
 use Rattle.snapshot_chain.specs.Layers.{found}
 use Rattle.snapshot_chain.specs.Reading.{IsRead}

@@ -1,5 +1,5 @@
 -- Block by block.
-use Rattle.std.proofs.Common.{◌≡◌, ℕ, ◌+◌, ◌-◌, ◌*◌, ◌/◌, ◌%◌, ◌<◌, ◌≤◌, length, drop, refl, arith, sym, length-take, length-drop}
+use Rattle.std.proofs.Common.{◌≡◌, ℕ, ◌+◌, ◌-◌, ◌*◌, ◌/◌, ◌%◌, ◌<◌, ◌≤◌, length, drop, refl, arith, length-take, length-drop}
 use Rattle.snapshot_chain.proofs.LayersRead.{block_more, one_block_more, length-put_mid}
 use Rattle.snapshot_chain.proofs.reading.read_layers.Goals as goal
 

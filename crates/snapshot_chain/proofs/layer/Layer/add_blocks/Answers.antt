@@ -1,5 +1,5 @@
 -- A page's block is among the blocks where the page has a sector.
-use Rattle.std.proofs.Common.{◌≡◌, ℕ, Some, Option, sym, ap, ◌∙◌, refl, map, nat_cmp, nat_eq, Bool, true, false, ◌||◌, ◌&&◌, is_some}
+use Rattle.std.proofs.Common.{◌≡◌, Some, Option, ap, ◌∙◌, refl, map, nat_cmp, true, false, ◌||◌, is_some}
 use Rattle.std.specs.List.{list_any, range_with_len}
 use Rattle.std.specs.BTreeSet.{contains}
 use Rattle.std.specs.Map.Iter.{deref_pair}

@@ -1,6 +1,5 @@
 -- The place is an empty page, or one that was joined with the lower one.
-use Rattle.std.proofs.Common.{◌≡◌, refl, inl, inr}
-use Rattle.snapshot_chain.specs.Layer.{slot_of, IsPlaceFor}
+use Rattle.std.proofs.Common.{refl, inl, inr}
 use Rattle.snapshot_chain.proofs.Places.{joined_place}
 use Rattle.snapshot_chain.proofs.layer.Layer.make_place.Goals as goal
 use Rattle.snapshot_chain.proofs.layer.Layer.make_place.Goals.{in-Some+in_ok-page-in-Some, in_default+in_ok-page-in_default}

@@ -8,8 +8,7 @@ use Rattle.std.specs.List.{All}
 use Rattle.snapshot_chain.specs.declared.page128.Page128.{Page128}
 use Rattle.std.proofs.lemmas.Map.Iter.{iter_end}
 use Rattle.std.proofs.lemmas.List.Elements.{All-push, All-map, All-contains}
-use Rattle.snapshot_chain.specs.Page128.{PageState}
-use Rattle.snapshot_chain.specs.Layer.{LayerState, slot_of, IsPlaceFor}
+use Rattle.snapshot_chain.specs.Layer.{slot_of, IsPlaceFor}
 use Rattle.snapshot_chain.proofs.Places.{place_stays, same_over, place_within}
 use Rattle.snapshot_chain.proofs.layer.Layer.make_places.Goals as goal
 

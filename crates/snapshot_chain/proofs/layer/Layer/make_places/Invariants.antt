@@ -1,5 +1,5 @@
 -- Each page of the lower layer so far has its place.
-use Rattle.std.proofs.Common.{◌≡◌, ℕ, ◌<◌}
+use Rattle.std.proofs.Common.{ℕ}
 use Rattle.std.specs.List.{All}
 use Rattle.snapshot_chain.specs.Layer.{slot_of, IsPlaceFor, HasSameOver, IsWithin}
 use Rattle.snapshot_chain.proofs.layer.Layer.make_places.Given as goal

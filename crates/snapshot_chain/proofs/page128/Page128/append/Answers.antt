@@ -1,7 +1,7 @@
 -- The mask with the new bit, and the number of its bits.
-use Rattle.std.proofs.Common.{arith, refl, ◌∙◌, ap, sym, length-append, ◌<◌, ◌≡◌, ◌^◌, ◌+◌, length}
+use Rattle.std.proofs.Common.{refl, ◌<◌, ◌≡◌, ◌^◌, length}
 use Rattle.std.specs.Int.RustNames.{count_ones}
-use Rattle.snapshot_chain.proofs.Masks.{set_bit, count_set, below_all, grown_count}
+use Rattle.snapshot_chain.proofs.Masks.{set_bit, below_all, grown_count}
 use Rattle.snapshot_chain.proofs.page128.Page128.append.Goals as goal
 
 pub invariant_of-self-2 : goal.invariant_of-self-2
