@@ -2,17 +2,16 @@
 use Rattle.std.proofs.Common.{◌≡◌, ℕ, zero, suc, ◌+◌, ◌*◌, ◌/◌, ◌<◌, IsSome, arith, length, take, get_or, List, [], ◌∷◌, ◌++◌, map, nat_cmp, nat_eq, eqb, Bool, true, false, cond, ◌||◌, ◌&&◌, is_some, Option, Some, None, Bor, sym, ap, ◌∙◌, refl, inl, inr, ◌⊎◌}
 use Rattle.std.specs.List.{list_any, range_with_len, All, AllByRecursion}
 use Rattle.std.specs.BTreeMap.{is_at}
-use Rattle.std.specs.Map.{keys_of}
 use Rattle.std.specs.Map.Iter.{deref_pair}
 use Rattle.std.proofs.Math.Bool.{or-false}
-use Rattle.std.proofs.lemmas.Bool.{cases_eq, eq-eqb, ne_eqb, eqb-true, false≢true}
+use Rattle.std.proofs.lemmas.Bool.{cases_eq, eq-eqb, ne_eqb, false≢true}
 use Rattle.std.proofs.lemmas.List.Folds.{list_any-append}
 use Rattle.std.proofs.lemmas.Map.Lookups.{exact_unsigned}
 use Rattle.std.proofs.lemmas.Map.Views.{tells_apart}
 use Rattle.std.proofs.lemmas.Cmp.{eq_by_cmp_equiv}
 use Rattle.std.specs.Cmp.{nat_cmp_total}
 use Rattle.std.proofs.lemmas.Bool.{false_from_ne_true}
-use Rattle.snapshot_chain.specs.Page128.{PageState, sector_at}
+use Rattle.snapshot_chain.specs.Page128.{PageState}
 use Rattle.std.proofs.lemmas.List.{take_more}
 use Rattle.std.specs.Option.{option_or}
 use Rattle.sector_model.specs.declared.sector.Sector.{Sector}
@@ -20,7 +19,7 @@ use Rattle.snapshot_chain.specs.Layers.{found, has_found, blocks_in}
 use Rattle.sector_model.specs.Run.{runs_of, areas_of, in_blocks, block_count}
 use Rattle.snapshot_chain.proofs.Touching.{among as in_range}
 use Rattle.snapshot_chain.proofs.Stacks.{found-append}
-use Rattle.snapshot_chain.specs.Layer.{LayerState, page_of, sector_of, sector_in, has_sector, IsWithin}
+use Rattle.snapshot_chain.specs.Layer.{LayerState, slot_of, sector_of, sector_in, has_sector, IsWithin}
 
 abbrev pub Entry : Type 0
 Entry = Bor ℕ × Bor PageState
@@ -83,12 +82,12 @@ both h (e ∷ seen) b = ap (λ x. (nat_eq b e.0.now && h) || x) (both h seen b) 
     joined true false false = refl
     joined false y h = refl
 
-keyed : (layer : LayerState) (b : ℕ) → list_any (λ p. nat_eq b p.0) layer ≡ is_some (page_of layer b)
+keyed : (layer : LayerState) (b : ℕ) → list_any (λ p. nat_eq b p.0) layer ≡ is_some (slot_of layer b)
 keyed [] b = refl
 keyed (p ∷ layer) b = by layer p b (eqb b p.0) refl (keyed layer b)
   where
-    by : (layer : LayerState) (p : ℕ × PageState) (b : ℕ) (x : Bool) → eqb b p.0 ≡ x → list_any (λ q. nat_eq b q.0) layer ≡ is_some (page_of layer b)
-        → (eqb b p.0 || list_any (λ q. nat_eq b q.0) layer) ≡ is_some (cond (is_at (nat_cmp b) p.0) (Some p.1) (page_of layer b))
+    by : (layer : LayerState) (p : ℕ × PageState) (b : ℕ) (x : Bool) → eqb b p.0 ≡ x → list_any (λ q. nat_eq b q.0) layer ≡ is_some (slot_of layer b)
+        → (eqb b p.0 || list_any (λ q. nat_eq b q.0) layer) ≡ is_some (cond (is_at (nat_cmp b) p.0) (Some p.1) (slot_of layer b))
     by layer p b true is rest = rw (at_is b p.0, is) refl
     by layer p b false is rest = rw (at_is b p.0, is) rest
 
@@ -99,7 +98,7 @@ held (Some page) = refl
 pub all_blocks : (layer : LayerState) (seen : List Entry) (b : ℕ) → map deref_pair seen ≡ layer → among layer seen b ≡ has_sector layer b
 all_blocks layer seen b whole =
     both (has_sector layer b) seen b ∙ ap (λ x. x && has_sector layer b) (ap (λ (l : LayerState). list_any (λ p. nat_eq b p.0) l) whole ∙ keyed layer b)
-    ∙ held (page_of layer b)
+    ∙ held (slot_of layer b)
 
 any-or : (f g h : ℕ → Bool) (xs : List ℕ) → ((k : ℕ) → h k ≡ (f k || g k)) → list_any h xs ≡ (list_any f xs || list_any g xs)
 any-or f g h [] same = refl
@@ -139,7 +138,7 @@ pub found_within : (c : ℕ) (layers : List LayerState) (b : ℕ) → AllByRecur
 found_within c [] b within is = absurd (false≢true is)
 found_within c (l ∷ layers) b within is =
     either (has_found layers b) (has_sector l b) (sym (any-or (λ k. is_some (found layers b k)) (λ k. is_some (sector_in l b k)) (λ k. is_some (found (l ∷ layers) b k)) (range_with_len 0 128) (λ k. some (found layers b k) (sector_in l b k))) ∙ is)
-    (λ early. found_within c layers b within.1 early) (λ here. within.0 b (has_page (page_of l b) here))
+    (λ early. found_within c layers b within.1 early) (λ here. within.0 b (has_page (slot_of l b) here))
   where
     some : (x y : Option Sector) → is_some (option_or x y) ≡ (is_some x || is_some y)
     some None y = refl

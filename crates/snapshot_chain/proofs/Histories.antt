@@ -1,20 +1,18 @@
 -- What a chain that stands for a history stands for after one step more.
-use Rattle.std.proofs.Common.{◌≡◌, ◌≢◌, ℕ, zero, suc, ◌+◌, ◌<◌, ◌≤◌, List, [], ◌∷◌, ◌++◌, length, take, Bool, true, false, Option, Some, None, is_some, IfSome, ◌↔◌, sym, ap, subst, refl, ◌∙◌, arith, inl, inr, ◌⊎◌, cond, eqb, nat_eq, ◌==◌, not, ◌||◌, ◌&&◌}
+use Rattle.std.proofs.Common.{◌≡◌, ℕ, suc, ◌+◌, ◌<◌, ◌≤◌, List, [], ◌∷◌, ◌++◌, length, take, Bool, true, false, Option, Some, None, is_some, IfSome, ◌↔◌, sym, ap, refl, ◌∙◌, arith, inl, inr, ◌⊎◌, cond, eqb, ◌==◌, not, ◌||◌}
 use Rattle.std.specs.Option.{option_or}
-use Rattle.std.specs.List.{fold, list_any, range_with_len, filter, filter_map, find, position_or_len}
+use Rattle.std.specs.List.{fold, list_any, range_with_len, filter, find, position_or_len}
 use Rattle.std.proofs.Math.Bool.{or-false}
-use Rattle.std.proofs.lemmas.Bool.{eq-eqb, eqb-true, cases_eq, ne_eqb, false≢true, false_from_ne_true}
+use Rattle.std.proofs.lemmas.Bool.{eq-eqb, cases_eq, ne_eqb, false≢true, false_from_ne_true}
 use Rattle.std.proofs.lemmas.List.{take-append-le, append-nil}
 use Rattle.std.proofs.lemmas.List.Sums.{fold-append}
 use Rattle.std.proofs.lemmas.List.Elements.{filter_map-append}
 use Rattle.std.proofs.lemmas.List.Folds.{list_any-append, find-append}
-use Rattle.std.proofs.lemmas.Map.Views.{any-filter_same}
 use Rattle.sector_model.specs.Disk.{Write, after_write, fold_writes, fresh_disk}
-use Rattle.sector_model.specs.Run.{touches, touched_blocks, block_count}
+use Rattle.sector_model.specs.Run.{touched_blocks, block_count}
 use Rattle.sector_model.specs.declared.sector.Sector.{Sector}
-use Rattle.sector_model.proofs.Touched.{any_below}
 use Rattle.snapshot_chain.specs.Chain.{ChainState, Snapshot, snapshot_of, with_touched, fresh, after_writing, after_freezing, after_merging}
-use Rattle.snapshot_chain.specs.History.{Step, Written, Frozen, Merged, write_in, freezes, writes_in, present, before_freeze, frozen, touched_before, live_after, is_live, IsFrozenAs, StandsFor, Takes}
+use Rattle.snapshot_chain.specs.History.{Step, Written, Frozen, Merged, write_in, freezes, writes_in, present, before_freeze, live_after, is_live, IsFrozenAs, StandsFor, Takes}
 use Rattle.snapshot_chain.proofs.Touching.{touched_push}
 
 writes-append : (xs ys : List Step) → writes_in (xs ++ ys) ≡ writes_in xs ++ writes_in ys

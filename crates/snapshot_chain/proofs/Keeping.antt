@@ -1,11 +1,11 @@
 -- What a chain keeps of its ids and layers when one comes or goes.
-use Rattle.std.proofs.Common.{◌≡◌, ℕ, zero, suc, ◌+◌, ◌<◌, ◌≤◌, List, [], ◌∷◌, ◌++◌, length, set, get_or, Bool, true, false, eqb, nat_eq, ◌||◌, Result, Ok, Err, None, sym, ap, ◌∙◌, arith, refl, inl, inr}
+use Rattle.std.proofs.Common.{◌≡◌, ℕ, zero, suc, ◌+◌, ◌<◌, ◌≤◌, List, [], ◌∷◌, ◌++◌, length, set, get_or, Bool, false, eqb, nat_eq, ◌||◌, Result, Ok, Err, None, ◌∙◌, arith, refl}
 use Rattle.std.specs.List.{list_any, remove, AllByRecursion}
-use Rattle.std.proofs.lemmas.Bool.{ne_eqb, cases_eq}
+use Rattle.std.proofs.lemmas.Bool.{ne_eqb}
 use Rattle.std.proofs.lemmas.List.Folds.{list_any-append}
 use Rattle.std.specs.Result.{IsErrAnd}
 use Rattle.snapshot_chain.specs.declared.chain.ChainRefused.{ChainRefused}
-use Rattle.snapshot_chain.specs.declared.chain.ChainRefused.TheVariants.{UnknownSnap, Range, NoMemory}
+use Rattle.snapshot_chain.specs.declared.chain.ChainRefused.TheVariants.{NoMemory}
 use Rattle.snapshot_chain.specs.Chain.{ChainState, IsKeptAfter}
 use Rattle.snapshot_chain.specs.Kept.{AreIds}
 use Rattle.std.proofs.lemmas.Bool.{or_parts}

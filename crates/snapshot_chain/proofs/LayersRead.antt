@@ -1,9 +1,11 @@
 -- One layer more of a read.
-use Rattle.std.proofs.Common.{◌≡◌, ℕ, zero, suc, ◌+◌, ◌-◌, ◌*◌, ◌/◌, ◌%◌, ◌<◌, ◌≤◌, min, max, inl, inr, length-take, length-drop, length-append, List, [], ◌∷◌, ◌++◌, length, take, drop, get_or, Bool, true, false, Option, Some, None, IsSome, is_some, sym, ap, subst, refl, ◌∙◌, arith}
-use Rattle.std.specs.Option.{option_or, unwrap_or}
+use Rattle.std.proofs.Common.{◌≡◌, ℕ, zero, suc, ◌+◌, ◌-◌, ◌*◌, ◌/◌, ◌%◌, ◌<◌, ◌≤◌, min, max, inl, inr, length-take, length-drop, length-append, List, [], ◌∷◌, ◌++◌, length, take, drop, get_or, Bool, true, false, Option, Some, None, is_some, sym, ap, subst, refl, ◌∙◌, arith}
+use Rattle.std.specs.Option.{option_or, option_and_then, unwrap_or}
+use Rattle.std.specs.Prelude.{◌==◌, if◌then◌else◌}
 use Rattle.std.specs.List.{slice_get}
 use borrow.Rule.Slice.PartMut.{put_mid, post_of}
-use Rattle.std.proofs.lemmas.Bool.{false≢true, cases_lt}
+use Rattle.std.proofs.lemmas.Bool.{false≢true, cases_lt, cases_eq, ne_eqb}
+use Rattle.snapshot_chain.proofs.Masks.{empty_none}
 use Rattle.sector_model.proofs.ItemAt.{slice_get-front, slice_get-back, slice_get-take}
 use Rattle.std.proofs.lemmas.List.{drop_all, get_or_default}
 use Rattle.std.proofs.Math.Seq.{drop-cons}
@@ -11,7 +13,7 @@ use Rattle.std.proofs.Math.Nat.{mul-suc}
 use Rattle.sector_model.specs.Sector.{zero_sector}
 use Rattle.sector_model.specs.declared.sector.Sector.{Sector}
 use Rattle.snapshot_chain.specs.Page128.{PageState, sector_at}
-use Rattle.snapshot_chain.specs.Layer.{LayerState, page_of, sector_of, sector_in}
+use Rattle.snapshot_chain.specs.Layer.{LayerState, slot_of, page_of, if_written, sector_of, sector_in}
 use Rattle.snapshot_chain.specs.Layers.{found, sector_found, layer_at}
 use Rattle.snapshot_chain.specs.Reading.{IsRead, TakesMissing}
 use Rattle.snapshot_chain.proofs.Places.{or_none}
@@ -31,12 +33,28 @@ next_layer layers left some bound =
     let at : left - 1 < length layers = omega (arith, some, bound) in
     drop-cons layers (left - 1) [] at ∙ (let e : suc (left - 1) ≡ left = omega (arith, some) in ap (λ (n : ℕ). layer_at layers (left - 1) ∷ drop n layers) e)
 
+-- a page without sectors holds what no page does
+chosen : (b : Bool) (kept page : PageState) → (if b then None else Some kept) ≡ Some page → Some kept ≡ Some page
+chosen true kept page is = absurd (false≢true (ap is_some is))
+chosen false kept page is = is
+
+page_here : (slot : Option PageState) (page : PageState) (place : ℕ) → option_and_then if_written slot ≡ Some page → sector_of slot place ≡ sector_at page place
+page_here None page place is = absurd (false≢true (ap is_some is))
+page_here (Some kept) page place is = ap (λ (o : Option PageState). sector_of o place) (chosen (kept.mask == 0) kept page is)
+
+no_page_here : (slot : Option PageState) (place : ℕ) → option_and_then if_written slot ≡ None → sector_of slot place ≡ None
+no_page_here None place is = refl
+no_page_here (Some kept) place is = elim (cases_eq kept.mask 0) [
+  | inl empty ↦ empty_none kept place empty
+  | inr some ↦ absurd (false≢true (sym (ap is_some (rw (ne_eqb kept.mask 0 some) at is))))
+]
+
 pub one_more : (layers : List LayerState) (left block place : ℕ) (layer : LayerState) (page : PageState) (was : Bool) (old : Option Sector) (now : Bool) (new : Option Sector) → 0 < left → left ≤ length layers
     → layer ≡ get_or layers (left - 1) layer → page_of layer block ≡ Some page → IsRead (found (drop left layers) block place) was old → TakesMissing (sector_at page place) was old now new
     → IsRead (found (drop (left - 1) layers) block place) now new
 one_more layers left block place layer page was old now new some bound is has read takes =
     let same : layer ≡ layer_at layers (left - 1) = is ∙ get_or_default layers (left - 1) layer [] (omega (arith, some, bound)) in
-    let here : sector_in (layer_at layers (left - 1)) block place ≡ sector_at page place = ap (λ (l : LayerState). sector_in l block place) (sym same) ∙ ap (λ (p : Option PageState). sector_of p place) has in
+    let here : sector_in (layer_at layers (left - 1)) block place ≡ sector_at page place = ap (λ (l : LayerState). sector_in l block place) (sym same) ∙ page_here (slot_of layer block) page place has in
     let P : List LayerState → Type 0 = λ ls. IsRead (found ls block place) now new in
     subst P (sym (next_layer layers left some bound))
     (let Q : Option Sector → Type 0 = λ o. IsRead (option_or (found (drop left layers) block place) o) now new in
@@ -46,7 +64,7 @@ pub none_more : (layers : List LayerState) (left block place : ℕ) (layer : Lay
     → layer ≡ get_or layers (left - 1) layer → page_of layer block ≡ None → IsRead (found (drop left layers) block place) was old → IsRead (found (drop (left - 1) layers) block place) was old
 none_more layers left block place layer was old some bound is has read =
     let same : layer ≡ layer_at layers (left - 1) = is ∙ get_or_default layers (left - 1) layer [] (omega (arith, some, bound)) in
-    let here : sector_in (layer_at layers (left - 1)) block place ≡ None = ap (λ (l : LayerState). sector_in l block place) (sym same) ∙ ap (λ (p : Option PageState). sector_of p place) has in
+    let here : sector_in (layer_at layers (left - 1)) block place ≡ None = ap (λ (l : LayerState). sector_in l block place) (sym same) ∙ no_page_here (slot_of layer block) place has in
     let P : List LayerState → Type 0 = λ ls. IsRead (found ls block place) was old in
     subst P (sym (next_layer layers left some bound))
     (let Q : Option Sector → Type 0 = λ o. IsRead o was old in

@@ -1,9 +1,8 @@
 -- Pages and the places that are kept for them.
-use Rattle.std.proofs.Common.{◌≡◌, ◌≢◌, ℕ, zero, suc, ◌+◌, ◌-◌, ◌*◌, ◌/◌, ◌%◌, ◌<◌, ◌≤◌, List, [], ◌∷◌, ◌++◌, length, take, drop, Option, Some, None, sym, ap, subst, refl, ◌∙◌, arith, inl, inr, ◌⊎◌}
+use Rattle.std.proofs.Common.{◌≡◌, ◌≢◌, ℕ, ◌<◌, Option, Some, None, sym, subst, refl, ◌∙◌, inl, inr}
 use Rattle.std.specs.Option.{option_or}
-use Rattle.sector_model.specs.declared.sector.Sector.{Sector}
-use Rattle.snapshot_chain.specs.Page128.{PageState, sector_at, run_at, IsJoined, IsRewritten}
-use Rattle.snapshot_chain.specs.Layer.{LayerState, page_of, sector_of, sector_in, HasSame, IsWritten, HasSameOver, IsPlaceFor, HasPlacesFor, HasPlaceOver, IsWithin}
+use Rattle.snapshot_chain.specs.Page128.{PageState, sector_at, IsJoined}
+use Rattle.snapshot_chain.specs.Layer.{LayerState, slot_of, sector_in, HasSameOver, IsPlaceFor, HasPlaceOver, IsWithin}
 use Rattle.std.proofs.lemmas.Bool.{cases_eq}
 
 pub or_none : {X : Type 0} (o : Option X) → option_or o None ≡ o
@@ -23,15 +22,15 @@ pub joined_place : (lower upper page : PageState) → IsJoined lower upper page 
 joined_place lower upper page joined place within = rw (joined place within) (or_same (sector_at upper place) (sector_at lower place))
 
 -- a lower page's place is made: those that were made before stay
-pub place_stays : (lower : LayerState) (block : ℕ) (page : PageState) (old new : LayerState) → page_of lower block ≡ Some page → IsPlaceFor (Some page) (page_of new block)
-    → ((other : ℕ) → other ≢ block → page_of new other ≡ page_of old other) → (b : ℕ) → IsPlaceFor (page_of lower b) (page_of old b) → IsPlaceFor (page_of lower b) (page_of new b)
+pub place_stays : (lower : LayerState) (block : ℕ) (page : PageState) (old new : LayerState) → slot_of lower block ≡ Some page → IsPlaceFor (Some page) (slot_of new block)
+    → ((other : ℕ) → other ≢ block → slot_of new other ≡ slot_of old other) → (b : ℕ) → IsPlaceFor (slot_of lower b) (slot_of old b) → IsPlaceFor (slot_of lower b) (slot_of new b)
 place_stays lower block page old new met made others b place = elim (cases_eq b block) [
   | inl at ↦ rw (at, met) made
   | inr other ↦ rw (others b other) place
 ]
 
-pub same_over : (lower : LayerState) (block : ℕ) (page : PageState) (start old new : LayerState) → page_of lower block ≡ Some page
-    → HasPlaceOver (Some page) (page_of old block) (page_of new block) → ((other : ℕ) → other ≢ block → page_of new other ≡ page_of old other)
+pub same_over : (lower : LayerState) (block : ℕ) (page : PageState) (start old new : LayerState) → slot_of lower block ≡ Some page
+    → HasPlaceOver (Some page) (slot_of old block) (slot_of new block) → ((other : ℕ) → other ≢ block → slot_of new other ≡ slot_of old other)
     → HasSameOver lower start old → HasSameOver lower start new
 same_over lower block page start old new met here others same b place within = elim (cases_eq b block) [
   | inl at ↦ let P : ℕ → Type 0 = λ n. option_or (sector_in new n place) (sector_in lower n place) ≡ option_or (sector_in start n place) (sector_in lower n place) in
@@ -39,8 +38,8 @@ same_over lower block page start old new met here others same b place within = e
   | inr other ↦ rw (others b other) (same b place within)
 ]
 
-pub place_within : (c : ℕ) (lower : LayerState) (block : ℕ) (page : PageState) (old new : LayerState) → page_of lower block ≡ Some page
-    → ((other : ℕ) → other ≢ block → page_of new other ≡ page_of old other) → IsWithin c lower → IsWithin c old → IsWithin c new
+pub place_within : (c : ℕ) (lower : LayerState) (block : ℕ) (page : PageState) (old new : LayerState) → slot_of lower block ≡ Some page
+    → ((other : ℕ) → other ≢ block → slot_of new other ≡ slot_of old other) → IsWithin c lower → IsWithin c old → IsWithin c new
 place_within c lower block page old new met others low within b some = elim (cases_eq b block) [
   | inl at ↦ rw at (low block (rw met refl))
   | inr other ↦ within b (rw (← others b other) some)

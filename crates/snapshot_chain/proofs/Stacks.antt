@@ -1,15 +1,14 @@
 -- What lists of layers hold when one of them changes.
-use Rattle.std.proofs.Common.{◌≡◌, ◌≢◌, ℕ, zero, suc, ◌+◌, ◌-◌, ◌*◌, ◌/◌, ◌%◌, ◌<◌, ◌≤◌, List, [], ◌∷◌, ◌++◌, length, take, drop, set, get_or, map, Bool, true, false, Option, Some, None, is_some, sym, ap, subst, refl, ◌∙◌, arith, inl, inr, ◌⊎◌, append_assoc, cond, eqb, nat_eq, ◌==◌, not, ◌||◌}
-use Rattle.std.specs.Option.{option_or, unwrap_or, option_map}
-use Rattle.std.proofs.lemmas.Bool.{eq-eqb, eqb-true, cases_eq, or_parts}
+use Rattle.std.proofs.Common.{◌≡◌, ℕ, zero, suc, ◌+◌, ◌/◌, ◌%◌, ◌<◌, ◌≤◌, List, [], ◌∷◌, ◌++◌, length, set, map, Bool, false, Option, Some, is_some, sym, ap, refl, ◌∙◌, arith, append_assoc, eqb, nat_eq, ◌==◌, not}
+use Rattle.std.specs.Option.{option_or, unwrap_or}
+use Rattle.std.proofs.lemmas.Bool.{eq-eqb, or_parts}
 use Rattle.std.proofs.lemmas.Bool.Decides.{nat_tests}
 use Rattle.snapshot_chain.specs.Kept.{AreIds}
-use Rattle.std.specs.List.{list_any, range_with_len, filter, remove, position, find, slice_get}
+use Rattle.std.specs.List.{list_any, range_with_len, filter, remove, slice_get}
 use Rattle.sector_model.specs.Sector.{zero_sector}
-use Rattle.sector_model.specs.Run.{block_count, touches}
+use Rattle.sector_model.specs.Run.{block_count}
 use Rattle.sector_model.specs.declared.sector.Sector.{Sector}
-use Rattle.snapshot_chain.specs.Page128.{run_at}
-use Rattle.snapshot_chain.specs.Layer.{LayerState, sector_in, HasSame, IsWritten, HasSameOver, IsMerged}
+use Rattle.snapshot_chain.specs.Layer.{LayerState, sector_in, HasSameOver, IsMerged}
 use Rattle.snapshot_chain.specs.Chain.{Snapshot}
 use Rattle.snapshot_chain.specs.Layers.{found, sector_found, contents_in, has_found, blocks_in, snapshot_in, snapshots_in, layer_at}
 use Rattle.snapshot_chain.proofs.Places.{or_none, or_assoc}

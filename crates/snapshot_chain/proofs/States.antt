@@ -1,9 +1,8 @@
 -- What a chain holds after a call, in terms of what it held.
-use Rattle.std.proofs.Common.{◌≡◌, ◌≢◌, ℕ, zero, suc, ◌+◌, ◌-◌, ◌*◌, ◌/◌, ◌%◌, ◌<◌, ◌≤◌, min, max, List, [], ◌∷◌, ◌++◌, length, take, drop, set, get_or, map, Bool, true, false, Option, Some, None, is_some, sym, ap, subst, refl, ◌∙◌, arith, inl, inr, ◌⊎◌, replicate, append_assoc, length-take, length-drop, cond, eqb, ltb, leb, nat_eq, ◌==◌, not, ◌||◌, ◌&&◌, add-one}
+use Rattle.std.proofs.Common.{◌≡◌, ℕ, zero, suc, ◌+◌, ◌-◌, ◌*◌, ◌/◌, ◌%◌, ◌<◌, ◌≤◌, List, [], ◌∷◌, ◌++◌, length, take, drop, set, get_or, map, Bool, true, false, Option, Some, None, is_some, sym, ap, subst, refl, ◌∙◌, arith, inl, inr, ◌⊎◌, replicate, append_assoc, length-take, length-drop, cond, eqb, ltb, nat_eq, ◌==◌, ◌||◌}
 use Rattle.std.specs.Option.{option_or, unwrap_or, option_map}
 use Rattle.std.specs.List.{list_any, range_with_len, filter, remove, position, position_or_len, find, slice_get}
-use Rattle.std.proofs.lemmas.Bool.{eq-eqb, eqb-true, cases_eq, cases_lt, ne_eqb, le-leb, lt-leb, lt-ltb, le-ltb, false≢true}
-use Rattle.std.proofs.lemmas.Bool.Decides.{nat_tests}
+use Rattle.std.proofs.lemmas.Bool.{eq-eqb, cases_eq, cases_lt, ne_eqb, lt-ltb, le-ltb, false≢true}
 use Rattle.std.proofs.lemmas.List.{take_all, ext_get_or, get_or-take, get_or-drop}
 use Rattle.std.proofs.lemmas.List.FromFn.{length-map-range_with_len, get_or-map-range_with_len}
 use Rattle.std.proofs.lemmas.Option.{slice_get_past, slice_get-get_or, get_or_from_slice_get, unwrap_or-slice_get}
@@ -12,15 +11,15 @@ use Rattle.snapshot_chain.proofs.Writes.{run_before, run_from}
 use Rattle.snapshot_chain.proofs.Touching.{filter-within, among, has_more}
 use Rattle.sector_model.specs.Sector.{zero_sector}
 use Rattle.sector_model.specs.Run.{block_count, touches}
-use Rattle.sector_model.specs.Disk.{Write, replaced}
+use Rattle.sector_model.specs.Disk.{replaced}
 use Rattle.sector_model.specs.declared.sector.Sector.{Sector}
 use Rattle.snapshot_chain.specs.Page128.{run_at}
 use Rattle.snapshot_chain.specs.Layer.{LayerState, sector_in, HasSame, IsWritten, HasSameOver, IsMerged}
-use Rattle.snapshot_chain.specs.Chain.{ChainState, Snapshot, snapshot_of, contents_of, with_touched, after_writing, after_freezing, after_merging, fresh}
+use Rattle.snapshot_chain.specs.Chain.{contents_of, with_touched, after_writing, after_freezing, after_merging, fresh}
 use Rattle.snapshot_chain.specs.Layers.{found, sector_found, contents_in, has_found, blocks_in, snapshot_in, snapshots_in, layer_at}
 use Rattle.snapshot_chain.specs.Kept.{state_of, AreIds}
 use Rattle.snapshot_chain.specs.Reading.{layers_seen}
-use Rattle.snapshot_chain.proofs.Places.{or_none, or_assoc}
+use Rattle.snapshot_chain.proofs.Places.{or_assoc}
 use Rattle.snapshot_chain.proofs.Stacks.{HoldsSame, found-append, map-same, any-same, contents-same, blocks-same, snapshots-newest, snapshots-push, snapshots-raised, holds-raised, snapshots-merged, holds-merged}
 
 -- ---- where an id stands

@@ -1,5 +1,5 @@
 -- A run of sectors, block by block.
-use Rattle.std.proofs.Common.{◌≡◌, ◌≢◌, ℕ, zero, suc, ◌+◌, ◌-◌, ◌*◌, ◌/◌, ◌%◌, ◌<◌, ◌≤◌, min, List, [], ◌∷◌, ◌++◌, length, take, drop, Bool, true, false, cond, leb, eqb, Option, Some, None, sym, ap, refl, ◌∙◌, arith, inl, inr, ◌⊎◌, subst, length-drop, length-take, IsSome}
+use Rattle.std.proofs.Common.{◌≡◌, ◌≢◌, ℕ, ◌+◌, ◌-◌, ◌*◌, ◌/◌, ◌%◌, ◌<◌, ◌≤◌, min, List, length, take, drop, false, eqb, Option, Some, None, sym, ap, refl, ◌∙◌, arith, inl, inr, subst, length-drop, length-take}
 use Rattle.std.specs.Option.{option_or}
 use Rattle.std.specs.List.{slice_get}
 use Rattle.std.proofs.lemmas.Bool.{cases_eq, cases_lt, le-leb, lt-leb, eq-eqb, false≢true}
@@ -7,8 +7,8 @@ use Rattle.std.proofs.lemmas.Option.{slice_get_past}
 use Rattle.std.proofs.lemmas.List.{take_all}
 use Rattle.sector_model.proofs.ItemAt.{slice_get-take, slice_get-drop}
 use Rattle.sector_model.specs.declared.sector.Sector.{Sector}
-use Rattle.snapshot_chain.specs.Page128.{PageState, sector_at, run_at, IsRewritten}
-use Rattle.snapshot_chain.specs.Layer.{LayerState, page_of, sector_of, sector_in, HasSame, IsWritten, IsWithin}
+use Rattle.snapshot_chain.specs.Page128.{PageState, run_at, IsRewritten}
+use Rattle.snapshot_chain.specs.Layer.{LayerState, slot_of, sector_of, sector_in, HasSame, IsWritten, IsWithin}
 
 pub run_before : (first : ℕ) (xs : List Sector) (s : ℕ) → s < first → run_at first xs s ≡ None
 run_before first xs s less = rw (lt-leb first s less) refl
@@ -52,8 +52,8 @@ run_rest first xs n block place count within other = elim (cases_lt (128 * block
 
 pub written : (first : ℕ) (xs : List Sector) (n : ℕ) (page : PageState) (old kept rest new : LayerState)
     → n ≡ min (length xs) (128 - first % 128) → IsRewritten (sector_in old (first / 128)) (first % 128) (take n xs) page → HasSame old kept
-    → IsWritten kept rest (first + n) (take (length xs - n) (drop n xs)) → page_of new (first / 128) ≡ Some page
-    → ((other : ℕ) → other ≢ first / 128 → page_of new other ≡ page_of rest other) → IsWritten old new first xs
+    → IsWritten kept rest (first + n) (take (length xs - n) (drop n xs)) → slot_of new (first / 128) ≡ Some page
+    → ((other : ℕ) → other ≢ first / 128 → slot_of new other ≡ slot_of rest other) → IsWritten old new first xs
 written first xs n page old kept rest new count rewritten same behind here others block place within = elim (cases_eq block (first / 128)) [
   | inl at ↦
       let P : ℕ → Type 0 = λ b. sector_in new b place ≡ option_or (run_at first xs (128 * b + place)) (sector_in old b place) in
@@ -66,8 +66,8 @@ written first xs n page old kept rest new count rewritten same behind here other
 ]
 
 -- a page that was put into its place
-pub put_within : (c block : ℕ) (page : PageState) (old new : LayerState) → 128 * block < c → IsWithin c old → page_of new block ≡ Some page
-    → ((other : ℕ) → other ≢ block → page_of new other ≡ page_of old other) → IsWithin c new
+pub put_within : (c block : ℕ) (page : PageState) (old new : LayerState) → 128 * block < c → IsWithin c old → slot_of new block ≡ Some page
+    → ((other : ℕ) → other ≢ block → slot_of new other ≡ slot_of old other) → IsWithin c new
 put_within c block page old new less within here others b some = elim (cases_eq b block) [
   | inl at ↦ rw at less
   | inr other ↦ within b (rw (← others b other) some)

@@ -1,6 +1,6 @@
--- What a chain holds: the contents now and at each live snapshot, the blocks that were written by then, and for which
--- next call room was made. Layers are how it is kept, and no caller sees them.
-use Rattle.std.specs.Prelude.{◌≡◌, ℕ, ◌+◌, ◌-◌, ◌*◌, ◌/◌, ◌%◌, ◌==◌, nat_le, nat_eq, List, [], ◌∷◌, ◌++◌, length, map, filter, replicate, Bool, false, not, ◌&&◌, ◌||◌, Option, Some, None, is_some, is_none, unwrap_or, option_map, Result, Ok, Err, ⊤, if◌then◌else◌}
+-- What a chain holds: the contents now and at each live snapshot, the blocks that were written by
+-- then, and for which next call room was made. Layers are how it is kept, and no caller sees them.
+use Rattle.std.specs.Prelude.{◌≡◌, ℕ, ◌+◌, ◌==◌, nat_le, nat_eq, List, [], ◌∷◌, ◌++◌, filter, Bool, false, not, ◌&&◌, ◌||◌, Option, Some, None, is_some, is_none, option_map, Result, Ok, Err, ⊤, if◌then◌else◌}
 use Rattle.std.specs.List.{find, list_any, range_with_len}
 use Rattle.sector_model.specs.Disk.{Write, after_write, fresh_disk}
 use Rattle.sector_model.specs.Run.{block_count, touches}
@@ -25,7 +25,16 @@ pub record ChainState : Type 0 where
 
 -- a disk that was never written
 abbrev pub fresh : ℕ → ChainState
-fresh c = record { capacity = c; present = fresh_disk c; blocks = []; snapshots = []; free_from = 0; freeze_room = false; merge_room = None }
+fresh c = record {
+  capacity = c;
+  present = fresh_disk c;
+  blocks = [];
+  snapshots =
+      [];
+  free_from = 0;
+  freeze_room = false;
+  merge_room = None;
+}
 
 abbrev pub snapshot_of : ℕ → ChainState → Option Snapshot
 snapshot_of id chain = find (λ s. s.id == id) chain.snapshots
@@ -37,21 +46,36 @@ contents_of (Some id) chain = option_map (λ s. s.contents) (snapshot_of id chai
 
 -- the blocks and those that a write touches
 abbrev pub with_touched : ℕ → Write → List ℕ → List ℕ
-with_touched c w blocks = filter (λ b. list_any (nat_eq b) blocks || touches b w) (range_with_len 0 (block_count c))
+with_touched c w blocks =
+    filter (λ b. list_any (nat_eq b) blocks || touches b w) (range_with_len 0 (block_count c))
 
 abbrev pub after_writing : Write → ChainState → ChainState
-after_writing w chain = record chain { present = after_write chain.present w; blocks = with_touched chain.capacity w chain.blocks; merge_room = None }
+after_writing w chain = record chain {
+  present = after_write chain.present w;
+  blocks =
+      with_touched chain.capacity w chain.blocks;
+  merge_room = None;
+}
 
 abbrev pub after_freezing : ℕ → ChainState → ChainState
 after_freezing id chain = record chain {
-  snapshots = chain.snapshots ++ record { id = id; contents = chain.present; blocks = chain.blocks } ∷ [];
+  snapshots = chain.snapshots ++ record {
+    id = id;
+    contents = chain.present;
+    blocks =
+        chain.blocks;
+  } ∷ [];
   free_from = id + 1;
   freeze_room = false;
   merge_room = None;
 }
 
 abbrev pub after_merging : ℕ → ChainState → ChainState
-after_merging id chain = record chain { snapshots = filter (λ s. not (s.id == id)) chain.snapshots; merge_room = None }
+after_merging id chain = record chain {
+  snapshots =
+      filter (λ s. not (s.id == id)) chain.snapshots;
+  merge_room = None;
+}
 
 -- `count` sectors from `first` on are some, and lie within the disk
 abbrev pub is_within : ChainState → (first count : ℕ) → Bool
@@ -65,7 +89,8 @@ abbrev pub snapshot_refusal : ChainState → ℕ → Option ChainRefused
 snapshot_refusal chain id = if is_some (snapshot_of id chain) then None else Some UnknownSnap
 
 abbrev pub read_refusal : ChainState → Option ℕ → (first count : ℕ) → Option ChainRefused
-read_refusal chain id first count = if is_none (contents_of id chain) then Some UnknownSnap else write_refusal chain first count
+read_refusal chain id first count =
+    if is_none (contents_of id chain) then Some UnknownSnap else write_refusal chain first count
 
 -- a refused call changes nothing; after want of memory the room for a merge is gone
 abbrev pub IsKeptAfter : {T : Type 0} → Result T ChainRefused → (old new : ChainState) → Type 0

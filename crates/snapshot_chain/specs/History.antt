@@ -1,5 +1,5 @@
 -- What happened to a disk, step by step, and what a chain that stands for it holds.
-use Rattle.std.specs.Prelude.{◌≡◌, ℕ, ◌+◌, ◌<◌, ◌≤◌, ◌==◌, ◌↔◌, List, [], ◌∷◌, ◌++◌, length, take, Bool, true, false, Option, Some, None, is_some, IfSome, if◌then◌else◌}
+use Rattle.std.specs.Prelude.{◌≡◌, ℕ, ◌<◌, ◌≤◌, ◌==◌, ◌↔◌, List, [], ◌∷◌, ◌++◌, take, Bool, true, false, Option, Some, None, is_some, IfSome, if◌then◌else◌}
 use Rattle.std.specs.List.{fold, filter_map, list_any, position_or_len}
 use Rattle.sector_model.specs.Disk.{Write, fold_writes}
 use Rattle.sector_model.specs.Run.{touched_blocks, areas_of}
@@ -68,4 +68,5 @@ pub record StandsFor (chain : ChainState) (history : List Step) : Type 0 where
 
 -- whatever the old value stood for, the new one stands for with one step more
 abbrev pub Takes : Step → (old new : ChainState) → Type 0
-Takes step old new = (history : List Step) → StandsFor old history → StandsFor new (history ++ step ∷ [])
+Takes step old new = (history : List Step) → StandsFor old history
+    → StandsFor new (history ++ step ∷ [])

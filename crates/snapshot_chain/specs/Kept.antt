@@ -1,5 +1,5 @@
 -- How a chain is kept: layers, and the ids under which all but the last were frozen.
-use Rattle.std.specs.Prelude.{◌≡◌, ℕ, ◌+◌, ◌<◌, List, [], ◌∷◌, length, slice_get, nat_eq, Bool, true, false, Option, Some, None, IfSome}
+use Rattle.std.specs.Prelude.{◌≡◌, ℕ, ◌+◌, ◌<◌, List, [], ◌∷◌, length, nat_eq, Bool, true, false, Option, Some, IfSome}
 use Rattle.std.specs.List.{list_any, position, AllByRecursion}
 use Rattle.std.specs.Vec.{vec_len, vec_capacity}
 use Rattle.std.specs.declared.vec.Vec.{Vec}
@@ -8,7 +8,8 @@ use Rattle.snapshot_chain.specs.Chain.{ChainState}
 use Rattle.snapshot_chain.specs.Layer.{LayerState, IsWithin, HasPlacesFor}
 use Rattle.snapshot_chain.specs.Layers.{contents_in, blocks_in, snapshots_in, layer_at}
 
-abbrev pub state_of : (c : ℕ) (layers : List LayerState) (ids : List ℕ) (free_from : ℕ) (freeze_room : Bool) (merge_room : Option ℕ) → ChainState
+abbrev pub state_of : (c : ℕ) (layers : List LayerState) (ids : List ℕ) (free_from : ℕ)
+    (freeze_room : Bool) (merge_room : Option ℕ) → ChainState
 state_of c layers ids free_from freeze_room merge_room = record {
   capacity = c;
   present = contents_in c layers;
@@ -26,11 +27,14 @@ AreIds bound (id ∷ ids) = (id < bound) × (list_any (nat_eq id) ids ≡ false)
 
 -- the layer of a snapshot has its places in the next one
 abbrev pub HasMergeRoom : List LayerState → List ℕ → ℕ → Type 0
-HasMergeRoom layers ids id = (index : ℕ) × (position (nat_eq id) ids ≡ Some index) × HasPlacesFor (layer_at layers index) (layer_at layers (index + 1))
+HasMergeRoom layers ids id = (index : ℕ) × (position (nat_eq id) ids ≡ Some index)
+    × HasPlacesFor (layer_at layers index) (layer_at layers (index + 1))
 
-pub record IsKept (c : ℕ) (layers : Vec LayerState Global) (ids : Vec ℕ Global) (free_from : ℕ) (freeze_room : Bool) (merge_room : Option ℕ) : Type 0 where
+pub record IsKept (c : ℕ) (layers : Vec LayerState Global) (ids : Vec ℕ Global)
+    (free_from : ℕ) (freeze_room : Bool) (merge_room : Option ℕ) : Type 0 where
   pub long : length layers.items ≡ length ids.items + 1
   pub distinct : AreIds free_from ids.items
   pub within : AllByRecursion (IsWithin c) layers.items
-  pub can_freeze : freeze_room ≡ true → (vec_len ids < vec_capacity ids) × (vec_len layers < vec_capacity layers)
+  pub can_freeze : freeze_room ≡ true → (vec_len ids < vec_capacity ids)
+      × (vec_len layers < vec_capacity layers)
   pub can_merge : IfSome merge_room (HasMergeRoom layers.items ids.items)

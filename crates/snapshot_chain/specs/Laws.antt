@@ -6,16 +6,20 @@ use Rattle.snapshot_chain.specs.History.{Step, StandsFor, present, frozen, alloc
 
 pub record HoldsTheFold (chain : ChainState) (history : List Step) : Type 0 where
   pub now : contents_of None chain ≡ Some (present chain.capacity history)
-  pub live : (s : ℕ) → is_live s history ≡ true → contents_of (Some s) chain ≡ Some (frozen chain.capacity s history)
+  pub live : (s : ℕ) → is_live s history ≡ true
+      → contents_of (Some s) chain ≡ Some (frozen chain.capacity s history)
   pub areas : (s : ℕ) → is_live s history ≡ true
-      → IsSomeAnd (snapshot_of s chain) (λ snapshot. areas_of chain.capacity snapshot.blocks ≡ allocated chain.capacity s history)
+      → IsSomeAnd (snapshot_of s chain) (λ snapshot. areas_of chain.capacity snapshot.blocks
+      ≡ allocated chain.capacity s history)
   pub gone : (s : ℕ) → is_live s history ≡ false → IsNone (snapshot_of s chain)
 
 abbrev pub ReadsTheFold : Type 0
-ReadsTheFold = (chain : ChainState) (history : List Step) → StandsFor chain history → HoldsTheFold chain history
+ReadsTheFold = (chain : ChainState) (history : List Step) → StandsFor chain history
+    → HoldsTheFold chain history
 
 -- the room for later calls is no part of what a chain stands for
 abbrev pub RoomIsNoPart : Type 0
-RoomIsNoPart = (chain : ChainState) (history : List Step) (freeze_room : Bool) (merge_room : Option ℕ)
+RoomIsNoPart =
+    (chain : ChainState) (history : List Step) (freeze_room : Bool) (merge_room : Option ℕ)
     → StandsFor chain history
     → StandsFor (record chain { freeze_room = freeze_room; merge_room = merge_room }) history

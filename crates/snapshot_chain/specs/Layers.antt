@@ -1,5 +1,5 @@
 -- What a list of layers holds, the oldest of them first.
-use Rattle.std.specs.Prelude.{◌≡◌, ℕ, ◌+◌, ◌/◌, ◌%◌, List, [], ◌∷◌, ◌++◌, map, filter, slice_set, slice_index_or, Bool, Option, Some, None, is_some, unwrap_or}
+use Rattle.std.specs.Prelude.{◌≡◌, ℕ, ◌+◌, ◌/◌, ◌%◌, List, [], ◌∷◌, ◌++◌, map, filter, slice_set, slice_index_or, Bool, Option, None, is_some, unwrap_or}
 use Rattle.std.specs.Option.{option_or}
 use Rattle.std.specs.List.{list_any, range_with_len, remove}
 use Rattle.sector_model.specs.Sector.{zero_sector}
@@ -11,7 +11,8 @@ use Rattle.snapshot_chain.specs.Layer.{LayerState, sector_in, IsWithin, HasSameO
 -- the newest layer's sector, else what the layers below have
 abbrev pub found : List LayerState → ℕ → ℕ → Option Sector
 found [] block place = None
-found (layer ∷ layers) block place = option_or (found layers block place) (sector_in layer block place)
+found (layer ∷ layers) block place =
+    option_or (found layers block place) (sector_in layer block place)
 
 -- sector s of the disk, zero where no layer has it
 abbrev pub sector_found : List LayerState → ℕ → Sector
@@ -22,20 +23,28 @@ contents_in c layers = map (sector_found layers) (range_with_len 0 c)
 
 -- a layer has a sector of the block
 abbrev pub has_found : List LayerState → ℕ → Bool
-has_found layers block = list_any (λ place. is_some (found layers block place)) (range_with_len 0 128)
+has_found layers block =
+    list_any (λ place. is_some (found layers block place)) (range_with_len 0 128)
 
 -- the blocks of a disk of c sectors of which a layer has a sector, ascending
 abbrev pub blocks_in : ℕ → List LayerState → List ℕ
 blocks_in c layers = filter (has_found layers) (range_with_len 0 (block_count c))
 
 abbrev pub snapshot_in : ℕ → ℕ → List LayerState → Snapshot
-snapshot_in c id layers = record { id = id; contents = contents_in c layers; blocks = blocks_in c layers }
+snapshot_in c id layers = record {
+  id = id;
+  contents = contents_in c layers;
+  blocks =
+      blocks_in c layers;
+}
 
 -- the snapshots: each id with the layers up to the one that was frozen under it
-abbrev pub snapshots_in : ℕ → (below : List LayerState) (ids : List ℕ) (layers : List LayerState) → List Snapshot
+abbrev pub snapshots_in : ℕ → (below : List LayerState) (ids : List ℕ) (layers : List LayerState)
+    → List Snapshot
 snapshots_in c below [] layers = []
 snapshots_in c below (id ∷ ids) [] = []
-snapshots_in c below (id ∷ ids) (layer ∷ layers) = snapshot_in c id (below ++ layer ∷ []) ∷ snapshots_in c (below ++ layer ∷ []) ids layers
+snapshots_in c below (id ∷ ids) (layer ∷ layers) =
+    snapshot_in c id (below ++ layer ∷ []) ∷ snapshots_in c (below ++ layer ∷ []) ids layers
 
 abbrev pub layer_at : List LayerState → ℕ → LayerState
 layer_at layers index = slice_index_or layers index []
@@ -44,7 +53,8 @@ layer_at layers index = slice_index_or layers index []
 pub record RaisedAt (index : ℕ) (old new : List LayerState) : Type 0 where
   pub others : new ≡ slice_set old (index + 1) (layer_at new (index + 1))
   pub same : HasSameOver (layer_at old index) (layer_at old (index + 1)) (layer_at new (index + 1))
-  pub within : (c : ℕ) → IsWithin c (layer_at old index) → IsWithin c (layer_at old (index + 1)) → IsWithin c (layer_at new (index + 1))
+  pub within : (c : ℕ) → IsWithin c (layer_at old index) → IsWithin c (layer_at old (index + 1))
+      → IsWithin c (layer_at new (index + 1))
 
 -- the layer at the index and the next one are one
 pub record MergedAt (index : ℕ) (old new : List LayerState) : Type 0 where

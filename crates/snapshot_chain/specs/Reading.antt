@@ -10,7 +10,8 @@ layers_seen None ids = Some (length ids + 1)
 layers_seen (Some id) ids = option_map (λ index. index + 1) (position (nat_eq id) ids)
 
 -- what is found stays; else the page's sector is taken, where it has one
-abbrev pub TakesMissing : (sector : Option Sector) (was : Bool) (old : Option Sector) (now : Bool) (new : Option Sector) → Type 0
+abbrev pub TakesMissing : (sector : Option Sector) (was : Bool) (old : Option Sector)
+    (now : Bool) (new : Option Sector) → Type 0
 TakesMissing sector true old now new = (now ≡ true) × (new ≡ old)
 TakesMissing (Some sector) false old now new = (now ≡ true) × (new ≡ Some sector)
 TakesMissing None false old now new = (now ≡ false) × (new ≡ old)

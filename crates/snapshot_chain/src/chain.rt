@@ -72,9 +72,11 @@ impl Model for Chain {
 
     ghost Value = { ChainState };
 
-    ghost view = { λ a. state_of a.capacity a.layers.items a.ids.items a.free_from a.freeze_room a.merge_room };
+    ghost view = { λ a.
+        state_of a.capacity a.layers.items a.ids.items a.free_from a.freeze_room a.merge_room };
 
-    ghost invariant = { λ a. IsKept a.capacity a.layers a.ids a.free_from a.freeze_room a.merge_room };
+    ghost invariant = { λ a.
+        IsKept a.capacity a.layers a.ids a.free_from a.freeze_room a.merge_room };
 }
 
 impl Chain {
@@ -99,11 +101,15 @@ impl Chain {
         })
     }
 
-    /// Writes sectors from sector `first` on. `Range` comes where there are none, or they pass the capacity.
+    /// Writes sectors from sector `first` on. `Range` comes where there are none, or they pass the
+    /// capacity.
     pub fn write(&mut self, first: u64, sectors: &[Sector]) -> Result<(), ChainRefused>
-        ensures refused { IsRefusedOr (write_refusal self.old first (length sectors.now)) ChainRefused.NoMemory result }
-        ensures ok { OnOk result (self.new ≡ after_writing (record { first = first; sectors = sectors.now }) self.old) }
-        ensures stands { OnOk result (Takes (Written (record { first = first; sectors = sectors.now })) self.old self.new) }
+        ensures refused { IsRefusedOr (write_refusal self.old first (length sectors.now))
+            ChainRefused.NoMemory result }
+        ensures ok { OnOk result
+            (self.new ≡ after_writing (record { first = first; sectors = sectors.now }) self.old) }
+        ensures stands { OnOk result
+            (Takes (Written (record { first = first; sectors = sectors.now })) self.old self.new) }
         ensures err { IsKeptAfter result self.old self.new }
     {
         if !self.is_within(first, sectors.len()) {
@@ -128,8 +134,8 @@ impl Chain {
         Ok(())
     }
 
-    /// Keeps what the disk holds now as a snapshot. Its id is above all earlier ones. It answers only want of
-    /// memory, and not after a `reserve_freeze` since the last change.
+    /// Keeps what the disk holds now as a snapshot. Its id is above all earlier ones. It answers
+    /// only want of memory, and not after a `reserve_freeze` since the last change.
     pub fn freeze(&mut self, id: u32) -> Result<(), NoMemory>
         requires { self.old.free_from ≤ id }
         ensures ok { OnOk result (self.new ≡ after_freezing id self.old) }
@@ -176,8 +182,9 @@ impl Chain {
         Ok(())
     }
 
-    /// Gives a snapshot up: its layer goes into the next newer one, whose sectors win. `UnknownSnap` comes where
-    /// it isn't live. It takes no memory after a `reserve_merge` of this id since the last change.
+    /// Gives a snapshot up: its layer goes into the next newer one, whose sectors win.
+    /// `UnknownSnap` comes where it isn't live. It takes no memory after a `reserve_merge` of this
+    /// id since the last change.
     pub fn merge(&mut self, id: u32) -> Result<(), ChainRefused>
         ensures refused { IsRefusedOr (snapshot_refusal self.old id) ChainRefused.NoMemory result }
         ensures ok { OnOk result (self.new ≡ after_merging id self.old) }
@@ -205,9 +212,9 @@ impl Chain {
         self.merge_room = None;
     }
 
-    /// Reads sectors from sector `first` on, of a snapshot or, without one, of what the disk holds now.
-    /// `UnknownSnap` comes where the snapshot isn't live, then `Range` where the buffer is empty or the range
-    /// passes the capacity. It takes no memory.
+    /// Reads sectors from sector `first` on, of a snapshot or, without one, of what the disk holds
+    /// now. `UnknownSnap` comes where the snapshot isn't live, then `Range` where the buffer is
+    /// empty or the range passes the capacity. It takes no memory.
     pub fn read(&self, id: Option<u32>, first: u64, buf: &mut [Sector]) -> Result<(), ChainRefused>
         ensures refused { IsRefusedBy (read_refusal self.now id first (length buf.old)) result }
         ensures ok { OnOk result (IfSome (contents_of id self.now)
@@ -237,8 +244,8 @@ impl Chain {
         self.read_steps(id, first, buf, &mut steps)
     }
 
-    /// Reads as `read` does, and counts the pages that it looks up: for each block that the range meets at most
-    /// one of each layer, of which there is one more than live snapshots.
+    /// Reads as `read` does, and counts the pages that it looks up: for each block that the range
+    /// meets at most one of each layer, of which there is one more than live snapshots.
     pub fn read_steps<L: Ledger>(
         &self,
         id: Option<u32>,
@@ -251,7 +258,9 @@ impl Chain {
             (λ contents. buf.new ≡ slice_range contents first (first + length buf.old))) }
         ensures err { OnErr result (buf.new ≡ buf.old) }
         ensures uncounted { OnErr result (steps.new ≡ steps.old) }
-        ensures cost { steps.new ≤ steps.old + (length self.now.snapshots + 1) * blocks_met first (length buf.old) }
+        ensures counted { steps.old ≤ steps.new }
+        ensures cost { steps.new
+            ≤ steps.old + (length self.now.snapshots + 1) * blocks_met first (length buf.old) }
     {
         let Some(seen) = layers_seen(self.ids.as_slice(), id) else {
             return Err(ChainRefused::UnknownSnap);
@@ -263,8 +272,8 @@ impl Chain {
         Ok(())
     }
 
-    /// The areas of the blocks that were written before a snapshot was frozen. `UnknownSnap` comes where it
-    /// isn't live.
+    /// The areas of the blocks that were written before a snapshot was frozen. `UnknownSnap` comes
+    /// where it isn't live.
     pub fn allocated(&self, id: u32) -> Result<Runs, ChainRefused>
         ensures refused { IsRefusedOr (snapshot_refusal self.now id) ChainRefused.NoMemory result }
         ensures ok { IfOk result (λ runs. IfSome (snapshot_of id self.now)

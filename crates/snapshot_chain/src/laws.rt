@@ -2,7 +2,8 @@
 //! does nothing.
 ghost use Rattle.snapshot_chain.specs.Laws.{ReadsTheFold, RoomIsNoPart};
 
-/// Reads give what the history leaves, now and at each live snapshot, and no other snapshot is live.
+/// Reads give what the history leaves, now and at each live snapshot, and no other snapshot is
+/// live.
 pub fn reads_the_fold()
     ensures { ReadsTheFold }
 {}

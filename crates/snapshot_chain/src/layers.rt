@@ -14,7 +14,8 @@ use std::alloc::Global;
 use std::collections::BTreeSet;
 use std::mem;
 
-/// Makes a place in the next newer layer for each page of the layer at an index. What is read stays.
+/// Makes a place in the next newer layer for each page of the layer at an index. What is read
+/// stays.
 pub(crate) fn make_places_above(
     alloc: Global,
     layers: &mut [Layer],
@@ -22,7 +23,8 @@ pub(crate) fn make_places_above(
 ) -> Result<(), NoMemory>
     requires { index + 1 < length layers.old }
     ensures raised { RaisedAt index layers.old layers.new }
-    ensures places { OnOk result (HasPlacesFor (layer_at layers.new index) (layer_at layers.new (index + 1))) }
+    ensures places { OnOk result
+        (HasPlacesFor (layer_at layers.new index) (layer_at layers.new (index + 1))) }
 {
     let lower = mem::replace(&mut layers[index], Layer::new(alloc));
     let made = layers[index + 1].make_places(alloc, &lower);
@@ -33,7 +35,8 @@ pub(crate) fn make_places_above(
 /// Takes the layer at an index out, and its pages go into the next newer one.
 pub(crate) fn merge_down(layers: &mut Vec<Layer>, index: usize)
     requires within { index + 1 < length layers.old.items }
-    requires places { HasPlacesFor (layer_at layers.old.items index) (layer_at layers.old.items (index + 1)) }
+    requires places { HasPlacesFor (layer_at layers.old.items index)
+        (layer_at layers.old.items (index + 1)) }
     ensures merged { MergedAt index layers.old.items layers.new.items }
     ensures capacity { vec_capacity layers.new ≡ vec_capacity layers.old }
 {
@@ -44,7 +47,8 @@ pub(crate) fn merge_down(layers: &mut Vec<Layer>, index: usize)
 /// The numbers of the blocks of which a layer has a sector, ascending.
 pub(crate) fn blocks_of(alloc: Global, layers: &[Layer]) -> Result<Vec<u64>, NoMemory>
     ensures ascending { IfOk result (λ blocks. IsStrictlyIncreasing blocks.items) }
-    ensures members { IfOk result (λ blocks. (b : ℕ) → list_any (nat_eq b) blocks.items ≡ has_found layers.now b) }
+    ensures members { IfOk result (λ blocks. (b : ℕ)
+        → list_any (nat_eq b) blocks.items ≡ has_found layers.now b) }
 {
     let mut blocks = BTreeSet::new(alloc);
     for layer in layers {

@@ -1,8 +1,10 @@
-//! A chain of snapshots of one disk: what the disk holds now, and what it held at each live snapshot.
+//! A chain of snapshots of one disk: what the disk holds now, and what it held at each live
+//! snapshot.
 //!
-//! Each freeze closes a layer and opens an empty one above it. A layer has pages for the blocks of 128
-//! sectors that were written while it was open, and a page has the written sectors alone. What is read
-//! is the newest sector among the layers that the snapshot sees, or zero where none has it.
+//! Each freeze closes a layer and opens an empty one above it. A layer has pages for the blocks of
+//! 128 sectors that were written while it was open, and a page has the written sectors alone; after
+//! a reserve for a merge, those of the layer below too. What is read is the newest sector among the
+//! layers that the snapshot sees, or zero where none has it.
 #![tactic(auto)]
 
 mod chain;

@@ -19,7 +19,9 @@ pub(crate) fn read_layers<L: Ledger>(
     steps: &mut Steps<L>,
 )
     requires { first + length buf.old < 2 ^ 64 }
-    ensures sectors { (k : ℕ) → k < length buf.old → slice_get buf.new k ≡ Some (sector_found layers.now (first + k)) }
+    ensures sectors { (k : ℕ) → k < length buf.old
+        → slice_get buf.new k ≡ Some (sector_found layers.now (first + k)) }
+    ensures counted { steps.old ≤ steps.new }
     ensures cost { steps.new ≤ steps.old + length layers.now * blocks_met first (length buf.old) }
 {
     let end = first + buf.len() as u64;
@@ -42,7 +44,9 @@ fn read_block<L: Ledger>(
     steps: &mut Steps<L>,
 )
     requires { place + length buf.old ≤ 128 }
-    ensures sectors { (k : ℕ) → k < length buf.old → slice_get buf.new k ≡ Some (unwrap_or (found layers.now block (place + k)) zero_sector) }
+    ensures sectors { (k : ℕ) → k < length buf.old
+        → slice_get buf.new k ≡ Some (unwrap_or (found layers.now block (place + k)) zero_sector) }
+    ensures counted { steps.old ≤ steps.new }
     ensures cost { steps.new ≤ steps.old + length layers.now }
 {
     let mut is_found = [false; PAGE_SECTORS as usize];
@@ -61,7 +65,8 @@ fn read_block<L: Ledger>(
 fn clear(buf: &mut [Sector], is_found: &mut [bool])
     requires { length is_found.old ≡ length buf.old }
     ensures same { length is_found.new ≡ length buf.new }
-    ensures read { (k : ℕ) → k < length buf.old → IsRead None (slice_index_or is_found.new k false) (slice_get buf.new k) }
+    ensures read { (k : ℕ) → k < length buf.old
+        → IsRead None (slice_index_or is_found.new k false) (slice_get buf.new k) }
 {
     let zero = Sector::filled(0);
     for k in 0..buf.len() {
@@ -72,7 +77,8 @@ fn clear(buf: &mut [Sector], is_found: &mut [bool])
 
 /// Whether nothing is left to be found.
 fn all_found(is_found: &[bool]) -> bool
-    ensures { OnTrue result ((k : ℕ) → k < length is_found.now → slice_index_or is_found.now k false ≡ true) }
+    ensures { OnTrue result ((k : ℕ) → k < length is_found.now
+        → slice_index_or is_found.now k false ≡ true) }
 {
     is_found.iter().all(|found| *found)
 }
@@ -82,7 +88,8 @@ fn take_missing(page: &Page128, place: u64, buf: &mut [Sector], is_found: &mut [
     requires fits { place + length buf.old ≤ 128 }
     requires same { length is_found.old ≡ length buf.old }
     ensures { (k : ℕ) → k < length buf.old → TakesMissing (sector_at page.now (place + k))
-        (slice_index_or is_found.old k false) (slice_get buf.old k) (slice_index_or is_found.new k false) (slice_get buf.new k) }
+        (slice_index_or is_found.old k false) (slice_get buf.old k)
+        (slice_index_or is_found.new k false) (slice_get buf.new k) }
 {
     for k in 0..buf.len() {
         if !is_found[k]

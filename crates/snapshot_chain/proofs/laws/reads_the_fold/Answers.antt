@@ -1,11 +1,11 @@
 -- By cases on the snapshot that the chain has.
-use Rattle.std.proofs.Common.{◌≡◌, ℕ, List, Bool, true, false, Option, Some, None, is_some, IfSome, IsNone, sym, ap, ◌∙◌, refl}
+use Rattle.std.proofs.Common.{◌≡◌, ℕ, List, true, false, Option, Some, None, is_some, IfSome, IsNone, sym, ap, ◌∙◌, refl}
 use Rattle.std.proofs.lemmas.Bool.{false≢true}
 use Rattle.std.specs.Option.{option_map, IsSomeAnd}
 use Rattle.sector_model.specs.Run.{areas_of}
 use Rattle.sector_model.specs.declared.sector.Sector.{Sector}
-use Rattle.snapshot_chain.specs.Chain.{ChainState, Snapshot, snapshot_of}
-use Rattle.snapshot_chain.specs.History.{Step, StandsFor, IsFrozenAs, frozen, allocated}
+use Rattle.snapshot_chain.specs.Chain.{Snapshot, snapshot_of}
+use Rattle.snapshot_chain.specs.History.{Step, IsFrozenAs, frozen, allocated}
 use Rattle.snapshot_chain.proofs.laws.reads_the_fold.Goals as goal
 
 contents_at : (c s : ℕ) (history : List Step) (o : Option Snapshot) → is_some o ≡ true → IfSome o (IsFrozenAs c s history) → option_map (λ x. x.contents) o ≡ Some (frozen c s history)

@@ -1,7 +1,6 @@
 -- The set of the blocks, and its list.
-use Rattle.std.proofs.Common.{◌≡◌, ℕ, ◌||◌, length, take, nat_eq, nat_cmp, List, sym, ap, ◌∙◌, arith}
+use Rattle.std.proofs.Common.{◌||◌, nat_eq, List, sym, ap, ◌∙◌}
 use Rattle.std.specs.List.{list_any}
-use Rattle.std.specs.BTreeSet.{contains}
 use Rattle.std.proofs.lemmas.List.{take_all}
 use Rattle.std.proofs.lemmas.Map.Keys.{IsStrictlyIncreasing-from_sorted}
 use Rattle.snapshot_chain.specs.Layer.{LayerState, has_sector}

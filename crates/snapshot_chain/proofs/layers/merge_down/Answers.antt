@@ -1,6 +1,4 @@
 -- The layer that is taken out, and the one that stands in its place then.
-use Rattle.std.proofs.Common.{◌≡◌, sym}
-use Rattle.snapshot_chain.specs.Layer.{HasPlacesFor}
 use Rattle.snapshot_chain.proofs.LayerSteps.{lower_is, upper_is, merged_at}
 use Rattle.snapshot_chain.proofs.layers.merge_down.Goals as goal
 

@@ -1,6 +1,5 @@
 -- Layer by layer, from the newest down.
-use Rattle.std.proofs.Common.{◌≡◌, ℕ, ◌+◌, ◌-◌, ◌<◌, ◌≤◌, length, sym, ap, ◌∙◌, arith, drop, get_or, false}
-use Rattle.std.specs.List.{slice_get}
+use Rattle.std.proofs.Common.{◌≡◌, ◌+◌, ◌<◌, length, sym, arith}
 use Rattle.snapshot_chain.specs.Layers.{found}
 use Rattle.snapshot_chain.proofs.LayersRead.{none_yet, one_more, none_more, all_read, found_early}
 use Rattle.snapshot_chain.proofs.reading.read_block.Goals as goal
@@ -10,6 +9,7 @@ loop-left-init g c = record {
   bound = omega arith;
   read = λ k less. none_yet c.args.layers.now c.args.block (c.args.place + k) _ _ (c.clear.ensures.read k (omega (arith, less)));
   marks = c.clear.ensures.same;
+  counted = omega arith;
   cost = omega arith;
 }
 
@@ -19,6 +19,7 @@ loop-left-preserved-in-Some g c = record {
   read = λ k less. one_more c.args.layers.now c.loop-left.left c.args.block (c.args.place + k) c.index-layers-left.result c.in-Some.page.now _ _ _ _ c.loop-left-test.true c.loop-left.invariant.bound
       c.index-layers-left.is (sym c.in-Some.ensures.page) (c.loop-left.invariant.read k (omega (arith, less, c.take_missing.auto.buf))) (c.take_missing.ensures k (omega (arith, less, c.take_missing.auto.buf)));
   marks = omega (arith, c.take_missing.auto.buf, c.take_missing.auto.is_found, c.loop-left.invariant.marks);
+  counted = omega (arith, c.page.ensures.step, c.loop-left.invariant.counted);
   cost = omega (arith, c.page.ensures.step, c.loop-left.invariant.cost, c.loop-left-test.true);
 }
 
@@ -28,6 +29,7 @@ loop-left-preserved g c = record {
   read = λ k less. none_more c.args.layers.now c.loop-left.left c.args.block (c.args.place + k) c.index-layers-left.result _ _ c.loop-left-test.true c.loop-left.invariant.bound
       c.index-layers-left.is (sym c.in_default.ensures.page) (c.loop-left.invariant.read k less);
   marks = c.loop-left.invariant.marks;
+  counted = omega (arith, c.page.ensures.step, c.loop-left.invariant.counted);
   cost = omega (arith, c.page.ensures.step, c.loop-left.invariant.cost, c.loop-left-test.true);
 }
 

@@ -1,5 +1,5 @@
 -- The places before k are done, and those from k on are as they were.
-use Rattle.std.proofs.Common.{◌≡◌, ℕ, ◌+◌, ◌<◌, ◌≤◌, length, get_or, false}
+use Rattle.std.proofs.Common.{◌≡◌, ℕ, ◌+◌, ◌<◌, ◌≤◌, get_or, false}
 use Rattle.std.specs.List.{slice_get}
 use Rattle.snapshot_chain.specs.Page128.{sector_at}
 use Rattle.snapshot_chain.specs.Reading.{TakesMissing}

@@ -1,7 +1,7 @@
 -- An empty layer above the others leaves what they hold.
-use Rattle.std.proofs.Common.{◌≡◌, sym, ◌∙◌, ℕ, ◌+◌, ◌∷◌, [], ◌++◌, length, arith, length-append, ◌≤◌}
+use Rattle.std.proofs.Common.{◌≡◌, ◌∷◌, [], ◌++◌, arith, length-append, ◌≤◌}
 use Rattle.std.proofs.lemmas.Bool.{false≢true}
-use Rattle.snapshot_chain.specs.Layer.{LayerState, IsWithin}
+use Rattle.snapshot_chain.specs.Layer.{IsWithin}
 use Rattle.snapshot_chain.proofs.States.{frozen_state}
 use Rattle.snapshot_chain.proofs.Keeping.{ids-push, all-push}
 use Rattle.snapshot_chain.proofs.chain.Chain.add_layer.Goals as goal

@@ -1,5 +1,5 @@
 -- The blocks of the layers that the snapshot sees.
-use Rattle.std.proofs.Common.{◌≡◌, ℕ, ◌+◌, ◌<◌, List, length, take, nat_eq, Option, Some, None, Ok, Bool, true, false, is_some, sym, ap, ◌∙◌, refl, arith}
+use Rattle.std.proofs.Common.{◌≡◌, ◌+◌, List, take, nat_eq, Some, None, is_some, sym, ap, ◌∙◌}
 use Rattle.std.specs.List.{position}
 use Rattle.sector_model.specs.declared.run.Runs.{Runs}
 use Rattle.sector_model.specs.Run.{areas_of}

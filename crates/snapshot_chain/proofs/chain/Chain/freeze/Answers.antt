@@ -1,5 +1,5 @@
 -- With the room or without, the same contents are frozen.
-use Rattle.std.proofs.Common.{◌≡◌, sym, ap, ◌∙◌, subst, refl}
+use Rattle.std.proofs.Common.{◌≡◌, sym, subst}
 use Rattle.snapshot_chain.specs.Chain.{ChainState, after_freezing}
 use Rattle.snapshot_chain.specs.History.{Takes, Frozen}
 use Rattle.snapshot_chain.proofs.Histories.{stands_frozen}

@@ -1,7 +1,6 @@
 -- The snapshot's layer goes into the next one.
-use Rattle.std.proofs.Common.{◌≡◌, ℕ, ◌+◌, ◌<◌, List, length, nat_eq, Option, Some, None, is_some, sym, ap, ◌∙◌, refl, arith}
+use Rattle.std.proofs.Common.{◌≡◌, ℕ, ◌+◌, ◌<◌, List, length, nat_eq, Some, None, is_some, sym, ap, ◌∙◌, arith}
 use Rattle.std.specs.List.{position}
-use Rattle.snapshot_chain.specs.Layer.{IsWithin}
 use Rattle.snapshot_chain.proofs.States.{at_position, live_in}
 use Rattle.snapshot_chain.proofs.Keeping.{ids-remove}
 use Rattle.snapshot_chain.proofs.LayerSteps.{merged_long, merged_within, merged_holds, length-remove, no_room, room_place}

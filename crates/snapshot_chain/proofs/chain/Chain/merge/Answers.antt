@@ -1,5 +1,5 @@
 -- With the room or without, the same snapshots.
-use Rattle.std.proofs.Common.{◌≡◌, Ok, is_some, true, sym, ap, ◌∙◌, subst, refl}
+use Rattle.std.proofs.Common.{◌≡◌, Ok, is_some, true, sym, subst}
 use Rattle.snapshot_chain.specs.Chain.{ChainState, snapshot_of, after_merging}
 use Rattle.snapshot_chain.specs.History.{Takes, Merged}
 use Rattle.snapshot_chain.proofs.Histories.{stands_merged}

@@ -1,8 +1,5 @@
 -- One empty layer holds nothing.
-use Rattle.std.proofs.Common.{◌≡◌, [], ◌∷◌, ◌++◌, refl}
-use Rattle.snapshot_chain.specs.Layer.{LayerState}
-use Rattle.snapshot_chain.specs.Chain.{ChainState, fresh}
-use Rattle.snapshot_chain.specs.History.{StandsFor}
+use Rattle.std.proofs.Common.{◌≡◌, [], ◌∷◌, refl}
 use Rattle.snapshot_chain.proofs.States.{fresh_state}
 use Rattle.snapshot_chain.proofs.Histories.{stands_fresh}
 use Rattle.snapshot_chain.proofs.chain.Chain.new.Goals as goal

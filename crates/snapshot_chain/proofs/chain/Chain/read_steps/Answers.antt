@@ -1,11 +1,10 @@
 -- What the layers that are seen hold.
-use Rattle.std.proofs.Common.{◌≡◌, ℕ, ◌+◌, ◌*◌, ◌<◌, ◌≤◌, List, length, take, Option, Some, None, Bool, true, false, sym, ap, ◌∙◌, [], refl, arith, length-take}
+use Rattle.std.proofs.Common.{◌≡◌, ◌+◌, ◌*◌, ◌≤◌, List, length, take, Some, None, sym, ap, ◌∙◌, [], arith, length-take}
 use Rattle.std.proofs.lemmas.Nat.{mul-le}
 use Rattle.std.specs.Option.{option_map}
-use Rattle.sector_model.specs.declared.sector.Sector.{Sector}
 use Rattle.snapshot_chain.specs.Layer.{LayerState}
 use Rattle.snapshot_chain.specs.Layers.{contents_in, sector_found}
-use Rattle.snapshot_chain.specs.Chain.{contents_of, is_within}
+use Rattle.snapshot_chain.specs.Chain.{contents_of}
 use Rattle.snapshot_chain.specs.Reading.{layers_seen, blocks_met}
 use Rattle.snapshot_chain.proofs.States.{contents_seen, seen_few, snapshots_long, read_part}
 use Rattle.snapshot_chain.proofs.LayerSteps.{fits, read_unknown, read_outside, read_taken}

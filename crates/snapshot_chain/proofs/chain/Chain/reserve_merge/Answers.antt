@@ -1,7 +1,6 @@
 -- The layer above the snapshot's is raised; what the chain holds stays.
-use Rattle.std.proofs.Common.{◌≡◌, ℕ, ◌+◌, ◌<◌, List, length, take, drop, ◌++◌, nat_eq, Option, Some, None, Ok, Bool, true, false, is_some, sym, ap, ◌∙◌, refl, arith}
+use Rattle.std.proofs.Common.{◌≡◌, ◌+◌, ◌<◌, length, take, drop, ◌++◌, nat_eq, Some, None, Ok, is_some, sym, ap, ◌∙◌, arith}
 use Rattle.std.specs.List.{position}
-use Rattle.snapshot_chain.specs.Layer.{LayerState}
 use Rattle.snapshot_chain.specs.Layers.{RaisedAt}
 use Rattle.snapshot_chain.specs.Chain.{snapshot_of}
 use Rattle.snapshot_chain.proofs.States.{live_in, at_position}

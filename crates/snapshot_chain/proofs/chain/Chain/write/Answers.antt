@@ -1,8 +1,8 @@
 -- Only the newest layer changes.
-use Rattle.std.proofs.Common.{◌≡◌, ℕ, None, ◌+◌, ◌<◌, ◌≤◌, length, sym, ap, ◌∙◌, subst, arith, length-set, true, refl}
+use Rattle.std.proofs.Common.{◌≡◌, ℕ, None, ◌+◌, ◌<◌, ◌≤◌, length, sym, ◌∙◌, subst, arith, length-set}
 use Rattle.snapshot_chain.specs.Layer.{IsWithin}
 use Rattle.snapshot_chain.specs.Layers.{layer_at}
-use Rattle.snapshot_chain.specs.Chain.{ChainState, after_writing, is_within}
+use Rattle.snapshot_chain.specs.Chain.{ChainState}
 use Rattle.snapshot_chain.specs.History.{Takes, Written}
 use Rattle.sector_model.specs.Disk.{Write}
 use Rattle.snapshot_chain.proofs.States.{written_state, unwritten_state}

@@ -1,6 +1,5 @@
 -- The first block's page, and what the call within wrote behind it.
-use Rattle.std.proofs.Common.{◌≡◌, ◌*◌, ◌/◌, ◌<◌, ◌+◌, length, arith, sym}
-use Rattle.std.proofs.lemmas.Bool.{eqb-false}
+use Rattle.std.proofs.Common.{◌/◌, arith, sym}
 use Rattle.snapshot_chain.proofs.Writes.{written, put_within, some_long, rest_long}
 use Rattle.snapshot_chain.proofs.layer.Layer.+write.Goals as goal
 

@@ -1,8 +1,7 @@
 -- The blocks of the pages so far, of which each has a sector.
-use Rattle.std.proofs.Common.{◌≡◌, ℕ, nat_cmp, nat_eq, map, Bool, ◌||◌, ◌&&◌, not}
+use Rattle.std.proofs.Common.{◌≡◌, ℕ, nat_cmp, nat_eq, ◌||◌, ◌&&◌}
 use Rattle.std.specs.BTreeSet.{contains}
 use Rattle.std.specs.List.{list_any}
-use Rattle.std.specs.Map.Iter.{deref_pair}
 use Rattle.snapshot_chain.specs.Layer.{has_sector}
 use Rattle.snapshot_chain.proofs.layer.Layer.add_blocks.Given as goal
 

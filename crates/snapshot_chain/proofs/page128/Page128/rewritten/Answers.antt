@@ -1,8 +1,8 @@
 -- One place more: what both pages give there is behind the others, or is nothing.
-use Rattle.std.proofs.Common.{◌≡◌, ℕ, ◌+◌, ◌<◌, ◌^◌, sym, ap, ◌∙◌, Option, Some, None, arith}
+use Rattle.std.proofs.Common.{◌≡◌, ℕ, ◌∙◌, Option}
 use Rattle.std.specs.Option.{option_or}
 use Rattle.sector_model.specs.declared.sector.Sector.{Sector}
-use Rattle.snapshot_chain.specs.Page128.{sector_at, run_at, with_sector}
+use Rattle.snapshot_chain.specs.Page128.{sector_at, run_at}
 use Rattle.snapshot_chain.proofs.Masks.{more_some, more_none, next_above, wider}
 use Rattle.snapshot_chain.proofs.page128.Page128.rewritten.Goals as goal
 use Rattle.snapshot_chain.proofs.page128.Page128.rewritten.Goals.{in-Some+in_ok-append, in_default}
