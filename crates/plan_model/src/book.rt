@@ -1,4 +1,4 @@
-//! What is known of machines, by their names, so that each name of a list takes one look-up.
+//! What is known of machines, by their names, so that a name of a list takes a few look-ups only.
 ghost use Rattle.std.specs.Prelude.{◌≡◌, ℕ, List, IfOk, option_map, option_copied, map};
 ghost use Rattle.std.specs.List.{find};
 ghost use Rattle.std.specs.BTreeMap.{get};

@@ -1,6 +1,6 @@
 //! A moment in whole seconds, and the one spelling of it that is read.
 ghost use Rattle.std.specs.Prelude.{◌≡◌, IfOk, Some};
-ghost use Rattle.basics.specs.Refusal.{IsRefusedOr};
+ghost use Rattle.basics.specs.Refusal.{IsRefusedBy};
 ghost use Rattle.plan_model.specs.Moments.{moment_of, moment_refusal, moment_refusal_number};
 
 use crate::reading::{has_shape, is_told, read, seconds_before};
@@ -14,9 +14,10 @@ pub struct Moment(pub u64);
 impl Moment {
     /// The moment that a text tells: `YYYY-MM-DDThh:mm:ssZ`, a date of the years 2000 to 2999 and
     /// a time of day in UTC, as in RFC 3339. Every other text is [`MomentRefused::Form`]: another
-    /// spelling that RFC 3339 has, a date that the calendar lacks, `24:00:00`, a leap second.
+    /// spelling that RFC 3339 has, a date that the calendar lacks, `24:00:00`, a leap second. It
+    /// takes no memory, and never answers [`MomentRefused::NoMemory`].
     pub fn parse(text: &str) -> Result<Moment, MomentRefused>
-        ensures refused { IsRefusedOr (moment_refusal text.now) MomentRefused.NoMemory result }
+        ensures refused { IsRefusedBy (moment_refusal text.now) result }
         ensures told { IfOk result (λ moment. moment_of text.now ≡ Some moment) }
     {
         let text = text.as_bytes();

@@ -14,7 +14,9 @@ use std::alloc::Global;
 /// It takes the number after them. The reasons to refuse are tested in this order, and each tells
 /// the first name of the list to which it applies: [`PlanRefused::NameTaken`],
 /// [`PlanRefused::Empty`], [`PlanRefused::Doubled`] for a name that stands again later,
-/// [`PlanRefused::UnknownVm`], [`PlanRefused::InPlan`], [`PlanRefused::NoTracking`].
+/// [`PlanRefused::UnknownVm`], [`PlanRefused::InPlan`], [`PlanRefused::NoTracking`]. Of several
+/// facts of one name the first counts. Names are looked up in maps, and a refusal keeps a copy of
+/// its name, so [`PlanRefused::NoMemory`] may stand in place of the last four.
 pub fn validate(
     alloc: Global,
     name: &str,
