@@ -2,7 +2,7 @@
 -- else. Numbers are big-endian. `fields_of` is the table of kinds and fields; `KeepsRule` is what a
 -- record owes besides. What has a spelling has one, so the records of a journal are known by its
 -- bytes.
-use Rattle.std.specs.Prelude.{◌≡◌, ◌≢◌, ℕ, ◌+◌, ◌*◌, ◌^◌, ◌≤◌, ◌<◌, Bool, false, List, [], ◌∷◌, ◌++◌, length, map, if◌then◌else◌}
+use Rattle.std.specs.Prelude.{◌≡◌, ◌≢◌, ℕ, ◌+◌, ◌*◌, ◌^◌, ◌≤◌, ◌<◌, Bool, false, List, [], ◌∷◌, ◌++◌, length, map, Option, Some, None, if◌then◌else◌}
 use Rattle.std.specs.List.{concat, sum_by, AllByRecursion}
 use Rattle.std.specs.Int.{w32, w64, w128, to_be_bytes}
 use Rattle.basics.specs.Spelled.{IsName}
@@ -97,6 +97,27 @@ kind_of (OffSeen mig off) = OffSeenKind
 kind_of (FinalSnapTaken mig snap mark place) = FinalSnapTakenKind
 kind_of (CancelAsked mig) = CancelAskedKind
 kind_of (Ended mig how place) = EndedKind
+
+-- the migration whose record it is; the records of plans are of none
+abbrev pub migration_of : Record → Option ℕ
+migration_of (PlanMade plan name interval vms) = None
+migration_of (MigrationStarted mig plan vm disks) = Some mig
+migration_of (Chosen mig way at) = Some mig
+migration_of (SnapTaken mig snap mark) = Some mig
+migration_of (IdsStored mig ids) = Some mig
+migration_of (VolumesMade mig) = Some mig
+migration_of (CheckpointAdded mig previous current last) = Some mig
+migration_of (StageBegun mig disk) = Some mig
+migration_of (StageDone mig disk written) = Some mig
+migration_of (Paused mig at) = Some mig
+migration_of (SnapRemoved mig snap) = Some mig
+migration_of (CutoverSet plan has at) = None
+migration_of (PowerStored mig on) = Some mig
+migration_of (PoweredOff mig) = Some mig
+migration_of (OffSeen mig off) = Some mig
+migration_of (FinalSnapTaken mig snap mark place) = Some mig
+migration_of (CancelAsked mig) = Some mig
+migration_of (Ended mig how place) = Some mig
 
 abbrev pub kind_byte : Kind → ℕ
 kind_byte PlanMadeKind = 1

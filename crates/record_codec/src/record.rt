@@ -2,11 +2,11 @@
 //! record is the first byte of its spelling.
 ghost use Rattle.std.specs.Prelude.{◌≡◌, ◌==◌, IfOk, IfSome};
 ghost use Rattle.std.specs.List.{find};
-ghost use Rattle.record_codec.specs.Record.{kind_of, kind_byte, all_kinds};
+ghost use Rattle.record_codec.specs.Record.{kind_of, kind_byte, all_kinds, migration_of};
 
 use basics::{Name, NoMemory, NumberList};
 use change_id::ChangeId;
-use std::alloc::Global;
+use std::alloc::{AllocError, Global};
 use std::marker::Model;
 
 /// The longest interval between the copies of a plan, in minutes: a week.
@@ -51,10 +51,21 @@ impl IdList {
     }
 }
 
+impl Clone for IdList {
+    ghost use Rattle.std.specs.Prelude.{◌≡◌};
+
+    ghost is_clone = { λ list copy. copy ≡ list };
+
+    fn clone(&self) -> Result<IdList, AllocError> {
+        let ids = self.ids.clone()?;
+        Ok(IdList { ids })
+    }
+}
+
 /// One record of the journal. `mig`, `plan` and `vm` are the numbers of a migration, a plan and a
 /// machine; `snap`, `previous` and `current` those of snapshots, 0 for none; `mark` and `place`
 /// count entries of a machine's log; `at` is a moment in seconds since 1970.
-#[derive(Debug, Drop)]
+#[derive(Debug, Clone, Drop)]
 pub enum Record {
     /// A plan of these machines was made, with this interval in minutes between copies, 1 to
     /// [`MAX_INTERVAL`].
@@ -238,6 +249,25 @@ impl Record {
             PlanMade MigrationStarted Chosen SnapTaken IdsStored VolumesMade CheckpointAdded
             StageBegun StageDone Paused SnapRemoved CutoverSet PowerStored PoweredOff OffSeen
             FinalSnapTaken CancelAsked Ended
+        }
+    }
+
+    /// The number of the migration whose record it is. None for a plan's record.
+    pub fn migration(&self) -> Option<u32>
+        ensures { result ≡ migration_of self.now }
+    {
+        macro_rules! migrations {
+            ($($kind:ident)*) => {
+                match self {
+                    Record::PlanMade { .. } | Record::CutoverSet { .. } => None,
+                    $(Record::$kind { mig, .. } => Some(*mig),)*
+                }
+            };
+        }
+        migrations! {
+            MigrationStarted Chosen SnapTaken IdsStored VolumesMade CheckpointAdded StageBegun
+            StageDone Paused SnapRemoved PowerStored PoweredOff OffSeen FinalSnapTaken
+            CancelAsked Ended
         }
     }
 }
