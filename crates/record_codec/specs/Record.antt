@@ -7,7 +7,7 @@ use Rattle.std.specs.List.{concat, sum_by, AllByRecursion}
 use Rattle.std.specs.Int.{w32, w64, w128, to_be_bytes}
 use Rattle.basics.specs.Spelled.{IsName}
 use Rattle.change_id.specs.declared.ChangeId.{ChangeId}
-use Rattle.record_codec.specs.declared.record.TheConstants.{MAX_INTERVAL}
+use Rattle.record_codec.specs.declared.record.TheConstants.{MAX_INTERVAL, MAX_WAY, MAX_HOW}
 use Rattle.record_codec.specs.declared.record.Record.{Record}
 use Rattle.record_codec.specs.declared.record.Record.TheVariants.{PlanMade, MigrationStarted, Chosen, SnapTaken, IdsStored, VolumesMade, CheckpointAdded, StageBegun, StageDone, Paused, SnapRemoved, CutoverSet, PowerStored, PoweredOff, OffSeen, FinalSnapTaken, CancelAsked, Ended}
 use Rattle.record_codec.specs.declared.record.Kind.{Kind}
@@ -55,7 +55,7 @@ field_bytes (Text text) = length text ∷ text
 field_bytes (Words numbers) = word_bytes (length numbers) ++ all_word_bytes numbers
 field_bytes (Ids ids) = word_bytes (length ids) ++ all_id_bytes ids
 
--- how many bytes that takes
+-- how many bytes a field takes
 abbrev pub field_size : Field → ℕ
 field_size (Byte n) = 1
 field_size (Word n) = 4
@@ -139,15 +139,6 @@ kind_byte FinalSnapTakenKind = 16
 kind_byte CancelAskedKind = 17
 kind_byte EndedKind = 18
 
-abbrev pub all_kinds : List Kind
-all_kinds =
-    PlanMadeKind ∷ MigrationStartedKind ∷ ChosenKind
-    ∷ SnapTakenKind ∷ IdsStoredKind ∷ VolumesMadeKind
-    ∷ CheckpointAddedKind ∷ StageBegunKind ∷ StageDoneKind
-    ∷ PausedKind ∷ SnapRemovedKind ∷ CutoverSetKind
-    ∷ PowerStoredKind ∷ PoweredOffKind ∷ OffSeenKind
-    ∷ FinalSnapTakenKind ∷ CancelAskedKind ∷ EndedKind ∷ []
-
 abbrev pub fields_of : Record → List Field
 fields_of (PlanMade plan name interval vms) = Word plan ∷ Text name ∷ Word interval ∷ Words vms ∷ []
 fields_of (MigrationStarted mig plan vm disks) = Word mig ∷ Word plan ∷ Word vm ∷ Word disks ∷ []
@@ -179,11 +170,11 @@ pub record IsPlan (name : List ℕ) (interval : ℕ) (vms : List ℕ) : Type 0 w
 
 abbrev pub KeepsRule : Record → Type 0
 KeepsRule (PlanMade plan name interval vms) = IsPlan name interval vms
-KeepsRule (Chosen mig way at) = way ≤ 2
+KeepsRule (Chosen mig way at) = way ≤ MAX_WAY
 KeepsRule (IdsStored mig ids) = length ids < 2 ^ 32
 KeepsRule (CutoverSet plan has at) = has ≡ false → at ≡ 0
 KeepsRule (FinalSnapTaken mig snap mark place) = place < mark
-KeepsRule (Ended mig how place) = (how ≤ 3) × (how ≢ 0 → place ≡ 0)
+KeepsRule (Ended mig how place) = (how ≤ MAX_HOW) × (how ≢ 0 → place ≡ 0)
 KeepsRule (MigrationStarted mig plan vm disks) = Unit {0}
 KeepsRule (SnapTaken mig snap mark) = Unit {0}
 KeepsRule (VolumesMade mig) = Unit {0}

@@ -32,7 +32,9 @@ const TWO_IDS: &[u8] = b"\x05\0\0\0\x01\0\0\0\x02\
     \0\0\0\0\0\0\0\0\0\0\0\0\0\0\0\x01\0\0\0\0\0\0\0\x07\
     \0\0\0\0\0\0\0\0\0\0\0\0\0\0\0\x02\0\0\0\0\0\0\0\x08";
 
-/// Bodies that are the spelling of no record, each for another reason.
+/// Bodies that are the spelling of no record: no kind, an unknown one (0 and 19), a field that is
+/// cut, a byte left over, a flag of 2, a rule that is broken (of a choice, a cutover, a final
+/// snapshot, ends, a name, an interval), and a list that is cut.
 const OTHERS: [&[u8]; 14] = [
     b"",
     b"\0",
