@@ -8,8 +8,8 @@ ghost use Rattle.sector_model.specs.VolumeContents.{volume_written, volume_zeroe
 
 use crate::{
     Page, Run, Runs, SECTOR_BYTES, Sector, SectorList, broken_volumes, folds_join,
-    loose_sectors_after, pages_join, pages_lie_within, runs_are_exact,
-    touched_blocks_are_met, volume_fillings, volumes_keep_their_size,
+    loose_sectors_after, pages_join, pages_lie_within, runs_are_exact, touched_blocks_are_met,
+    volume_fillings, volumes_keep_their_size,
 };
 use std::process::Abort;
 use std::test::Fail;
