@@ -9,9 +9,6 @@ use change_id::ChangeId;
 use std::alloc::Global;
 use std::marker::Model;
 
-/// The longest interval between the copies of a plan, in minutes: a week.
-pub const MAX_INTERVAL: u32 = 10_080;
-
 /// Change identifiers, one a disk, in order.
 #[derive(Debug, Drop)]
 pub struct IdList {
@@ -57,7 +54,7 @@ impl IdList {
 #[derive(Debug, Drop)]
 pub enum Record {
     /// A plan of these machines was made, with this interval in minutes between copies, 1 to
-    /// [`MAX_INTERVAL`].
+    /// [`MAX_INTERVAL`](basics::MAX_INTERVAL).
     PlanMade {
         plan: u32,
         name: Name,
