@@ -9,17 +9,9 @@ ghost use Rattle.migrate_server.specs.Line.{FitsDisk};
 
 use crate::command::{Command, MoveWrite, MoveWrites};
 use basics::{MAX_NAME_BYTES, Name, NoMemory, is_name};
+use sector_model::{MAX_DISK_SECTORS, MAX_LOGGED_SECTORS, MAX_WRITE_SECTORS};
 use serde_json::{Map, Value};
 use std::alloc::Global;
-
-/// The most sectors of a disk: 256 GiB.
-const MOST_DISK_SECTORS: u64 = 1 << 29;
-
-/// The most sectors of a write: 64 KiB.
-const MOST_SECTORS: u64 = 128;
-
-/// The most sectors of all writes of a move in sum: 32 MiB.
-const MOST_WRITTEN: u64 = 1 << 16;
 
 /// The command that a value spells, if it does.
 pub(crate) fn read_command(alloc: Global, value: &Value) -> Result<Option<Command>, NoMemory>
@@ -87,9 +79,9 @@ fn number_of(value: &Value, low: u64, high: u64) -> Option<u64>
 }
 
 fn sectors_of(value: &Value) -> Option<u64>
-    ensures { result ≡ number_of 1 MOST_DISK_SECTORS (view value.now) }
+    ensures { result ≡ number_of 1 MAX_DISK_SECTORS (view value.now) }
 {
-    number_of(value, 1, MOST_DISK_SECTORS)
+    number_of(value, 1, MAX_DISK_SECTORS)
 }
 
 /// The writes of a list, if each of its items is one.
@@ -107,7 +99,8 @@ fn writes_of(alloc: Global, items: &[Value]) -> Result<Option<Vec<MoveWrite>>, N
     Ok(Some(writes))
 }
 
-/// The write of a list of three numbers: the first sector, 1 to 128 sectors, and a byte.
+/// The write of a list of three numbers: the first sector, 1 to [`MAX_WRITE_SECTORS`] sectors, and
+/// a byte.
 fn write_of(item: &Value) -> Option<MoveWrite>
     ensures { result ≡ write_of (view item.now) }
 {
@@ -127,7 +120,7 @@ fn write_of_three(first: &Value, count: &Value, fill: &Value) -> Option<MoveWrit
     ensures { result ≡ write_of_three (view first.now) (view count.now) (view fill.now) }
 {
     let first = number_of(first, 0, u64::MAX)?;
-    let count = number_of(count, 1, MOST_SECTORS)?;
+    let count = number_of(count, 1, MAX_WRITE_SECTORS)?;
     let fill = number_of(fill, 0, 255)?;
     Some(MoveWrite {
         first,
@@ -141,7 +134,7 @@ fn are_within(sectors: u64, writes: &[MoveWrite]) -> bool
     ensures value { result ≡ are_within sectors writes.now }
     ensures within { result ≡ true → All (λ w. w.first + w.count ≤ sectors) writes.now }
 {
-    all_end_by(sectors, writes) && written_by(writes) <= MOST_WRITTEN
+    all_end_by(sectors, writes) && written_by(writes) <= MAX_LOGGED_SECTORS
 }
 
 fn all_end_by(sectors: u64, writes: &[MoveWrite]) -> bool

@@ -5,7 +5,8 @@ use Rattle.std.specs.Prelude.{◌≡◌, ℕ, zero, suc, ◌≤◌, ◌+◌, ◌
 use Rattle.std.specs.Int.{w32, w64, w128, from_be_bytes}
 use Rattle.basics.specs.Spelled.{IsName}
 use Rattle.change_id.specs.declared.ChangeId.{ChangeId}
-use Rattle.record_codec.specs.declared.record.TheConstants.{MAX_INTERVAL, MAX_WAY, MAX_HOW}
+use Rattle.basics.specs.declared.limits.TheConstants.{MAX_INTERVAL}
+use Rattle.record_codec.specs.declared.record.TheConstants.{MAX_WAY, MAX_HOW}
 use Rattle.record_codec.specs.declared.parse.CodecRefused.{CodecRefused}
 use Rattle.record_codec.specs.declared.parse.CodecRefused.TheVariants.{Bad, NoMemory}
 use Rattle.record_codec.specs.declared.record.Record.{Record}

@@ -9,9 +9,6 @@ use change_id::ChangeId;
 use std::alloc::{AllocError, Global};
 use std::marker::Model;
 
-/// The longest interval between the copies of a plan, in minutes: a week.
-pub const MAX_INTERVAL: u32 = 10_080;
-
 /// The highest way of a choice, the cutover.
 pub const MAX_WAY: u8 = 2;
 
@@ -74,7 +71,7 @@ impl Clone for IdList {
 #[derive(Debug, Clone, Drop)]
 pub enum Record {
     /// A plan of these machines was made, with this interval in minutes between copies, 1 to
-    /// [`MAX_INTERVAL`].
+    /// [`MAX_INTERVAL`](basics::MAX_INTERVAL).
     PlanMade {
         plan: u32,
         name: Name,

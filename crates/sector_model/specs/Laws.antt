@@ -121,15 +121,24 @@ pub record LooseThen (capacity : ℕ) (v : VolumeContents) (s : ℕ) : Type 0 wh
   pub written : (first : ℕ) (sectors : List Sector) → first + length sectors ≤ capacity
       → is_loose s (volume_written first sectors v)
       ≡ (is_loose s v || nat_le first s && nat_lt s (first + length sectors))
+  pub zeroed : (first count : ℕ) → first + count ≤ capacity
+      → is_loose s (volume_zeroed first count v)
+      ≡ (is_loose s v || nat_le first s && nat_lt s (first + count))
   pub flushed : is_loose s (volume_flushed v) ≡ false
   pub filled : (filling : List Sector) → is_loose s (volume_filled filling v) ≡ is_loose s v
   pub broken : (first count : ℕ) (new : VolumeContents) → first + count ≤ capacity
       → IsBrokenAt first count v new
       → is_loose s new ≡ (is_loose s v || nat_le first s && nat_lt s (first + count))
 
--- a write that failed leaves what the whole write would, but for loose sectors
+-- a write or a zeroing that failed leaves what the whole one would, but for loose sectors
 abbrev pub BrokenIsWritten : Type 0
 BrokenIsWritten = (capacity first : ℕ) (sectors : List Sector) (old new : VolumeContents)
     → IsSized capacity old → first + length sectors ≤ capacity
     → IsBrokenAt first (length sectors) old new
     → DiffersOnlyWhereLoose (volume_written first sectors old) new
+
+abbrev pub BrokenIsZeroed : Type 0
+BrokenIsZeroed = (capacity first count : ℕ) (old new : VolumeContents)
+    → IsSized capacity old → first + count ≤ capacity
+    → IsBrokenAt first count old new
+    → DiffersOnlyWhereLoose (volume_zeroed first count old) new
