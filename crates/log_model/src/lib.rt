@@ -2,7 +2,7 @@
 //! snapshots and change identifiers, and the calls by which one caller reaches it.
 #![tactic(auto)]
 
-mod calls;
+mod acts;
 mod entry;
 mod folds;
 mod laws;
@@ -28,6 +28,6 @@ pub use laws::{
 pub use link::{Facts, Link, Snapped};
 pub use plain_machine::PlainMachine;
 pub use query::{
-    accepts, before, between, fill_page, in_force, read_into, sector_at, since_place, through,
+    accepts, before, between, answer_page, in_force, read_into, sector_at, since_place, through,
 };
 pub use refusals::{LinkRefused, WriteRefused};

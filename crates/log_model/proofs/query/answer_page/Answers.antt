@@ -2,17 +2,17 @@ use Rattle.std.proofs.Common.{◌≡◌, ℕ, ◌-◌, ◌<◌, ◌^◌, List, [
 use Rattle.sector_model.specs.Run.{end_of, in_blocks, next_run, touched_blocks}
 use Rattle.sector_model.specs.Page.{PageContents, areas_from}
 use Rattle.sector_model.specs.declared.run.Run.{Run}
-use Rattle.sector_model.proofs.Spacing.{Kept, runs_of-kept}
+use Rattle.sector_model.proofs.Spacing.{SpacedWithin, runs_of-spaced}
 use Rattle.log_model.specs.declared.entry.Entry.{Entry}
 use Rattle.log_model.specs.Entry.{writes_of}
 use Rattle.sector_model.proofs.NextRun.{Next, next_is, areas_from-none}
 use Rattle.log_model.proofs.AreaLemmas.{touched_runs}
-use Rattle.sector_model.proofs.PageFilled.{last_pushed, full_page, last_page}
-use Rattle.log_model.proofs.query.fill_page.Goals as goal
+use Rattle.sector_model.proofs.PageMade.{last_pushed, full_page, last_page}
+use Rattle.log_model.proofs.query.answer_page.Goals as goal
 
 next_facts : (top d at : ℕ) (log : List Entry) (r : Run) → top < 2 ^ 64 → next_run at (touched_runs top d log) ≡ Some r → Next (touched_runs top d log) at top r
 next_facts top d at log r fits next =
-    let k : Kept 0 top (touched_runs top d log) = runs_of-kept (in_blocks (touched_blocks top (writes_of d log))) top fits in
+    let k : SpacedWithin 0 top (touched_runs top d log) = runs_of-spaced (in_blocks (touched_blocks top (writes_of d log))) top fits in
     next_is 0 top (touched_runs top d log) at r k.spaced k.ends next
 
 -- the areas told, one more, and the rest
@@ -54,7 +54,7 @@ returns-then-areas-eq-PAGE_AREAS c =
     let told : List Run = c.loop-run.page.areas in
     let facts = next_facts c.args.capacity c.args.disk c.loop-run.at c.args.log.now r (omega arith) (sym c.in-Some.ensures) in
     let long : length told ≡ 1024 = sym (ap length c.areas.ensures) ∙ c.if-areas-eq-PAGE_AREAS.true in
-    c.cover.ensures ∙ ap (λ n. record { start = n; covered = c.loop-run.at - c.args.start; areas = told }) c.loop-run.invariant.begins
+    c.cover.ensures ∙ ap (λ n. record { start = n; length = c.loop-run.at - c.args.start; areas = told }) c.loop-run.invariant.begins
     ∙ full_page c.args.capacity c.args.start c.loop-run.at areas told (areas_from (end_of r) areas) r (goes_on c.args.start c.loop-run.at areas told r c.loop-run.invariant.joined facts.areas) long c.loop-run.invariant.ended
 
 pub returns : goal.returns
@@ -62,5 +62,5 @@ returns c =
     let areas : List Run = touched_runs c.args.capacity c.args.disk c.args.log.now in
     let told : List Run = c.loop-run.page.areas in
     let none : areas_from c.loop-run.at areas ≡ [] = areas_from-none areas c.loop-run.at (sym c.next_touched.ensures ∙ c.in_default.is) in
-    c.cover-2.ensures ∙ ap (λ n. record { start = n; covered = c.args.capacity - c.args.start; areas = told }) c.loop-run.invariant.begins
+    c.cover-2.ensures ∙ ap (λ n. record { start = n; length = c.args.capacity - c.args.start; areas = told }) c.loop-run.invariant.begins
     ∙ last_page c.args.capacity c.args.start areas told (c.loop-run.invariant.joined ∙ ap (λ (rest : List Run). told ++ rest) none) c.loop-run.invariant.few

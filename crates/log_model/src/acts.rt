@@ -1,4 +1,4 @@
-//! What each call adds to a log, and why it is refused.
+//! What each act adds to a log, and why it is refused.
 ghost use Rattle.std.specs.Prelude.{◌≡◌, ◌+◌, ◌≤◌, IfOk, length};
 ghost use Rattle.log_model.specs.Legal.{taken, written};
 ghost use Rattle.basics.specs.Refusal.{IsRefusedOr};

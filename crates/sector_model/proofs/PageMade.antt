@@ -4,7 +4,7 @@ use Rattle.std.proofs.lemmas.Bool.{lt-ltb, le-ltb}
 use Rattle.std.proofs.lemmas.List.{take_all, take-append-le, append-nil}
 use Rattle.std.proofs.Math.ListN.{get_or-append}
 use Rattle.sector_model.specs.Run.{end_of}
-use Rattle.sector_model.specs.Page.{PageContents, areas_from, page_of, page_end}
+use Rattle.sector_model.specs.Page.{PageContents, areas_from, page_from, page_end}
 use Rattle.sector_model.specs.declared.page.TheConstants.{PAGE_AREAS}
 use Rattle.sector_model.specs.declared.run.Run.{Run}
 
@@ -17,14 +17,14 @@ last_pushed xs r d =
     let last : length (xs ++ r ∷ []) - 1 ≡ length xs = omega (arith, length-append xs (r ∷ [])) in
     ap (λ i. get_or (xs ++ r ∷ []) i d) last ∙ get_or-pushed xs r d
 
-page_is : (start covered other : ℕ) (areas others : List Run) → covered ≡ other → areas ≡ others
-    → ◌≡◌ {A = PageContents} (record { start = start; covered = covered; areas = areas }) (record { start = start; covered = other; areas = others })
-page_is start covered other areas others same told = ap (λ n. record { start = start; covered = n; areas = areas }) same ∙ ap (λ xs. record { start = start; covered = other; areas = xs }) told
+page_is : (start long other : ℕ) (areas others : List Run) → long ≡ other → areas ≡ others
+    → ◌≡◌ {A = PageContents} (record { start = start; length = long; areas = areas }) (record { start = start; length = other; areas = others })
+page_is start long other areas others same told = ap (λ n. record { start = start; length = n; areas = areas }) same ∙ ap (λ xs. record { start = start; length = other; areas = xs }) told
 
 -- 1,024 areas, behind which more follow
 pub full_page : (c start at : ℕ) (areas told more : List Run) (r : Run) → areas_from start areas ≡ told ++ r ∷ more → length told ≡ PAGE_AREAS
     → ((d : Run) → 0 < length told → end_of (get_or told (length told - 1) d) ≡ at)
-    → record { start = start; covered = at - start; areas = told } ≡ page_of c areas start
+    → record { start = start; length = at - start; areas = told } ≡ page_from c areas start
 full_page c start at areas told more r all long ended =
     let rest : List Run = areas_from start areas in
     let more_than : PAGE_AREAS < length rest = omega (arith, ap length all, length-append told (r ∷ more)) in
@@ -40,7 +40,7 @@ full_page c start at areas told more r all long ended =
 
 -- all areas that are left
 pub last_page : (c start : ℕ) (areas told : List Run) → areas_from start areas ≡ told ++ [] → length told ≤ PAGE_AREAS
-    → record { start = start; covered = c - start; areas = told } ≡ page_of c areas start
+    → record { start = start; length = c - start; areas = told } ≡ page_from c areas start
 last_page c start areas told all few =
     let rest : List Run = areas_from start areas in
     let same : rest ≡ told = all ∙ append-nil told in

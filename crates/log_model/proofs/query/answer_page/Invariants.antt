@@ -3,7 +3,7 @@ use Rattle.sector_model.specs.Run.{end_of}
 use Rattle.sector_model.specs.Page.{areas_from}
 use Rattle.sector_model.specs.declared.run.Run.{Run}
 use Rattle.log_model.proofs.AreaLemmas.{touched_runs}
-use Rattle.log_model.proofs.query.fill_page.Given as goal
+use Rattle.log_model.proofs.query.answer_page.Given as goal
 
 -- the page has the areas up to `at`, and those from there on are left
 abbrev pub invariant-loop-run : goal.invariant-loop-run
