@@ -10,7 +10,8 @@ ghost use Rattle.log_model.specs.PlainMachine.{plain_state, with_entry};
 
 use crate::folds::{facts_of, least_owned, mark, owner_of};
 use crate::query::{
-    before, between, capacity_past, answer_page, in_force, is_within, read_into, since_place, through,
+    answer_page, before, between, capacity_past, in_force, is_within, read_into, since_place,
+    through,
 };
 use crate::{Entry, Facts, Link, LinkRefused, Owner, Snapped, WriteRefused, acts};
 use change_id::{ChangeId, Since};
