@@ -1,5 +1,5 @@
 //! The chain: what a disk holds now and at each live snapshot, kept as layers.
-ghost use Rattle.std.specs.Prelude.{◌≡◌, [], ◌+◌, ◌*◌, ◌^◌, ◌<◌, ◌≤◌, length, IfOk, OnOk, OnErr, IfSome, IsSome, IsOk, ℕ, true, is_some, nat_eq, slice_range};
+ghost use Rattle.std.specs.Prelude.{◌≡◌, List, [], ◌+◌, ◌*◌, ◌^◌, ◌<◌, ◌≤◌, length, IfOk, OnOk, OnErr, IfSome, IsSome, IsOk, ℕ, true, is_some, nat_eq, slice_range};
 ghost use Rattle.std.specs.Bool.{OnTrue};
 ghost use Rattle.std.specs.List.{position};
 ghost use Rattle.basics.specs.Refusal.{IsRefusedBy, IsRefusedOr};
@@ -81,7 +81,7 @@ impl Model for Chain {
 
 impl Chain {
     ghost use Rattle.snapshot_chain.specs.Chain.{fresh, snapshot_of, contents_of, after_writing, after_freezing, after_merging, is_within, write_refusal, snapshot_refusal, read_refusal, IsKeptAfter};
-    ghost use Rattle.snapshot_chain.specs.History.{Written, Frozen, Merged, StandsFor, Takes};
+    ghost use Rattle.snapshot_chain.specs.History.{DiskEvent, Written, Frozen, Merged, StandsFor, Takes, live_snapshots};
 
     /// The chain of a disk that was never written. It answers only want of memory.
     pub fn new(alloc: Global, capacity: u64) -> Result<Chain, NoMemory>
@@ -261,6 +261,10 @@ impl Chain {
         ensures counted { steps.old ≤ steps.new }
         ensures cost { steps.new
             ≤ steps.old + (length self.now.snapshots + 1) * blocks_met first (length buf.old) }
+        // The same of each history for which the chain stands: its live snapshots and one.
+        ensures live_cost { (history : List DiskEvent) → StandsFor self.now history → steps.new
+            ≤ steps.old
+            + (length (live_snapshots history) + 1) * blocks_met first (length buf.old) }
     {
         let Some(seen) = layers_seen(self.ids.as_slice(), id) else {
             return Err(ChainRefused::UnknownSnap);

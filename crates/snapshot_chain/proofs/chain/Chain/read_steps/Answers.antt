@@ -8,6 +8,9 @@ use Rattle.snapshot_chain.specs.Chain.{contents_of}
 use Rattle.snapshot_chain.specs.Reading.{layers_seen, blocks_met}
 use Rattle.snapshot_chain.proofs.States.{contents_seen, seen_few, snapshots_long, read_part}
 use Rattle.snapshot_chain.proofs.LayerSteps.{fits, read_unknown, read_outside, read_taken}
+use Rattle.std.proofs.lemmas.List.{length-map}
+use Rattle.snapshot_chain.specs.Chain.{Snapshot}
+use Rattle.snapshot_chain.specs.History.{live_snapshots}
 use Rattle.snapshot_chain.proofs.chain.Chain.read_steps.Goals as goal
 
 pub returns-in_default-clause-refused : goal.returns-in_default-clause-refused
@@ -61,3 +64,8 @@ returns-clause-cost g c =
     mul-le (length (take c.in-Some.seen c.deref.result.now)) (blocks_met c.args.first (length c.args.buf.now)) (length c.args.self.now.snapshots + 1) (blocks_met c.args.first (length c.args.buf.now))
     (omega (arith, few, all, length-take c.in-Some.seen c.deref.result.now)) (omega arith) in
     omega (arith, more, c.read_layers.ensures.cost)
+
+pub returns-clause-live_cost : goal.returns-clause-live_cost
+returns-clause-live_cost g c = λ history stands.
+    let count : length c.args.self.now.snapshots ≡ length (live_snapshots history) = sym (length-map c.args.self.now.snapshots (λ (x : Snapshot). x.id)) ∙ ap length stands.live in
+    rw (← count) (returns-clause-cost g c)
