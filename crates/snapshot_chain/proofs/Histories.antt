@@ -109,9 +109,9 @@ place_stays p (x ∷ xs) ys some = met p x xs ys (p x) refl (λ later. place_sta
     met p x xs ys true is rest some = rw is refl
     met p x xs ys false is rest some = rw is (ap (λ (n : ℕ). 1 + n) (rest (rw is at some)))
 
-place-le : (p : DiskEvent → Bool) (xs : List DiskEvent) → position_or_len p xs ≤ length xs
-place-le p [] = omega arith
-place-le p (x ∷ xs) = bounded (p x) (position_or_len p xs) (place-le p xs)
+offset-le : (p : DiskEvent → Bool) (xs : List DiskEvent) → position_or_len p xs ≤ length xs
+offset-le p [] = omega arith
+offset-le p (x ∷ xs) = bounded (p x) (position_or_len p xs) (offset-le p xs)
   where
     bounded : (b : Bool) (n : ℕ) → n ≤ length xs → cond (not b) (1 + n) 0 ≤ suc (length xs)
     bounded true n le = omega arith
@@ -119,7 +119,7 @@ place-le p (x ∷ xs) = bounded (p x) (position_or_len p xs) (place-le p xs)
 
 pub before_stays : (s : ℕ) (xs ys : List DiskEvent) → list_any (freezes s) xs ≡ true → before_freeze s (xs ++ ys) ≡ before_freeze s xs
 before_stays s xs ys some =
-    ap (λ (n : ℕ). take n (xs ++ ys)) (place_stays (freezes s) xs ys some) ∙ take-append-le (position_or_len (freezes s) xs) xs ys (place-le (freezes s) xs)
+    ap (λ (n : ℕ). take n (xs ++ ys)) (place_stays (freezes s) xs ys some) ∙ take-append-le (position_or_len (freezes s) xs) xs ys (offset-le (freezes s) xs)
 
 pub before_new : (s : ℕ) (xs : List DiskEvent) → list_any (freezes s) xs ≡ false → before_freeze s (xs ++ Frozen s ∷ []) ≡ xs
 before_new s [] none = rw (eq-eqb s s refl) refl

@@ -2,6 +2,7 @@
 use Rattle.std.proofs.Common.{◌≡◌, ◌+◌, ◌*◌, ◌≤◌, List, length, take, Some, None, sym, ap, ◌∙◌, [], arith, length-take}
 use Rattle.std.proofs.lemmas.Nat.{mul-le}
 use Rattle.std.specs.Option.{option_map}
+use Rattle.snapshot_chain.specs.Kept.{room_id}
 use Rattle.snapshot_chain.specs.Layer.{LayerState}
 use Rattle.snapshot_chain.specs.Layers.{contents_in, sector_found}
 use Rattle.snapshot_chain.specs.Chain.{contents_of}
@@ -18,7 +19,7 @@ returns-in_default-clause-refused g c =
     let none : layers_seen c.args.id c.self.inside.ids.items ≡ None = rw c.as_slice.ensures.value at (sym c.layers_seen.ensures ∙ c.in_default.is) in
     read_unknown (Unit {0}) c.args.self.now c.args.id c.args.first (length c.args.buf.now)
     (rw (← c.self.view_is)
-    (contents_seen c.self.inside.capacity c.self.inside.layers.items c.self.inside.ids.items c.self.inside.free_from c.self.inside.freeze_room c.self.inside.merge_room c.args.id c.self.invariant.long
+    (contents_seen c.self.inside.capacity c.self.inside.layers.items c.self.inside.ids.items c.self.inside.free_from c.self.inside.freeze_room (room_id c.self.inside.merge_room) c.args.id c.self.invariant.long
     ∙ ap (option_map (λ n. contents_in c.self.inside.capacity (take n c.self.inside.layers.items))) none))
 
 pub returns-then-not-is_within-clause-refused : goal.returns-then-not-is_within-clause-refused
@@ -26,7 +27,7 @@ returns-then-not-is_within-clause-refused g c =
     let some : layers_seen c.args.id c.self.inside.ids.items ≡ Some c.in-Some.seen = rw c.as_slice.ensures.value at (sym c.layers_seen.ensures ∙ c.in-Some.is) in
     read_outside (Unit {0}) c.args.self.now c.args.id c.args.first (length c.args.buf.now) (contents_in c.self.inside.capacity (take c.in-Some.seen c.self.inside.layers.items))
     (rw (← c.self.view_is)
-    (contents_seen c.self.inside.capacity c.self.inside.layers.items c.self.inside.ids.items c.self.inside.free_from c.self.inside.freeze_room c.self.inside.merge_room c.args.id c.self.invariant.long
+    (contents_seen c.self.inside.capacity c.self.inside.layers.items c.self.inside.ids.items c.self.inside.free_from c.self.inside.freeze_room (room_id c.self.inside.merge_room) c.args.id c.self.invariant.long
     ∙ ap (option_map (λ n. contents_in c.self.inside.capacity (take n c.self.inside.layers.items))) some))
     (sym c.is_within.ensures.within ∙ c.if-not-is_within.true)
 
@@ -38,7 +39,7 @@ returns-clause-refused g c =
     let some : layers_seen c.args.id c.self.inside.ids.items ≡ Some c.in-Some.seen = rw c.as_slice.ensures.value at (sym c.layers_seen.ensures ∙ c.in-Some.is) in
     read_taken tt c.args.self.now c.args.id c.args.first (length c.args.buf.now) (contents_in c.self.inside.capacity (take c.in-Some.seen c.self.inside.layers.items))
     (rw (← c.self.view_is)
-    (contents_seen c.self.inside.capacity c.self.inside.layers.items c.self.inside.ids.items c.self.inside.free_from c.self.inside.freeze_room c.self.inside.merge_room c.args.id c.self.invariant.long
+    (contents_seen c.self.inside.capacity c.self.inside.layers.items c.self.inside.ids.items c.self.inside.free_from c.self.inside.freeze_room (room_id c.self.inside.merge_room) c.args.id c.self.invariant.long
     ∙ ap (option_map (λ n. contents_in c.self.inside.capacity (take n c.self.inside.layers.items))) some))
     (sym c.is_within.ensures.within ∙ c.if-not-is_within.false)
 
@@ -48,7 +49,7 @@ returns-clause-ok g c =
     let inside : c.args.first + length c.args.buf.now ≤ c.self.inside.capacity = fits c.self.inside.capacity c.args.first (length c.args.buf.now) (rw (← c.self.view_is) at (sym c.is_within.ensures.within ∙ c.if-not-is_within.false)) in
     let seen : contents_of c.args.id c.args.self.now ≡ Some (contents_in c.self.inside.capacity (take c.in-Some.seen c.self.inside.layers.items)) =
     rw (← c.self.view_is)
-    (contents_seen c.self.inside.capacity c.self.inside.layers.items c.self.inside.ids.items c.self.inside.free_from c.self.inside.freeze_room c.self.inside.merge_room c.args.id c.self.invariant.long
+    (contents_seen c.self.inside.capacity c.self.inside.layers.items c.self.inside.ids.items c.self.inside.free_from c.self.inside.freeze_room (room_id c.self.inside.merge_room) c.args.id c.self.invariant.long
     ∙ ap (option_map (λ n. contents_in c.self.inside.capacity (take n c.self.inside.layers.items))) some) in
     rw seen
     (read_part (sector_found (take c.in-Some.seen c.self.inside.layers.items)) c.self.inside.capacity c.args.first c.read_layers.new.buf c.args.buf.now c.read_layers.auto.buf inside
