@@ -1,2 +1,3 @@
-pub mod CalendarFacts
 pub mod ListFacts
+pub mod Days
+pub mod Accepted
