@@ -1,7 +1,7 @@
 -- What an accepted plan is, from the searches that found no reason against it.
 use Rattle.std.proofs.Common.{◌≡◌, ℕ, ◌+◌, ◌*◌, ◌≤◌, Bool, true, false, cond, not, List, [], ◌∷◌, length, Option, Some, None, option_map, nat_lt, nat_le, refl, sym, ap, ◌∙◌, arith}
 use Rattle.std.specs.Prelude.{◌≢◌, ◌==◌, ◌||◌, map, IsTrue, is_some, if◌then◌else◌}
-use Rattle.std.specs.Bool.{Decides, one_answer}
+use Rattle.std.specs.Bool.{one_answer}
 use Rattle.std.specs.List.{find, list_any, AllByRecursion, IsDistinct}
 use Rattle.std.specs.Option.{option_or}
 use Rattle.std.specs.Str.{bytes_eq}
@@ -159,7 +159,8 @@ doubled_none : (vms : List (List ℕ)) → IsDistinct bytes_eq vms
     → find (is_doubled_in vms) vms ≡ None
 doubled_none vms distinct =
     find_none (is_doubled_in vms) vms
-    (all_weaker (Once vms) (λ q. is_doubled_in vms q ≡ false) (λ q few. is_few (count_of vms q) few) vms
+    (all_weaker (Once vms) (λ q. is_doubled_in vms q ≡ false)
+    (λ q few. is_few (count_of vms q) few) vms
     (once_where_distinct vms distinct))
 
 -- machines
@@ -248,7 +249,8 @@ is_some_of n some = grind (arith, nat_tests)
 possible_where : (name : List ℕ) (vms : List (List ℕ)) (known : List VmFact) (plans : List Plan)
     → plan_refusal name vms known plans ≡ None → IsPossible name vms known plans
 possible_where name vms known plans none =
-    let parts = refusal_parts (is_taken name plans) (length vms == 0) (list_refusal vms known) none in
+    let parts = refusal_parts (is_taken name plans) (length vms == 0) (list_refusal vms known)
+    none in
     let nothing = nothing_found vms known parts.2 in
     record {
       new_name = All-from_recursion (λ plan. plan.name ≢ name) plans

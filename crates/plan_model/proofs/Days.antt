@@ -1,10 +1,10 @@
 -- Days before a date of the years from 1970 on, in jiff's words and as natural numbers.
-use Rattle.std.proofs.Common.{◌≡◌, ℕ, ◌+◌, ◌*◌, ◌≤◌, ◌<◌, ◌⊎◌, Bool, true, inl, inr, sym, ap, ◌∙◌, arith, rules, refl, pos, negsuc, ℤ, unsigned_abs}
-use Rattle.std.specs.Prelude.{◌&&◌, nat_le, ◌<ℤ◌, ◌≤ℤ◌, ◌-ℤ◌, ◌*ℤ◌, ◌/◌, int_div}
+use Rattle.std.proofs.Common.{◌≡◌, ℕ, ◌*◌, ◌≤◌, true, inl, inr, sym, ap, ◌∙◌, arith, rules, refl, pos, negsuc, ℤ, unsigned_abs}
+use Rattle.std.specs.Prelude.{◌-ℤ◌, ◌*ℤ◌, ◌/◌, int_div}
 use Rattle.std.proofs.Math.IntN.{pos-*ℤ-pos}
 use Rattle.std.proofs.lemmas.Bool.Decides.{nat_tests}
 use Rattle.std.proofs.lemmas.Bool.{cases_lt}
-use Rattle.jiff_core.specs.Calendar.{days_in_month, day_count, day_of_year, days_from_civil, IsCivilDate}
+use Rattle.jiff_core.specs.Calendar.{day_count, days_from_civil, IsCivilDate}
 use Rattle.jiff_core.proofs.CalendarLemmas.{days_in_month_bounds, day_count-epoch, days_from_civil-day_count, day_count-day_of_year, day_count-lt_year}
 use Rattle.jiff_core.proofs.SignedLemmas.{signed_arith}
 use Rattle.plan_model.specs.Calendar.{is_date, days_before}

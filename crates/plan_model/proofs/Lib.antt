@@ -1,3 +1,4 @@
 pub mod ListFacts
-pub mod Days
 pub mod Accepted
+pub mod Days
+pub mod Written

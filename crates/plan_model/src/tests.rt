@@ -1,5 +1,5 @@
 //! Moments in one table, and the public calls once.
-ghost use Rattle.std.specs.Prelude.{◌≡◌, [], ◌∷◌, Some, None, codes};
+ghost use Rattle.std.specs.Prelude.{◌≡◌, [], ◌∷◌, Some, None, IfOk, codes, vec_len};
 ghost use Rattle.plan_model.specs.Plans.{plan_refusal, next_plan};
 ghost use Rattle.plan_model.specs.SmallPlans.{three_machines, one_plan};
 
@@ -142,7 +142,9 @@ fn machines(alloc: Global) -> Result<Vec<VmFact>, NoMemory> {
 }
 
 /// One plan, of the name `p`.
-fn one_plan(alloc: Global) -> Result<Vec<Plan>, NoMemory> {
+fn one_plan(alloc: Global) -> Result<Vec<Plan>, NoMemory>
+    ensures { IfOk result (λ plans. vec_len plans ≡ 1) }
+{
     let mut plans = Vec::new(alloc);
     plans.push(Plan {
         number: 1,

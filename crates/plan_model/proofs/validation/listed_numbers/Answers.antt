@@ -83,7 +83,8 @@ returns-in-Some-first_in_plan-clause-refused c =
     refused_planned vms known c.in-Some-first_in_plan.vm.now c.in_ok-clone-3.field-0 d u p
     c.in_ok-clone-3.ensures.cases
 
-pub returns-in-Some-first_untracked-clause-refused : goal.returns-in-Some-first_untracked-clause-refused
+pub returns-in-Some-first_untracked-clause-refused :
+    goal.returns-in-Some-first_untracked-clause-refused
 returns-in-Some-first_untracked-clause-refused c =
     let vms = c.args.vms.now in
     let known = c.args.known.now in
