@@ -1,5 +1,5 @@
 -- Steps on a list of layers.
-use Rattle.std.proofs.Common.{◌≡◌, ℕ, zero, suc, ◌+◌, ◌<◌, ◌≤◌, List, [], ◌∷◌, length, set, get_or, take, drop, ◌++◌, Bool, true, false, cond, ◌&&◌, leb, nat_eq, Option, Some, None, IfSome, Result, Ok, Err, length-set, sym, ap, subst, refl, ◌∙◌, arith}
+use Rattle.std.proofs.Common.{◌≡◌, ℕ, zero, suc, ◌+◌, ◌<◌, ◌≤◌, List, [], ◌∷◌, length, set, get_or, Bool, true, false, cond, ◌&&◌, leb, nat_eq, Option, Some, None, IfSome, Result, Ok, Err, length-set, sym, ap, subst, refl, ◌∙◌, arith}
 use Rattle.std.specs.List.{remove, position, AllByRecursion}
 use Rattle.std.specs.Result.{IsErrAnd, IfErr}
 use Rattle.basics.specs.Refusal.{IsRefusedBy, IsRefusedOr}
@@ -11,7 +11,7 @@ use Rattle.snapshot_chain.specs.Kept.{state_of, AreIds, HasMergeRoom, room_id}
 use Rattle.snapshot_chain.specs.declared.chain.MergeRoom.{MergeRoom}
 use Rattle.snapshot_chain.proofs.Keeping.{all-set, all-at, all-remove}
 use Rattle.snapshot_chain.proofs.States.{merged_state}
-use Rattle.std.proofs.lemmas.List.{take_all, drop_all, append-nil, get_or-set_same, get_or-set_other, get_or_default}
+use Rattle.std.proofs.lemmas.List.{get_or-set_same, get_or_default}
 use Rattle.std.proofs.lemmas.Bool.{leb-true, false≢true}
 use Rattle.snapshot_chain.specs.Layer.{LayerState, IsWithin, IsMerged, IsRoomFor}
 use Rattle.snapshot_chain.specs.Layers.{layer_at, MergedAt}

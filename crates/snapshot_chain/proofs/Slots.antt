@@ -1,11 +1,11 @@
 -- Slots of a layer, and the pages that are put there.
-use Rattle.std.proofs.Common.{◌≡◌, ◌≢◌, ℕ, ◌+◌, ◌-◌, ◌*◌, ◌<◌, ◌≤◌, List, [], length, Bool, true, false, cond, eqb, Option, Some, None, IsSome, Result, Ok, Err, sym, ap, subst, refl, ◌∙◌, arith, inl, inr, ◌⊎◌}
+use Rattle.std.proofs.Common.{◌≡◌, ◌≢◌, ℕ, ◌+◌, ◌-◌, ◌*◌, ◌<◌, ◌≤◌, List, [], length, Bool, true, false, cond, Option, Some, None, IsSome, Result, Ok, Err, sym, ap, refl, ◌∙◌, arith, inl, inr, ◌⊎◌}
 use Rattle.std.specs.Option.{option_or, option_map, unwrap_or}
 use Rattle.std.specs.Prelude.{◌==◌, OnErr}
 use Rattle.std.proofs.lemmas.Bool.{cases_eq, cases_lt, eq-eqb, ne_eqb, false≢true}
 use Rattle.sector_model.specs.declared.sector.Sector.{Sector}
 use Rattle.snapshot_chain.specs.Page128.{PageState, no_sectors, sector_at, run_at, IsRewritten, IsGrown}
-use Rattle.snapshot_chain.specs.Layer.{LayerState, slot_of, sector_of, sector_in, HasSame, IsWritten, IsWrittenOver, IsGrownAt, AreGrown, KeepsSlots, IsSlotAdded, AddsSlots, IsWithin, IsMerged, IsBlank, IsJoinAt, IsRoomAt, IsOpenAt, IsRoomFor, after_taking, TakesPages}
+use Rattle.snapshot_chain.specs.Layer.{LayerState, slot_of, sector_of, sector_in, HasSame, IsWritten, IsWrittenOver, IsGrownAt, AreGrown, KeepsSlots, IsSlotAdded, AddsSlots, IsWithin, IsMerged, IsBlank, IsRoomAt, IsOpenAt, IsRoomFor, after_taking, TakesPages}
 use Rattle.std.proofs.lemmas.Option.{slice_get_past}
 use Rattle.snapshot_chain.proofs.Writes.{run_from}
 use Rattle.snapshot_chain.proofs.Masks.{empty_none}
