@@ -29,7 +29,7 @@ view-remove_entry name (e ∷ es) = kept_or (slice_cmp nat_cmp name (string_byte
 pub first_left : {T : Type 0} (read : T) (es : List Entry) (k : String Global) (v : Value) → slice_get es 0 ≡ Some (k, v)
     → if_none_left read (members_view es) ≡ Err (Field (string_bytes k))
 first_left read [] k v is = cc
-first_left read (e ∷ es) k v is = ?
+first_left read (e ∷ es) k v is = let same : e ≡ (k, v) = cc in rw same
 
 pub none_left : {T : Type 0} (read : T) (es : List Entry) → es ≡ [] → if_none_left read (members_view es) ≡ Ok read
 none_left read es is = rw is

@@ -19,10 +19,14 @@ use Rattle.cmd_json.specs.declared.refusal.CmdRefused.TheVariants as refused
 unfoldable pub command_named : (name : List ℕ) → Reading Command
 command_named = the_row refused.Command commands
 
+-- one of the names is this one
+abbrev pub contains : (names : List (List ℕ)) → (name : List ℕ) → Bool
+contains names name = list_any (λ other. bytes_eq other name) names
+
 -- the name of the command, where it is one of those that are built
 abbrev pub name_of : (built : List (List ℕ)) → Members → Option (List ℕ)
 name_of built members =
-    option_and_then (λ name. if list_any (bytes_eq name) built then Some name else None)
+    option_and_then (λ name. if contains built name then Some name else None)
     (option_and_then as_str (get_member (codes "cmd") members))
 
 -- the command that an object asks for
@@ -44,9 +48,10 @@ abbrev pub command_among : (built : List (List ℕ)) → (line : List ℕ) → R
 command_among built line =
     result_and_then (command_of_data built) (ok_or (value_of line) refused.Json)
 
+-- the texts of a list of references
 abbrev pub names_of : List (Bor (List ℕ)) → List (List ℕ)
 names_of names = map (λ name. name.now) names
 
 -- the command that a line asks for
 abbrev pub command_of : (line : List ℕ) → Result Command CmdRefused
-command_of = command_among (names_of BUILT)
+command_of = command_among (map (λ name. name.now) BUILT)

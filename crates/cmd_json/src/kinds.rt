@@ -1,7 +1,9 @@
 //! Texts, names, moments, truth values and numbers.
-ghost use Rattle.std.specs.Prelude.{◌≡◌, ◌≤◌, ◌^◌, ◌-◌, IfOk, option_map};
+ghost use Rattle.std.specs.Prelude.{◌≡◌, ◌≤◌, IsTrue, IfOk, length};
 ghost use Rattle.serde_json.specs.View.{view};
-ghost use Rattle.cmd_json.specs.Kinds.{a_text, a_name, a_number};
+ghost use Rattle.basics.specs.declared.name.TheConstants.{MAX_NAME_BYTES};
+ghost use Rattle.plan_model.specs.Moments.{moment_of};
+ghost use Rattle.cmd_json.specs.Kinds.{a_number, is_name};
 
 use crate::Text;
 use crate::command::SECTOR_BYTES;
@@ -41,12 +43,19 @@ impl Kind for NameKind {
 
     fn read(&self, alloc: Global, value: Value) -> Result<Name, Misfit> {
         let text = value.as_str().ok_or(Misfit::Field)?;
-        if is_name(text.as_bytes()) {
+        if spells_name(text) {
             Ok(Name::of(alloc, text)?)
         } else {
             Err(Misfit::Field)
         }
     }
+}
+
+fn spells_name(text: &str) -> bool
+    ensures value { result ≡ is_name text.now }
+    ensures sized { IsTrue result → (1 ≤ length text.now) × (length text.now ≤ MAX_NAME_BYTES) }
+{
+    is_name(text.as_bytes())
 }
 
 /// The text of a moment.
@@ -62,8 +71,14 @@ impl Kind for MomentKind {
 
     fn read(&self, _alloc: Global, value: Value) -> Result<Moment, Misfit> {
         let text = value.as_str().ok_or(Misfit::Field)?;
-        Moment::parse(text).or(Err(Misfit::Number))
+        moment_of(text).ok_or(Misfit::Number)
     }
+}
+
+fn moment_of(text: &str) -> Option<Moment>
+    ensures { result ≡ moment_of text.now }
+{
+    Moment::parse(text).ok()
 }
 
 /// A truth value.

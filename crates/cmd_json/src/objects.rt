@@ -98,6 +98,7 @@ fn read_act(members: &mut Members) -> Result<ActLine, CmdRefused>
 }
 
 // Reads the other members of the act of that name.
+#[tactic(auto, unfolding(crate::specs::Commands::act_named))]
 fn read_named(act: &str, members: &mut Members) -> Result<ActLine, CmdRefused>
     ensures { Reads (act_named act.now (left_in members.old)) (left_in members.new) result }
 {

@@ -1,10 +1,8 @@
 //! The command of a line, by its name.
-ghost use Rattle.std.specs.Prelude.{◌≡◌, map};
-ghost use Rattle.std.specs.List.{list_any};
-ghost use Rattle.std.specs.Str.{bytes_eq};
+ghost use Rattle.std.specs.Prelude.{◌≡◌};
 ghost use Rattle.serde_json.specs.View.{view};
 ghost use Rattle.cmd_json.specs.Left.{left_in};
-ghost use Rattle.cmd_json.specs.Line.{command_of, command_among, command_of_data, command_of_members, command_named, names_of};
+ghost use Rattle.cmd_json.specs.Line.{command_of, command_among, command_of_data, command_of_members, command_named, contains, names_of};
 ghost use Rattle.cmd_json.specs.Members.{Gives, Reads};
 ghost use Rattle.cmd_json.specs.declared.refusal.CmdRefused.TheVariants as refused;
 
@@ -91,9 +89,9 @@ fn read_object(built: &[&str], mut members: Members) -> Result<Command, CmdRefus
 }
 
 fn is_among(name: &str, names: &[&str]) -> bool
-    ensures { result ≡ list_any (bytes_eq name.now) (names_of names.now) }
+    ensures { result ≡ contains (names_of names.now) name.now }
 {
-    names.iter().any(|other| name == *other)
+    names.contains(&name)
 }
 
 // Reads the members of the command of that name.
