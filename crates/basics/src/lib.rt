@@ -3,6 +3,7 @@
 #![tactic(auto)]
 
 mod calls;
+mod limits;
 mod name;
 mod number_list;
 mod refusal;
@@ -11,6 +12,7 @@ mod spelled;
 mod tests;
 
 pub use calls::Calls;
+pub use limits::MAX_INTERVAL;
 pub use name::{MAX_NAME_BYTES, Name};
 pub use number_list::NumberList;
 pub use refusal::{Failed, NoMemory};

@@ -9,10 +9,9 @@ ghost use Rattle.log_model.specs.PlainMachine.{Appends};
 use crate::folds::{is_enabled, last_off, machine_on, owner_of, taken, written};
 use crate::query::is_within;
 use crate::{
-    Act, Entry, LinkRefused, MAX_LOG_ENTRIES, MAX_LOGGED_SECTORS, MAX_WRITE_SECTORS,
-    MIGRATION_CALLER, Owner, Snapped, WriteRefused,
+    Act, Entry, LinkRefused, MAX_LOG_ENTRIES, MIGRATION_CALLER, Owner, Snapped, WriteRefused,
 };
-use sector_model::{Sector, SectorList};
+use sector_model::{MAX_LOGGED_SECTORS, MAX_WRITE_SECTORS, Sector, SectorList};
 use std::alloc::Global;
 
 /// Adds an entry, unless the log is full.

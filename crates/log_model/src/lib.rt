@@ -14,8 +14,7 @@ mod refusals;
 mod tests;
 
 pub use entry::{
-    Act, Entry, EntryList, MAX_LOG_ENTRIES, MAX_LOGGED_SECTORS, MAX_WRITE_SECTORS,
-    MIGRATION_CALLER, Owner,
+    Act, Entry, EntryList, MAX_LOG_ENTRIES, MIGRATION_CALLER, Owner,
 };
 pub use folds::{
     Tracking, epoch, facts_of, is_enabled, last_off, machine_on, mark, number, owner_of, taken,

@@ -12,8 +12,8 @@ mod tests;
 mod validation;
 mod way;
 
-pub use basics::{Name, NumberList};
+pub use basics::{MAX_INTERVAL, Name, NumberList};
 pub use moment::{Moment, MomentRefused};
-pub use plan::{MAX_INTERVAL, Plan, PlanRefused, VmFact};
+pub use plan::{Plan, PlanRefused, VmFact};
 pub use validation::validate;
 pub use way::{Cutover, SECONDS_PER_MINUTE, Way, due};

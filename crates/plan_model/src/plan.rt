@@ -7,9 +7,6 @@ use std::alloc::AllocError;
 use std::error::Error;
 use std::fmt;
 
-/// The longest interval between copies, in minutes: a week.
-pub const MAX_INTERVAL: u32 = 10_080;
-
 /// Machines that migrate together.
 #[derive(Debug, Drop)]
 pub struct Plan {
@@ -17,7 +14,7 @@ pub struct Plan {
     pub number: u32,
     /// The name, which no other plan has.
     pub name: Name,
-    /// The minutes between copies, 1 to [`MAX_INTERVAL`].
+    /// The minutes between copies, 1 to [`MAX_INTERVAL`](basics::MAX_INTERVAL).
     pub interval: u32,
     /// The numbers of its machines, in the order in which they were listed.
     pub vms: NumberList,

@@ -7,7 +7,7 @@ ghost use Rattle.reply_json.specs.Values.{snapshot_text as text_of_snapshot};
 use crate::Text;
 use crate::to_json::ToJson;
 use basics::NoMemory;
-use change_id::ChangeId;
+use change_id::{ChangeId, UUID_BYTES};
 use json::Writer;
 use std::alloc::Global;
 use uuid::Uuid;
@@ -99,7 +99,7 @@ impl ToJson for ChangeId {
 fn id_text(alloc: Global, id: &ChangeId) -> Result<String, NoMemory>
     ensures { IfOk result (λ text. string_bytes text ≡ spelling id.now.uuid id.now.seq) }
 {
-    let mut buffer = [0; 36];
+    let mut buffer = [0; UUID_BYTES];
     let uuid = Uuid::from_u128(id.uuid)
         .hyphenated()
         .encode_lower(&mut buffer);

@@ -1,5 +1,5 @@
 -- What a volume holds after a write, a flush, a filling and a failed write.
-use Rattle.std.proofs.Common.{◌≡◌, ℕ, zero, suc, ◌+◌, ◌-◌, ◌<◌, ◌≤◌, List, [], ◌∷◌, length, replicate, Bool, true, false, cond, leb, ltb, ◌&&◌, ◌||◌, get_or, ◌⊎◌, Option, unwrap_or, Some, refl, sym, ap, ◌∙◌, arith, inl, inr}
+use Rattle.std.proofs.Common.{◌≡◌, ℕ, zero, suc, ◌+◌, ◌-◌, ◌<◌, ◌≤◌, List, [], ◌∷◌, length, replicate, Bool, true, false, cond, leb, ltb, ◌&&◌, ◌||◌, get_or, ◌⊎◌, Option, unwrap_or, Some, refl, sym, ap, subst, ◌∙◌, arith, inl, inr}
 use Rattle.std.specs.List.{slice_get, count_by}
 use Rattle.std.proofs.Math.Bool.{or-true, or-false}
 use Rattle.std.proofs.lemmas.Bool.{cases_lt, le-ltb, lt-ltb, le-leb, lt-leb, and_right}
@@ -8,7 +8,7 @@ use Rattle.std.proofs.lemmas.List.{length-replicate}
 use Rattle.std.proofs.lemmas.List.Sums.{sum_by-cons}
 use Rattle.sector_model.specs.Sector.{zero_sector}
 use Rattle.sector_model.specs.Disk.{replaced}
-use Rattle.sector_model.specs.VolumeContents.{VolumeContents, IsSized, IsFlushed, loose_count, volume_written, IsBrokenAt, fill_loose, volume_filled, loose_of, loose_sectors, DiffersOnlyWhereLoose}
+use Rattle.sector_model.specs.VolumeContents.{VolumeContents, IsSized, IsFlushed, loose_count, volume_written, volume_zeroed, IsBrokenAt, fill_loose, volume_filled, loose_of, loose_sectors, DiffersOnlyWhereLoose}
 use Rattle.sector_model.specs.Laws.{VolumesKeepTheirSize, IsFilling, DiffersInARow, FlushedIsNoneLoose, LooseThen}
 use Rattle.sector_model.specs.declared.sector.Sector.{Sector}
 use Rattle.sector_model.proofs.ItemAt.{slice_get-take, slice_get-drop, slice_get-replicate}
@@ -160,6 +160,13 @@ broken_is_written capacity first sectors old new sized fits broken =
       others = broken_others capacity first sectors old new sized fits broken;
     }
 
+-- a zeroing is a write of zero sectors
+pub broken_is_zeroed : (capacity first count : ℕ) (old new : VolumeContents) → IsSized capacity old → first + count ≤ capacity
+    → IsBrokenAt first count old new → DiffersOnlyWhereLoose (volume_zeroed first count old) new
+broken_is_zeroed capacity first count old new sized fits broken =
+    let n : length (replicate count zero_sector) ≡ count = length-replicate count zero_sector in
+    broken_is_written capacity first (replicate count zero_sector) old new sized (omega (arith, n, fits)) (subst (λ k. IsBrokenAt first k old new) (sym n) broken)
+
 -- ---- fillings in order and in a row
 
 pick : (loose : List Bool) (sectors filling : List Sector) → length loose ≡ length sectors → length filling ≡ count_by (λ loose. loose) loose → loose_of loose (fill_loose loose sectors filling) ≡ filling
@@ -245,6 +252,9 @@ get_or-none (suc n) (suc s) = get_or-none n s
 pub loose_then : (capacity : ℕ) (v : VolumeContents) (s : ℕ) → IsSized capacity v → LooseThen capacity v s
 loose_then capacity v s sized = record {
   written = λ first sectors fits. loose-at v.loose first (length sectors) s (omega (arith, sized.1, fits));
+  zeroed = λ first count fits.
+      let n : length (replicate count zero_sector) ≡ count = length-replicate count zero_sector in
+      loose-at v.loose first (length (replicate count zero_sector)) s (omega (arith, n, sized.1, fits)) ∙ ap (λ k. get_or v.loose s false || leb first s && ltb s (first + k)) n;
   flushed = get_or-none (length v.loose) s;
   filled = λ filling. refl;
   broken = λ first count new fits broken. ap (λ (l : List Bool). get_or l s false) broken.loose ∙ loose-at v.loose first count s (omega (arith, sized.1, fits));

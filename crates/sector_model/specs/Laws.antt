@@ -1,9 +1,9 @@
 -- What the definitions say together. Each is the contract of a public function of laws.rt whose
 -- body does nothing.
-use Rattle.std.specs.Prelude.{◌≡◌, ℕ, ◌+◌, ◌<◌, ◌≤◌, ◌^◌, List, ◌++◌, length, Bool, false, ◌&&◌, ◌||◌, nat_lt, nat_le}
+use Rattle.std.specs.Prelude.{◌≡◌, ℕ, ◌+◌, ◌<◌, ◌≤◌, ◌^◌, List, ◌++◌, length, map, Bool, false, ◌&&◌, ◌||◌, nat_lt, nat_le}
 use Rattle.std.specs.List.{fold, flat_map, All}
 use Rattle.sector_model.specs.Disk.{Write, after_write, fold_writes}
-use Rattle.sector_model.specs.Run.{end_of, in_runs, runs_of, AreSpaced}
+use Rattle.sector_model.specs.Run.{end_of, in_runs, runs_of, AreSpaced, met_blocks, range_of, touched_blocks}
 use Rattle.sector_model.specs.Page.{PageContents, areas_from, page_of, ArePages, LiesWithin}
 use Rattle.sector_model.specs.VolumeContents.{VolumeContents, IsSized, IsFlushed, is_loose, loose_count, volume_written, volume_zeroed, volume_flushed, IsBrokenAt, volume_filled, loose_sectors, DiffersOnlyWhereLoose}
 use Rattle.sector_model.specs.declared.run.Run.{Run}
@@ -14,6 +14,11 @@ abbrev pub FoldsJoin : Type 0
 FoldsJoin = (capacity : ℕ) (earlier later : List Write)
     → fold_writes capacity (earlier ++ later)
     ≡ fold after_write (fold_writes capacity earlier) later
+
+-- the blocks that writes touch are those that their ranges meet: what is written doesn't matter
+abbrev pub TouchedAreMet : Type 0
+TouchedAreMet = (capacity : ℕ) (writes : List Write)
+    → touched_blocks capacity writes ≡ met_blocks capacity (map range_of writes)
 
 -- the runs of a test are spaced, and have exactly the sectors below the capacity that pass it
 abbrev pub RunsAreSpaced : Type 0
@@ -116,15 +121,24 @@ pub record LooseThen (capacity : ℕ) (v : VolumeContents) (s : ℕ) : Type 0 wh
   pub written : (first : ℕ) (sectors : List Sector) → first + length sectors ≤ capacity
       → is_loose s (volume_written first sectors v)
       ≡ (is_loose s v || nat_le first s && nat_lt s (first + length sectors))
+  pub zeroed : (first count : ℕ) → first + count ≤ capacity
+      → is_loose s (volume_zeroed first count v)
+      ≡ (is_loose s v || nat_le first s && nat_lt s (first + count))
   pub flushed : is_loose s (volume_flushed v) ≡ false
   pub filled : (filling : List Sector) → is_loose s (volume_filled filling v) ≡ is_loose s v
   pub broken : (first count : ℕ) (new : VolumeContents) → first + count ≤ capacity
       → IsBrokenAt first count v new
       → is_loose s new ≡ (is_loose s v || nat_le first s && nat_lt s (first + count))
 
--- a write that failed leaves what the whole write would, but for loose sectors
+-- a write or a zeroing that failed leaves what the whole one would, but for loose sectors
 abbrev pub BrokenIsWritten : Type 0
 BrokenIsWritten = (capacity first : ℕ) (sectors : List Sector) (old new : VolumeContents)
     → IsSized capacity old → first + length sectors ≤ capacity
     → IsBrokenAt first (length sectors) old new
     → DiffersOnlyWhereLoose (volume_written first sectors old) new
+
+abbrev pub BrokenIsZeroed : Type 0
+BrokenIsZeroed = (capacity first count : ℕ) (old new : VolumeContents)
+    → IsSized capacity old → first + count ≤ capacity
+    → IsBrokenAt first count old new
+    → DiffersOnlyWhereLoose (volume_zeroed first count old) new

@@ -1,11 +1,16 @@
 //! Laws of the definitions. Each function's contract is the law, and its body does nothing.
 ghost use Rattle.std.specs.Prelude.{ℕ};
-ghost use Rattle.sector_model.specs.Laws.{FoldsJoin, RunsAreSpaced, RunsAreExact, RunsEndWithin, PagesJoin, PageThenRest, AreasFromAreExact, PagesAreExact, PagesLieWithin, VolumesKeepTheirSize, FillingNothing, FillingLeavesOthers, EachIsAFilling, FillingsAreRead, DiffersInARow, LooseThen, FlushedIsNoneLoose, BrokenIsWritten};
+ghost use Rattle.sector_model.specs.Laws.{FoldsJoin, TouchedAreMet, RunsAreSpaced, RunsAreExact, RunsEndWithin, PagesJoin, PageThenRest, AreasFromAreExact, PagesAreExact, PagesLieWithin, VolumesKeepTheirSize, FillingNothing, FillingLeavesOthers, EachIsAFilling, FillingsAreRead, DiffersInARow, LooseThen, FlushedIsNoneLoose, BrokenIsWritten, BrokenIsZeroed};
 ghost use Rattle.sector_model.specs.VolumeContents.{VolumeContents, IsSized};
 
 /// What a list of writes leaves is what its later part leaves of what its earlier part left.
 pub fn folds_join()
     ensures { FoldsJoin }
+{}
+
+/// The blocks that writes touch are those that the writes' ranges meet.
+pub fn touched_blocks_are_met()
+    ensures { TouchedAreMet }
 {}
 
 /// The maximal runs of the sectors that pass a test are spaced, and have exactly these sectors.
@@ -45,7 +50,7 @@ pub fn volume_fillings()
     ensures in_a_row { (a b c : VolumeContents) → DiffersInARow a b c }
 {}
 
-/// Which sectors are loose after a write, a flush, a filling and a failed write, and that a volume
+/// Which sectors are loose after a write, a zeroing, a flush, a filling and a failed write, and that a volume
 /// is flushed exactly where none is.
 pub fn loose_sectors_after()
     ensures each { (capacity : ℕ) (v : VolumeContents) (s : ℕ) → IsSized capacity v
@@ -54,7 +59,8 @@ pub fn loose_sectors_after()
         → FlushedIsNoneLoose capacity v }
 {}
 
-/// A write that failed leaves what the whole write would, but for loose sectors.
+/// A write or a zeroing that failed leaves what the whole one would, but for loose sectors.
 pub fn broken_volumes()
-    ensures { BrokenIsWritten }
+    ensures written { BrokenIsWritten }
+    ensures zeroed { BrokenIsZeroed }
 {}

@@ -6,6 +6,7 @@
 #![tactic(auto)]
 
 mod laws;
+mod limits;
 mod page;
 mod run;
 mod sector;
@@ -14,8 +15,9 @@ mod tests;
 
 pub use laws::{
     broken_volumes, folds_join, loose_sectors_after, pages_join, pages_lie_within, runs_are_exact,
-    volume_fillings, volumes_keep_their_size,
+    touched_blocks_are_met, volume_fillings, volumes_keep_their_size,
 };
+pub use limits::{MAX_DISK_SECTORS, MAX_DISKS, MAX_LOGGED_SECTORS, MAX_WRITE_SECTORS};
 pub use page::{PAGE_AREAS, Page};
 pub use run::{BLOCK_SECTORS, Run, Runs};
 pub use sector::{SECTOR_BYTES, Sector, SectorList};

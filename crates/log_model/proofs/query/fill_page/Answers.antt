@@ -23,12 +23,12 @@ goes_on start at areas told r joined next = joined ∙ ap (λ (rest : List Run).
 pub overflow_add-at : goal.overflow_add-at
 overflow_add-at c =
     let facts = next_facts c.args.capacity c.args.disk c.loop-run.at c.args.log.now c.in-Some.run' (omega arith) (sym c.in-Some.ensures) in
-    omega (arith, facts.ends)
+    omega (arith, facts.is.inside)
 
 pub loop-run-smaller : goal.loop-run-smaller
 loop-run-smaller c =
     let facts = next_facts c.args.capacity c.args.disk c.loop-run.at c.args.log.now c.in-Some.run' (omega arith) (sym c.in-Some.ensures) in
-    omega (arith, facts.ends, facts.from, facts.some)
+    omega (arith, facts.is.inside, facts.is.from, facts.is.some)
 
 pub loop-run-preserved : goal.loop-run-preserved
 loop-run-preserved c =
@@ -41,8 +41,8 @@ loop-run-preserved c =
       begins = ap (λ (p : PageContents). p.start) c.push.ensures ∙ c.loop-run.invariant.begins;
       joined = goes_on c.args.start c.loop-run.at areas told r c.loop-run.invariant.joined facts.areas
           ∙ sym (append_assoc told (r ∷ []) (areas_from (end_of r) areas)) ∙ ap (λ (xs : List Run). xs ++ areas_from (end_of r) areas) (sym pushed);
-      from = omega (arith, facts.from, c.loop-run.invariant.from);
-      within = facts.ends;
+      from = omega (arith, facts.is.from, c.loop-run.invariant.from);
+      within = facts.is.inside;
       few = omega (arith, ap length pushed, length-append told (r ∷ []), c.loop-run.invariant.few, ap length c.areas.ensures);
       ended = λ d some. ap (λ (xs : List Run). end_of (get_or xs (length xs - 1) d)) pushed ∙ ap end_of (last_pushed told r d);
     }
