@@ -1,3 +1,3 @@
 pub mod MemberLemmas
-pub mod KindLemmas
+pub mod MomentLemmas
 pub mod LineLemmas

@@ -1,6 +1,6 @@
 -- Each command by its row: its name, and its members in the order in which they are tested.
 use Rattle.std.specs.Prelude.{ℕ, ◌-◌, ◌^◌, List, [], ◌∷◌, codes}
-use Rattle.plan_model.specs.declared.plan.TheConstants.{MAX_INTERVAL}
+use Rattle.basics.specs.declared.limits.TheConstants.{MAX_INTERVAL}
 use Rattle.cmd_json.specs.Kinds.{Kind, a_text, a_name, a_moment, a_flag, a_number, a_multiple_of, a_list, a_move_write}
 use Rattle.cmd_json.specs.Members.{Reading, required, optional, defaulted, given, ◌⊛◌, and_then, an_object, the_row}
 use Rattle.cmd_json.specs.declared.refusal.CmdRefused.TheVariants.{Field}

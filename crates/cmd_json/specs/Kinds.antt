@@ -1,11 +1,10 @@
 -- What the value of a member may be. A kind reads a value of JSON: it gives what the value says, or
 -- what is wrong with it. That is `Number` where a number isn't one of the kind, and else `Field`.
-use Rattle.std.specs.Prelude.{ℕ, ◌-◌, ◌%◌, ◌^◌, List, [], ◌∷◌, length, Bool, ◌&&◌, ◌||◌, ◌==◌, nat_le, if◌then◌else◌, is_some, Result, Ok, Err}
-use Rattle.std.specs.List.{list_all}
+use Rattle.std.specs.Prelude.{ℕ, ◌-◌, ◌%◌, ◌^◌, List, [], ◌∷◌, Bool, ◌&&◌, ◌==◌, nat_le, if◌then◌else◌, is_some, Result, Ok, Err}
 use Rattle.std.specs.Option.{ok_or}
 use Rattle.serde_json.specs.Data.{Num, Data, Items, no_items, item}
 use Rattle.serde_json.specs.Find.{at, as_bool, as_number, as_str, as_array, as_u64}
-use Rattle.basics.specs.declared.name.TheConstants.{MAX_NAME_BYTES}
+use Rattle.basics.specs.Spelled.{is_name}
 use Rattle.plan_model.specs.Moments.{moment_of}
 use Rattle.plan_model.specs.declared.moment.Moment.{Moment}
 use Rattle.cmd_json.specs.declared.kind.Misfit.{Misfit}
@@ -25,15 +24,6 @@ result_and_then f (Err e) = Err e
 
 abbrev pub a_text : Kind (List ℕ)
 a_text d = ok_or (as_str d) Field
-
--- a lower-case letter, a digit or a hyphen
-abbrev pub is_name_byte : ℕ → Bool
-is_name_byte b = (nat_le 97 b && nat_le b 122) || (nat_le 48 b && nat_le b 57) || (b == 45)
-
--- the test for names, which `basics` defines
-abbrev pub is_name : List ℕ → Bool
-is_name text = nat_le 1 (length text) && nat_le (length text) MAX_NAME_BYTES
-    && list_all is_name_byte text
 
 abbrev pub a_name : Kind (List ℕ)
 a_name d = result_and_then (λ text. if is_name text then Ok text else Err Field) (a_text d)

@@ -16,7 +16,7 @@ use crate::lists::{ListKind, MoveWriteKind};
 use crate::members::Members;
 use crate::objects::{DisturbKind, GuestKind};
 use crate::refusal::CmdRefused;
-use plan_model::MAX_INTERVAL;
+use basics::MAX_INTERVAL;
 
 pub(crate) fn read_move(members: &mut Members) -> Result<Command, CmdRefused>
     ensures { Reads (command_named (codes "move") (left_in members.old)) (left_in members.new)

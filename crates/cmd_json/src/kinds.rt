@@ -3,7 +3,8 @@ ghost use Rattle.std.specs.Prelude.{◌≡◌, ◌≤◌, IsTrue, IfOk, length};
 ghost use Rattle.serde_json.specs.View.{view};
 ghost use Rattle.basics.specs.declared.name.TheConstants.{MAX_NAME_BYTES};
 ghost use Rattle.plan_model.specs.Moments.{moment_of};
-ghost use Rattle.cmd_json.specs.Kinds.{a_number, is_name};
+ghost use Rattle.basics.specs.Spelled.{is_name};
+ghost use Rattle.cmd_json.specs.Kinds.{a_number};
 
 use crate::Text;
 use crate::command::SECTOR_BYTES;

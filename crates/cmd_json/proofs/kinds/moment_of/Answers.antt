@@ -1,5 +1,5 @@
 use Rattle.std.proofs.Common.{◌∙◌}
-use Rattle.cmd_json.proofs.KindLemmas.{parsed_moment}
+use Rattle.cmd_json.proofs.MomentLemmas.{parsed_moment}
 use Rattle.cmd_json.proofs.kinds.moment_of.Goals as goal
 
 pub returns : goal.returns

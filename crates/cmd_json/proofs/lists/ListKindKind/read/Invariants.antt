@@ -10,4 +10,4 @@ invariant-loop-value g l =
     (goal.iterator-loop-value g).can_next l.value-iterator
     × (goal.iterator-loop-value g).is_finite l.value-iterator
     × (result_and_then (λ vs. Ok (l.items.items ++ vs)) (each (g.K.Kind.says l.self.0) (items_view (into_iter_items l.value-iterator)))
-        ≡ each (g.K.Kind.says l.self.0) (items_view (into_iter_items l.initial.value-iterator)))
+    ≡ each (g.K.Kind.says l.self.0) (items_view (into_iter_items l.initial.value-iterator)))
