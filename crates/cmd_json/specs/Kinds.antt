@@ -55,7 +55,8 @@ a_multiple_of unit = a_number_that (λ k. (k % unit) == 0)
 -- what each item says, where none is wrong; else what is wrong with the first that is
 abbrev pub each : {T : Type 0} → Kind T → Items → Result (List T) Misfit
 each kind no_items = Ok []
-each kind (item d ds) = result_and_then (λ v. result_and_then (λ vs. Ok (v ∷ vs)) (each kind ds)) (kind d)
+each kind (item d ds) =
+    result_and_then (λ v. result_and_then (λ vs. Ok (v ∷ vs)) (each kind ds)) (kind d)
 
 abbrev pub a_list : {T : Type 0} → Kind T → Kind (List T)
 a_list kind d = result_and_then (each kind) (ok_or (as_array d) Field)

@@ -4,3 +4,4 @@ pub mod Left
 pub mod Refusal
 pub mod Commands
 pub mod Line
+pub mod Laws

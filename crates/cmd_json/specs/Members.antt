@@ -23,7 +23,8 @@ Reading T = Members → Result (T × Members) CmdRefused
 abbrev pub without : List ℕ → Members → Members
 without k no_members = no_members
 without k (member l e ms) =
-    match_ordering (slice_cmp nat_cmp k l) (member l e (without k ms)) ms (member l e (without k ms))
+    match_ordering (slice_cmp nat_cmp k l)
+    (member l e (without k ms)) ms (member l e (without k ms))
 
 -- the refusal that tells of a member what is wrong with its value
 abbrev pub refusal_of : (name : List ℕ) → Misfit → CmdRefused
@@ -44,7 +45,8 @@ required name kind members =
     (result_and_then (said name kind) (ok_or (get_member name members) (Field name)))
 
 -- a member's value where it stands, and else another one
-abbrev pub or_else : {T : Type 0} → T → (Data → Result T CmdRefused) → Option Data → Result T CmdRefused
+abbrev pub or_else : {T : Type 0} → (other : T) → (Data → Result T CmdRefused) → Option Data
+    → Result T CmdRefused
 or_else other value None = Ok other
 or_else other value (Some d) = value d
 
@@ -106,7 +108,8 @@ named name [] = None
 named name (row ∷ rows) = if bytes_eq name row.0 then Some row.1 else named name rows
 
 -- the reading of the row that has the name, where one has it
-abbrev pub the_row : {T : Type 0} → (none : CmdRefused) → List (List ℕ × Reading T) → (name : List ℕ) → Reading T
+abbrev pub the_row : {T : Type 0} → (none : CmdRefused) → List (List ℕ × Reading T)
+    → (name : List ℕ) → Reading T
 the_row none table name members =
     result_and_then (λ reading. reading members) (ok_or (named name table) none)
 

@@ -20,7 +20,7 @@ pub use command::{
     ActLine, Command, DisturbLine, GuestLine, MAX_DISK_SECTORS, MAX_HOST_LIMIT, MAX_READ_SECTORS,
     MAX_WORKERS, MAX_WRITE_SECTORS, MoveWrite, SECTOR_BYTES,
 };
-pub use read::{BUILT, read_command};
+pub use read::{BUILT, order_is_kept, read_command};
 pub use refusal::CmdRefused;
 pub use sequence::Sequence;
 pub use text::Text;

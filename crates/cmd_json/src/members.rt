@@ -39,7 +39,8 @@ impl Members {
 
     /// Reads a member that has to be there.
     pub(crate) fn required<K: Kind>(&mut self, name: &str, kind: K) -> Result<K::Said, CmdRefused>
-        ensures { Reads (required name.now (K.says kind) (left_in self.old)) (left_in self.new) result }
+        ensures { Reads (required name.now (K.says kind) (left_in self.old)) (left_in self.new)
+            result }
     {
         match self.take(name) {
             Some(value) => said(self.alloc, name, &kind, value),
@@ -53,7 +54,8 @@ impl Members {
         name: &str,
         kind: K,
     ) -> Result<Option<K::Said>, CmdRefused>
-        ensures { Reads (optional name.now (K.says kind) (left_in self.old)) (left_in self.new) result }
+        ensures { Reads (optional name.now (K.says kind) (left_in self.old)) (left_in self.new)
+            result }
     {
         match self.take(name) {
             Some(value) => Ok(Some(said(self.alloc, name, &kind, value)?)),
@@ -67,7 +69,8 @@ impl Members {
         name: &str,
         kind: K,
     ) -> Result<Sequence<K::Said>, CmdRefused>
-        ensures { Reads (defaulted [] name.now (a_list (K.says kind)) (left_in self.old)) (left_in self.new) result }
+        ensures { Reads (defaulted [] name.now (a_list (K.says kind)) (left_in self.old))
+            (left_in self.new) result }
     {
         match self.take(name) {
             Some(value) => said(self.alloc, name, &ListKind(kind), value),

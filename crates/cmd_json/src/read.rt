@@ -1,6 +1,7 @@
 //! The command of a line, by its name.
 ghost use Rattle.std.specs.Prelude.{◌≡◌};
 ghost use Rattle.serde_json.specs.View.{view};
+ghost use Rattle.cmd_json.specs.Laws.{KeepsOrder};
 ghost use Rattle.cmd_json.specs.Left.{left_in};
 ghost use Rattle.cmd_json.specs.Line.{command_of, command_among, command_of_data, command_of_members, command_named, contains, names_of};
 ghost use Rattle.cmd_json.specs.Members.{Gives, Reads};
@@ -44,10 +45,17 @@ pub const BUILT: [&str; 22] = [
     "quit",
 ];
 
-/// The command that a line asks for, or why it asks for none; the line comes without its line feed.
-/// Blank lines and lines that are too long are told apart before: here a blank one is
-/// [`CmdRefused::Json`], and no length is too much. Want of memory may stand in place of every
-/// answer.
+/// The command that a line asks for, or why it asks for none. The line comes without its line feed.
+/// In this order: [`CmdRefused::Json`] where it isn't JSON in UTF-8 or nests deeper than 127;
+/// [`CmdRefused::Command`] where it isn't an object whose member `cmd` is the name of a command
+/// that is built; then, member after member as the command has them, [`CmdRefused::Field`] for one
+/// that is missing, of the wrong kind or no name, and [`CmdRefused::Number`] for a number or a
+/// moment that isn't one of its own; at last [`CmdRefused::Field`] with the least member that the
+/// command doesn't have. Of several members of one name the last one counts. What is wrong within a
+/// list is told by the name of the list.
+///
+/// Blank lines and lines that are too long are told apart by the caller: here a blank one isn't
+/// JSON, and no length is too much. Want of memory may stand in place of every answer.
 pub fn read_command(alloc: Global, line: &[u8]) -> Result<Command, CmdRefused>
     ensures { Gives refused.NoMemory (command_of line.now) result }
 {
@@ -124,3 +132,10 @@ fn read_named(name: &str, members: &mut Members) -> Result<Command, CmdRefused>
         _ => Err(CmdRefused::Command),
     }
 }
+
+/// The object that a line is has each name once, in ascending order of its bytes, and so have the
+/// members that are left when one was taken out. So the first that is left, which is told, is the
+/// least.
+pub fn order_is_kept()
+    ensures { KeepsOrder }
+{}
