@@ -82,7 +82,8 @@ pub enum WriteRefused {
     /// ([`MAX_WRITE_SECTORS`](sector_model::MAX_WRITE_SECTORS)), or the range passes the capacity.
     Range,
     /// The sectors of all writes would pass
-    /// [`MAX_LOGGED_SECTORS`](sector_model::MAX_LOGGED_SECTORS), or the log holds [`MAX_LOG_ENTRIES`](crate::MAX_LOG_ENTRIES) entries.
+    /// [`MAX_LOGGED_SECTORS`](sector_model::MAX_LOGGED_SECTORS), or the log holds
+    /// [`MAX_LOG_ENTRIES`](crate::MAX_LOG_ENTRIES) entries.
     LogFull,
     /// Memory ran out.
     NoMemory,

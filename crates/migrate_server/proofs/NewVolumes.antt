@@ -1,16 +1,16 @@
 -- A volume that was made, copied to, and taken back.
-use Rattle.std.proofs.Common.{◌≡◌, ◌⊎◌, ℕ, ◌+◌, ◌-◌, ◌≤◌, Bool, true, false, ◌&&◌, List, length, Option, Some, None, Result, Ok, Err, option_map, inl, inr, refl, sym, ap, subst, ◌∙◌, arith}
+use Rattle.std.proofs.Common.{◌≡◌, ◌⊎◌, ℕ, ◌-◌, ◌≤◌, Bool, true, false, ◌&&◌, List, length, Option, Some, None, Result, Ok, Err, option_map, inl, inr, refl, sym, ap, subst, ◌∙◌, arith}
 use Rattle.std.specs.Prelude.{IfSome, IsSome, IsSomeAnd, IsTrue, OnOk, OnErr}
-use Rattle.std.proofs.lemmas.Bool.{true≢false, false≢true}
+use Rattle.std.proofs.lemmas.Bool.{true≢false}
 use Rattle.basics.specs.Faults.{counted_by, Rose}
 use Rattle.basics.proofs.FaultLemmas.{rose_with}
 use Rattle.sector_model.specs.VolumeContents.{VolumeContents, IsSized}
 use Rattle.sector_model.specs.declared.sector.Sector.{Sector}
 use Rattle.target_volume.specs.Volume.{VolumeState}
-use Rattle.target_volume.specs.VolumeName.{find_volume, with_volume, without_volume}
+use Rattle.target_volume.specs.VolumeName.{find_volume, with_volume}
 use Rattle.target_volume.specs.declared.store_refused.StoreRefused.{StoreRefused}
 use Rattle.target_volume.specs.declared.store_refused.StoreRefused.TheVariants.{Failed}
-use Rattle.target_volume.specs.VolumeStore.{StoreState, StoreFails, StoredVolume, Loan, Lends, IsFresh, IsLentOut, find_loan, lent_out, at_home, after_lending, after_taking_back}
+use Rattle.target_volume.specs.VolumeStore.{StoreState, StoreFails, StoredVolume, Loan, Lends, IsFresh, IsLentOut, find_loan, lent_out, at_home, after_taking_back}
 use Rattle.target_volume.specs.declared.volume_name.VolumeName.{VolumeName}
 use Rattle.target_volume.proofs.NameLemmas.{find-with_same, with-with, without-with}
 use Rattle.migrate_server.specs.Copy.{after_copy, copied_contents, CopyFails}

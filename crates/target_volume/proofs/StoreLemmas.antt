@@ -1,11 +1,11 @@
 -- A volume that is lent out and taken back: what that leaves of its store.
-use Rattle.std.proofs.Common.{◌≡◌, ℕ, ◌+◌, ◌-◌, ◌≤◌, Bool, true, false, ◌&&◌, List, Option, Some, None, option_map, IsTrue, ap, sym, ◌∙◌, refl, arith}
+use Rattle.std.proofs.Common.{◌≡◌, ℕ, ◌-◌, ◌≤◌, Bool, true, false, ◌&&◌, List, Option, Some, None, option_map, IsTrue, ap, ◌∙◌, refl, arith}
 use Rattle.std.specs.Prelude.{IfSome}
 use Rattle.basics.specs.Faults.{counted_by, last_count}
 use Rattle.target_volume.proofs.NameLemmas.{with-with, with-found, without-with}
 use Rattle.target_volume.specs.Volume.{VolumeState}
-use Rattle.target_volume.specs.VolumeName.{find_volume, with_volume, without_volume, AreAscending}
-use Rattle.target_volume.specs.VolumeStore.{StoreState, StoredVolume, Loan, IsOrderly, at_home, lent_out, after_lending, after_taking_back}
+use Rattle.target_volume.specs.VolumeName.{find_volume, with_volume, AreAscending}
+use Rattle.target_volume.specs.VolumeStore.{StoreState, StoredVolume, IsOrderly, at_home, lent_out, after_lending, after_taking_back}
 use Rattle.target_volume.specs.declared.volume_name.VolumeName.{VolumeName}
 
 told_back : (name : VolumeName) (x y : StoredVolume)
