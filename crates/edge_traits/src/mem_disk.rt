@@ -3,7 +3,7 @@ ghost use Rattle.std.specs.Prelude.{◌≡◌, ◌≤◌, ◌+◌, ◌⊎◌, �
 ghost use Rattle.basics.specs.Calls.{FailsNext};
 ghost use Rattle.basics.specs.Faults.{HasCause};
 ghost use Rattle.edge_traits.specs.Disk.{IsImage, IsBrokenWrite, IsBrokenCut, after_write, after_cut, after_sync};
-ghost use Rattle.edge_traits.specs.MemDisk.{untouched, IsPicked, IsMixed, IsTooFullFor, after_asking, after_using};
+ghost use Rattle.edge_traits.specs.MemDisk.{untouched, IsPicked, IsMixed, IsTooFullFor, after_asking, after_using, mixed_length as length_of};
 
 use crate::overlay::{noise, overlay, overwrite, advance};
 use crate::span::Span;
@@ -124,13 +124,20 @@ impl MemDisk {
         ensures possible { IfOk result (λ mixed. IsImage self.now.contents mixed.items) }
         ensures short { IfOk result (λ mixed. length mixed.items ≤ self.now.room) }
     {
-        let first = advance(seed);
-        let spare = (first >> 33) as usize % (self.greatest - self.least + 1);
-        let noise = noise(self.alloc, self.least + spare, first)?;
+        let noise = noise(self.alloc, self.mixed_length(seed), advance(seed))?;
         let mut mixed = Vec::with_capacity(self.alloc, self.room)?;
         mixed.extend_from_slice(&self.synced)?;
         overlay(&mut mixed, &noise, &self.loose);
         Ok(mixed)
+    }
+
+    /// The length of a mixed image.
+    fn mixed_length(&self, seed: u64) -> usize
+        ensures length { result ≡ length_of seed self.now.contents }
+        ensures short { result ≤ self.now.room }
+    {
+        let spare = self.greatest - self.least + 1;
+        self.least + (advance(seed) >> 33) as usize % spare
     }
 
     /// Counts a call that writes so many bytes. It fails where there is no room for it, and where

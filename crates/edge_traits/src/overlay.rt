@@ -18,7 +18,8 @@ pub(crate) fn advance(x: u64) -> u64
 
 /// So many bytes of the generator. It answers only want of memory.
 pub(crate) fn noise(alloc: Global, count: usize, seed: u64) -> Result<Vec<u8>, NoMemory>
-    ensures { IfOk result (λ bytes. bytes.items ≡ noise_of count seed) }
+    ensures bytes { IfOk result (λ bytes. bytes.items ≡ noise_of count seed) }
+    ensures len { IfOk result (λ bytes. length bytes.items ≡ count) }
 {
     let mut bytes = Vec::with_capacity(alloc, count)?;
     let mut x = seed;
@@ -37,8 +38,16 @@ pub(crate) fn overwrite(bytes: &mut Vec<u8>, offset: usize, written: &[u8])
     ensures room { vec_capacity bytes.old ≤ vec_capacity bytes.new }
 {
     let within = written.len().min(bytes.len() - offset);
-    bytes[offset..offset + within].copy_from_slice(&written[..within]);
+    write_over(bytes, offset, &written[..within]);
     bytes.extend_from_slice(&written[within..]).unwrap();
+}
+
+/// Puts bytes in place of as many others, from an offset on.
+fn write_over(bytes: &mut [u8], offset: usize, written: &[u8])
+    requires { offset + length written.now ≤ length bytes.old }
+    ensures { bytes.new ≡ overwritten offset written.now bytes.old }
+{
+    bytes[offset..offset + written.len()].copy_from_slice(written);
 }
 
 /// Makes the lower bytes the upper ones, but for those that reach as far and stand in no span.
@@ -73,5 +82,5 @@ fn copy_span(from: &[u8], to: &mut [u8], span: &Span)
 {
     let first = span.first.min(to.len());
     let end = first + span.count.min(to.len() - first);
-    to[first..end].copy_from_slice(&from[first..end]);
+    write_over(to, first, &from[first..end]);
 }
