@@ -1,12 +1,14 @@
 -- How images follow from one another.
 use Rattle.std.proofs.Common.{◌≡◌, ℕ, zero, suc, ◌+◌, ◌-◌, ◌/◌, ◌%◌, ◌^◌, ◌<◌, ◌≤◌, min, max, nat_lt, nat_le, Bool, true, false, not, if◌then◌else◌, ◌||◌, ◌&&◌, List, [], ◌∷◌, ◌++◌, length, get_or, take, drop, refl, sym, ◌∙◌, ap, ◌⊎◌, inl, inr, arith, length-take, length-drop, length-append}
+use Rattle.std.specs.Prelude.{Option, Some, None, option_map, Result, Ok, Err, OnOk, OnErr}
+use Rattle.std.specs.Option.{ForSome}
 use Rattle.std.specs.List.{list_any}
 use Rattle.std.proofs.lemmas.List.{get_or-take, ext_get_or, drop-drop, take-append-le, drop-append-le}
 use Rattle.std.proofs.lemmas.Bool.{cases_lt}
 use Rattle.std.proofs.lemmas.List.Folds.{list_any-append}
 use Rattle.std.proofs.lemmas.Bool.Decides.{nat_tests}
 use Rattle.edge_traits.specs.declared.span.Span.{Span}
-use Rattle.edge_traits.specs.Disk.{DiskContents, IsImage, covers, is_loose, settled, loosened, shortened, overwritten, after_write, after_cut, AllowsNoMore, IsBrokenWrite, IsBrokenCut}
+use Rattle.edge_traits.specs.Disk.{DiskContents, IsImage, covers, is_loose, settled, loosened, shortened, overwritten, after_write, after_cut, AllowsNoMore, IsBrokenWrite, IsBrokenCut, WhereTold}
 use Rattle.edge_traits.specs.MemDisk.{IsConsistent, IsOverlaid, IsMixed, mixed_length, noise, advance}
 use Rattle.edge_traits.proofs.Overwritten.{length-overwritten, overwritten_before, overwritten_behind, front_of, rest_of, drop_on}
 
@@ -69,10 +71,10 @@ written_kept : (c : DiskContents) (offset : ℕ) (bytes : List ℕ) (k : ℕ) �
     → get_or (overwritten offset bytes c.bytes) k 0 ≡ get_or c.synced k 0
 written_kept c offset bytes k image begins below synced loose outside =
     elim (cases_lt k offset) [
-      inl before ↦
+      | inl before ↦
           let within : k < length c.bytes = omega arith in
           overwritten_before offset bytes c.bytes k begins before ∙ image.kept k within synced loose
-    | inr from ↦
+      | inr from ↦
           let behind : offset + length bytes ≤ k = outside from in
           let within : k < length c.bytes = omega arith in
           overwritten_behind offset bytes c.bytes k begins behind ∙ image.kept k within synced loose
@@ -88,13 +90,13 @@ write_consistent c offset bytes is begins =
     let synced_long : c.least ≤ length c.synced = is.synced.long in
     let synced_short : length c.synced ≤ c.greatest = is.synced.short in
     let kept : (k : ℕ) → k < length (overwritten offset bytes c.bytes) → k < length c.synced
-        → is_loose k (after_write offset bytes c) ≡ false
-        → get_or (overwritten offset bytes c.bytes) k 0 ≡ get_or c.synced k 0 =
+    → is_loose k (after_write offset bytes c) ≡ false
+    → get_or (overwritten offset bytes c.bytes) k 0 ≡ get_or c.synced k 0 =
     λ k below synced loose.
-        let parts = not_loosened c offset (length bytes) k loose in
-        let reached : k < max (length c.bytes) (offset + length bytes) = omega arith in
-        written_kept c offset bytes k is.read begins reached synced parts.0
-        (not_covered k offset (length bytes) parts.1) in
+    let parts = not_loosened c offset (length bytes) k loose in
+    let reached : k < max (length c.bytes) (offset + length bytes) = omega arith in
+    written_kept c offset bytes k is.read begins reached synced parts.0
+    (not_covered k offset (length bytes) parts.1) in
     record {
       read = record { long = omega arith; short = omega arith; kept = kept };
       synced = record { long = omega arith; short = omega arith; kept = λ k b s l. refl };
@@ -109,11 +111,11 @@ cut_consistent c len is within =
     let synced_short : length c.synced ≤ c.greatest = is.synced.short in
     let left : length (take len c.bytes) ≡ len = omega (arith, length-take len c.bytes) in
     let kept : (k : ℕ) → k < length (take len c.bytes) → k < length c.synced
-        → is_loose k c ≡ false → get_or (take len c.bytes) k 0 ≡ get_or c.synced k 0 =
+    → is_loose k c ≡ false → get_or (take len c.bytes) k 0 ≡ get_or c.synced k 0 =
     λ k below synced loose.
-        let inside : k < len = omega arith in
-        let whole : k < length c.bytes = omega arith in
-        get_or-take len c.bytes k 0 inside ∙ is.read.kept k whole synced loose in
+    let inside : k < len = omega arith in
+    let whole : k < length c.bytes = omega arith in
+    get_or-take len c.bytes k 0 inside ∙ is.read.kept k whole synced loose in
     record {
       read = record { long = omega arith; short = omega arith; kept = kept };
       synced = record { long = omega arith; short = omega arith; kept = λ k b s l. refl };
@@ -231,10 +233,10 @@ bytes_there k n true x y same = either_way (nat_lt k n) x y
     either_way false x y = refl
 bytes_there k n false x y same =
     elim (cases_lt k n) [
-      inl below ↦
+      | inl below ↦
           let test : nat_lt k n ≡ true = grind (arith, nat_tests) in
           rw test (same below refl)
-    | inr past ↦
+      | inr past ↦
           let test : nat_lt k n ≡ false = grind (arith, nat_tests) in
           rw test refl
     ]
@@ -245,7 +247,46 @@ pub synced_up : (c : DiskContents) (synced : List ℕ) → IsConsistent c
 synced_up c synced is laid =
     ext_get_or 0 synced c.bytes laid.long
     (λ k below.
-        let inside : k < length c.bytes = omega (arith, laid.long) in
-        laid.each k inside
-        ∙ bytes_there k (length c.synced) (is_loose k c) _ _
-        (λ within loose. sym (is.read.kept k inside within loose)))
+    let inside : k < length c.bytes = omega (arith, laid.long) in
+    laid.each k inside
+    ∙ bytes_there k (length c.synced) (is_loose k c) _ _
+    (λ within loose. sym (is.read.kept k inside within loose)))
+
+-- what a disk leaves that did a part of a write, where it tells that
+pub part_told : (old new : Option DiskContents) (offset : ℕ) (bytes : List ℕ) (n : ℕ)
+    → n ≤ length bytes → ForSome old (λ c. offset ≤ length c.bytes)
+    → new ≡ option_map (after_write offset (take n bytes)) old
+    → WhereTold (IsBrokenWrite offset (length bytes)) old new
+part_told None None offset bytes n within begins is = tt
+part_told None (Some new) offset bytes n within begins is = absurd (cc)
+part_told (Some old) None offset bytes n within begins is = absurd (cc)
+part_told (Some old) (Some new) offset bytes n within begins is =
+    let same : new ≡ after_write offset (take n bytes) old = cc in
+    rw same (half_write old offset bytes n (begins old refl) within)
+
+pub wider_told : (old new : Option DiskContents) (offset count more : ℕ) → count ≤ more
+    → WhereTold (IsBrokenWrite offset count) old new → WhereTold (IsBrokenWrite offset more) old new
+wider_told None None offset count more le is = tt
+wider_told None (Some new) offset count more le is = is
+wider_told (Some old) None offset count more le is = is
+wider_told (Some old) (Some new) offset count more le is = wider_break old new offset count more le is
+
+pub unbroken_told : (old new : Option DiskContents) (offset count : ℕ) → new ≡ old
+    → WhereTold (IsBrokenWrite offset count) old new
+unbroken_told None None offset count is = tt
+unbroken_told None (Some new) offset count is = absurd (cc)
+unbroken_told (Some old) None offset count is = absurd (cc)
+unbroken_told (Some old) (Some new) offset count is =
+    let same : new ≡ old = cc in
+    rw same (unbroken_write old offset count)
+
+-- what a disk leaves that was asked to do the first part of a write
+pub part_asked : {T E : Type 0} (result : Result T E) (old new : Option DiskContents) (offset : ℕ)
+    (bytes : List ℕ) (n : ℕ) → n ≤ length bytes → ForSome old (λ c. offset ≤ length c.bytes)
+    → OnOk result (new ≡ option_map (after_write offset (take n bytes)) old)
+    → OnErr result (WhereTold (IsBrokenWrite offset (length (take n bytes))) old new)
+    → WhereTold (IsBrokenWrite offset (length bytes)) old new
+part_asked (Ok answer) old new offset bytes n within begins done broken =
+    part_told old new offset bytes n within begins done
+part_asked (Err refusal) old new offset bytes n within begins done broken =
+    wider_told old new offset (length (take n bytes)) (length bytes) (omega (arith, length-take n bytes)) broken

@@ -71,7 +71,7 @@ rest_of offset ys xs n begins behind =
     let all : length (take offset xs ++ ys) ≡ offset + length ys =
     omega (arith, front, length-append (take offset xs) ys) in
     let seam : drop (length (take offset xs ++ ys)) (overwritten offset ys xs)
-        ≡ drop (offset + length ys) xs =
+    ≡ drop (offset + length ys) xs =
     drop-append_seam (take offset xs ++ ys) (drop (offset + length ys) xs) in
     let here : drop (offset + length ys) (overwritten offset ys xs) ≡ drop (offset + length ys) xs =
     ap (λ k. drop k (overwritten offset ys xs)) (sym all) ∙ seam in

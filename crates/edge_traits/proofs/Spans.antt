@@ -45,18 +45,18 @@ span_copied span from to f n same first count offset within =
     let long : length (take (f + n - f) (drop f from)) ≡ n =
     omega (arith, length-take (f + n - f) (drop f from), length-drop f from) in
     elim (cases_lt offset f) [
-      inl before ↦
+      | inl before ↦
           let outside : offset < span.first = omega arith in
           if_not _ _ _ _ (uncovered_before offset span outside) (overwritten_before f _ to offset begins before)
-    | inr begun ↦
+      | inr begun ↦
           elim (cases_lt offset (f + n)) [
-            inl inside ↦
+            | inl inside ↦
                 let from_first : span.first ≤ offset = omega arith in
                 let to_end : offset < span.first + span.count = omega arith in
                 let in_piece : offset < f + length (take (f + n - f) (drop f from)) = omega arith in
                 if_so _ _ _ _ (covered offset span from_first to_end)
                 (overwritten_within f _ to offset begins begun in_piece ∙ piece_at f n from offset begun inside)
-          | inr behind ↦
+            | inr behind ↦
                 let past : span.first + span.count ≤ offset = omega arith in
                 let past_piece : f + length (take (f + n - f) (drop f from)) ≤ offset = omega arith in
                 if_not _ _ _ _ (uncovered_behind offset span past) (overwritten_behind f _ to offset begins past_piece)
@@ -83,7 +83,7 @@ pub one_span_more : (spans : List Span) (i : ℕ) (d : Span) (offset x y now new
 one_span_more spans i d offset x y now new less before after =
     let span : Span = get_or spans i d in
     let split : list_any (covers offset) (take (i + 1) spans)
-        ≡ (list_any (covers offset) (take i spans) || covers offset span) =
+    ≡ (list_any (covers offset) (take i spans) || covers offset span) =
     ap (λ (xs : List Span). list_any (covers offset) xs) (take_more spans i d less)
     ∙ list_any-append (covers offset) (take i spans) (span ∷ [])
     ∙ ap (λ (b : Bool). list_any (covers offset) (take i spans) || b) (or_false (covers offset span)) in

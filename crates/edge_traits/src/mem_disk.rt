@@ -5,7 +5,7 @@ ghost use Rattle.basics.specs.Faults.{HasCause};
 ghost use Rattle.edge_traits.specs.Disk.{IsImage, IsBrokenWrite, IsBrokenCut, after_write, after_cut, after_sync};
 ghost use Rattle.edge_traits.specs.MemDisk.{untouched, IsPicked, IsMixed, IsTooFullFor, after_asking, after_using, mixed_length as length_of};
 
-use crate::overlay::{noise, overlay, overwrite, advance};
+use crate::overlay::{advance, noise, overlay, overwrite};
 use crate::span::Span;
 use crate::{Disk, Failed, NoMemory};
 use basics::Calls;
@@ -64,12 +64,12 @@ impl Model for MemDisk {
     } };
 
     ghost invariant = { λ d. HasRoom d.bytes d.synced d.loose (record {
-        bytes = d.bytes.items;
-        synced = d.synced.items;
-        loose = d.loose.items;
-        least = d.least;
-        greatest = d.greatest;
-      }) d.room d.used };
+      bytes = d.bytes.items;
+      synced = d.synced.items;
+      loose = d.loose.items;
+      least = d.least;
+      greatest = d.greatest;
+    }) d.room d.used };
 }
 
 impl MemDisk {

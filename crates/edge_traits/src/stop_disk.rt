@@ -134,13 +134,14 @@ impl<D: Disk> Disk for StopDisk<D> {
     {
         let had_stopped = self.has_stopped();
         self.count();
-        if !self.has_stopped() {
-            return self.inner.write_at(at, bytes);
+        if had_stopped {
+            return Err(self.fail());
         }
-        if !had_stopped {
+        if self.has_stopped() {
             let _ = self.inner.write_at(at, &bytes[..bytes.len() / 2]);
+            return Err(self.fail());
         }
-        Err(self.fail())
+        self.inner.write_at(at, bytes)
     }
 
     fn cut(&mut self, len: u64) -> Result<(), Failed>

@@ -24,6 +24,11 @@ loop-preserved c =
 pub returns-clause-len : goal.returns-clause-len
 returns-clause-len c =
     let whole : length (c.loop.bytes.items ++ noise (c.args.count - c.loop.counter) c.loop.x)
-        ≡ length (noise c.args.count c.args.seed) = ap length c.loop.invariant in
-    omega (arith, whole, length-append c.loop.bytes.items (noise (c.args.count - c.loop.counter) c.loop.x),
-    length-noise (c.args.count - c.loop.counter) c.loop.x, length-noise c.args.count c.args.seed)
+    ≡ length (noise c.args.count c.args.seed) = ap length c.loop.invariant in
+    omega (
+      arith,
+      whole,
+      length-append c.loop.bytes.items (noise (c.args.count - c.loop.counter) c.loop.x),
+      length-noise (c.args.count - c.loop.counter) c.loop.x,
+      length-noise c.args.count c.args.seed,
+    )

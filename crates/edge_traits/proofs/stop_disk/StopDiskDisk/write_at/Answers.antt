@@ -1,7 +1,14 @@
-use Rattle.std.proofs.Common.{◌≡◌, arith, length}
-use Rattle.std.proofs.lemmas.Grind.{common_steps}
+use Rattle.std.proofs.Common.{◌≡◌, ◌/◌, ◌∙◌, sym, ap, arith, length}
+use Rattle.edge_traits.proofs.Images.{part_asked}
 use Rattle.edge_traits.proofs.stop_disk.StopDiskDisk.write_at.Goals as goal
-use Rattle.edge_traits.proofs.stop_disk.StopDiskDisk.write_at.Goals.{then-not-had_stopped, else-not-had_stopped}
 
-pub returns-clause-broken : goal.returns-clause-broken
-returns-clause-broken c = elim c.if-not-had_stopped.branch [ then-not-had_stopped w ↦ let a = w.write_at-then-not-had_stopped.ensures in let b = w.self-is in let d = c.fail.ensures in ? | else-not-had_stopped w ↦ ? ]
+pub returns-then-has_stopped-clause-broken : goal.returns-then-has_stopped-clause-broken
+returns-then-has_stopped-clause-broken g c =
+    let old : c.args.self.now.inner ≡ c.self.inside.inner =
+    sym (ap (λ s. s.inner) c.count.ensures) ∙ sym (ap (λ s. s.inner) c.self.view_is) in
+    let half = c.write_at.ensures in
+    let new : c.fail-then-has_stopped.new.self.inner ≡ c.write_at.new.self =
+    ap (λ s. s.inner) c.fail-then-has_stopped.ensures in
+    let begins = rw old at c.requires in
+    rw (new, old) (part_asked _ _ _ c.args.at c.args.bytes.now (length c.args.bytes.now / 2) (omega arith) begins
+    half.written half.broken)
