@@ -1,0 +1,7 @@
+pub mod Format
+pub mod Refusal
+pub mod Cells
+pub mod Journal
+pub mod Opening
+pub mod Devices
+pub mod Laws
