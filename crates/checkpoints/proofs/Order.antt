@@ -1,6 +1,7 @@
 -- The order of checkpoints under adding and finishing, and the last of them.
 use Rattle.std.proofs.Common.{◌≡◌, ℕ, zero, suc, ◌-◌, ◌<◌, Bool, true, false, not, List, [], ◌∷◌, ◌++◌, length, Option, Some, None, refl, sym, ap, ◌∙◌, arith}
 use Rattle.std.specs.Prelude.{◌==◌, ◌&&◌, nat_lt, slice_get, option_map, if◌then◌else◌}
+use Rattle.std.proofs.lemmas.Bool.{not-false}
 use Rattle.std.proofs.lemmas.Bool.Decides.{nat_tests}
 use Rattle.checkpoints.specs.declared.checkpoint.Checkpoint.{Checkpoint}
 use Rattle.checkpoints.specs.declared.checkpoint.DvPhase.TheVariants.{Paused, Succeeded}
@@ -56,14 +57,10 @@ reach_any : (a b : ℕ) (y : Checkpoint) (rest : List Checkpoint) → reach a (l
 reach_any a b y [] = refl
 reach_any a b y (z ∷ rest) = reach_any a b z rest
 
-not_false : (b : Bool) → not b ≡ false → b ≡ true
-not_false true e = refl
-not_false false e = sym e
-
 add_chain : (reached : ℕ) (xs : List Checkpoint) (added : Checkpoint) → IsChainFrom reached xs → is_unfinished (last_of xs) ≡ false
     → added.previous ≡ reach reached (last_of xs) → added.previous < added.current → IsChainFrom reached (xs ++ added ∷ [])
 add_chain reached [] added h u e lt = (e, omega arith)
-add_chain reached (x ∷ []) added h u e lt = (h.0, h.1, not_false x.done u, (e, omega arith))
+add_chain reached (x ∷ []) added h u e lt = (h.0, h.1, not-false x.done u, (e, omega arith))
 add_chain reached (x ∷ y ∷ rest) added h u e lt =
     (h.0, h.1, h.2, add_chain x.current (y ∷ rest) added h.3 u (e ∙ reach_any reached x.current y rest) lt)
 

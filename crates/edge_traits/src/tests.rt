@@ -15,7 +15,8 @@ fn first<S: Source>(source: &mut S, buf: &mut [u8]) -> Result<usize, Failed>
 }
 
 fn put_into<S: Sink>(sink: &mut S, bytes: &[u8]) -> Result<(), Failed>
-    ensures whole { OnOk result (Appends (S.state sink.old).held (S.state sink.new).held bytes.now) }
+    ensures whole { OnOk result
+        (Appends (S.state sink.old).held (S.state sink.new).held bytes.now) }
     ensures cause { HasCause (S.state sink.old).faults (S.state sink.new).faults result }
 {
     sink.put(bytes)

@@ -2,6 +2,7 @@
 use Rattle.std.proofs.Common.{◌≡◌, ℕ, zero, suc, ◌+◌, ◌*◌, ◌/◌, ◌<◌, ◌≤◌, min, max, Bool, true, false, cond, ltb, eqb, ◌||◌, ◌&&◌, List, [], ◌∷◌, length, get_or, take, inl, inr, refl, sym, ap, subst, ◌∙◌, arith}
 use Rattle.std.specs.Prelude.{replicate, All, unwrap_or}
 use Rattle.std.specs.List.{list_any, fold, filter, range_with_len, AllByRecursion}
+use Rattle.std.proofs.Math.Bool.{or-false}
 use Rattle.std.proofs.lemmas.Bool.{or_parts, cases_lt, cases_eq, ltb-false, lt-ltb, eq-eqb}
 use Rattle.std.proofs.lemmas.Grind.{fold-append}
 use Rattle.std.proofs.lemmas.List.{map_more, length-replicate, get_or-replicate}
@@ -10,15 +11,15 @@ use Rattle.std.proofs.lemmas.List.Elements.{recursion_from_All}
 use Rattle.std.proofs.lemmas.Option.{unwrap_or-slice_get}
 use Rattle.sector_model.specs.Sector.{zero_sector, filled}
 use Rattle.sector_model.specs.Disk.{Write, Fits, after_write, fresh_disk}
-use Rattle.sector_model.specs.Run.{block_count, touches, touched_blocks, in_blocks, areas_of}
+use Rattle.sector_model.specs.Run.{block_count, meets, touches, touched_blocks, in_blocks, areas_of}
 use Rattle.sector_model.specs.declared.sector.Sector.{Sector}
 use Rattle.sector_model.proofs.Exact.{in_runs_of}
 use Rattle.migrate_server.specs.declared.command.MoveWrite.{MoveWrite}
 use Rattle.migrate_server.specs.WrittenDisk.{disk_write, disk_writes, written_disk}
-use Rattle.migrate_server.specs.WrittenDisk.{AreFlagged, FlagsAfter, meets}
+use Rattle.migrate_server.specs.WrittenDisk.{AreFlagged, FlagsAfter}
 use Rattle.migrate_server.specs.Copy.{IsClearOutside}
 use Rattle.sector_model.proofs.Replaced.{length-after_writes, untouched}
-use Rattle.migrate_server.proofs.Lists.{filter-range_same}
+use Rattle.sector_model.proofs.Touched.{filter-range_same}
 
 -- ---- sectors
 
@@ -43,10 +44,6 @@ same_sector ws disk s c long within none =
     sym (unwrap_or-slice_get (fold after_write disk (disk_writes ws)) s zero_sector)
     ∙ ap (λ o. unwrap_or o zero_sector) (untouched c disk (disk_writes ws) s long (all_fit c ws within) none)
     ∙ unwrap_or-slice_get disk s zero_sector
-
-or_false : (b : Bool) → (b || false) ≡ b
-or_false true = refl
-or_false false = refl
 
 at_head : (b : Bool) (a : ℕ) (xs : List ℕ) → b ≡ b → list_any (eqb a) (cond b (a ∷ xs) xs) ≡ false → b ≡ false
 at_head false a xs same none = refl
@@ -98,7 +95,7 @@ flags-more c ws i d old new within flagged after =
           after.each b (let e = flagged.long in omega arith)
           ∙ ap (λ x. x || meets b w.first w.count) (flagged.each b below)
           ∙ sym (ap (list_any (touches b)) split ∙ list_any-append (touches b) (disk_writes (take i ws)) (disk_write w ∷ [])
-          ∙ ap (λ x. list_any (touches b) (disk_writes (take i ws)) || x) (or_false (touches b (disk_write w)) ∙ ap (λ k. ltb (max (128 * b) w.first) (min (128 * b + 128) (w.first + k))) size));
+          ∙ ap (λ x. list_any (touches b) (disk_writes (take i ws)) || x) (or-false (touches b (disk_write w)) ∙ ap (λ k. ltb (max (128 * b) w.first) (min (128 * b + 128) (w.first + k))) size));
     }
 
 pub flagged_areas : (c : ℕ) (ws : List MoveWrite) (flags : List Bool) → AreFlagged c (disk_writes ws) flags

@@ -139,7 +139,7 @@ pub failed_at_once : {T : Type 0} (name : VolumeName) (sectors : ℕ) (result : 
     → FailsInCopy name sectors old new
 failed_at_once name sectors result old new is ok fails = record {
   unsound = unsound_by old.sound result is ok;
-  rises = (fails.later, fails.rose);
+  rises = fails.rises;
   volumes = inl (ap (λ (s : StoreState). s.volumes) fails.kept);
   kept = store_kept old new fails.kept;
 }

@@ -2,7 +2,7 @@
 use Rattle.std.proofs.Common.{◌≡◌, ◌≢◌, ◌⊎◌, ℕ, suc, ◌+◌, ◌-◌, ◌<◌, ◌≤◌, Bool, true, false, MatchBool, cond, not, if◌then◌else◌, ◌==◌, List, [], ◌∷◌, ◌++◌, length, take, drop, Option, Some, None, Result, Ok, Err, inl, inr, refl, sym, ap, subst, append_assoc, ◌∙◌, arith}
 use Rattle.std.specs.Prelude.{IfSome, IsTrue, OnOk, OnErr, All, count_by, nat_le, ◌&&◌}
 use Rattle.std.proofs.KnownBytes.{Appends-nil, Appends-trans, Consumes-nil, Consumes-trans}
-use Rattle.std.proofs.lemmas.Bool.{false≢true, true≢false, eqb-true, lt-leb}
+use Rattle.std.proofs.lemmas.Bool.{false≢true, true≢false, false_from_ne_true, eqb-true, lt-leb}
 use Rattle.std.specs.List.{filter, flat_map, list_all}
 use Rattle.std.specs.Io.KnownBytes.{Appends, Consumes, IsAtEnd}
 use Rattle.std.proofs.lemmas.List.{append-nil, length-append, take-append-drop, take_at, take_all, drop_at}
@@ -10,7 +10,7 @@ use Rattle.std.proofs.lemmas.List.Elements.{filter-append, All-head, All-tail, A
 use Rattle.std.proofs.lemmas.List.Sums.{sum_by-append, sum_by-cons}
 use Rattle.std.proofs.lemmas.Grind.{flat_map-append}
 use Rattle.basics.specs.Faults.{Rose}
-use Rattle.migrate_server.specs.Counts.{HasRisen}
+use Rattle.basics.specs.Faults.{HasRisen}
 use Rattle.edge_traits.specs.Source.{SourceState}
 use Rattle.edge_traits.specs.Sink.{SinkState, AppendsPrefix}
 use Rattle.migrate_server.specs.declared.line_buffer.LineBuffer.{LineBuffer}
@@ -87,12 +87,8 @@ picked : {A : Type 0} (t : Bool) (x y : A) → t ≡ false → (if t then x else
 picked false x y h = refl
 picked true x y h = cc
 
-not_true : (t : Bool) → (t ≡ true → ⊥) → t ≡ false
-not_true false h = refl
-not_true true h = absurd (h refl)
-
 no_lf : (b : ℕ) → b ≢ 10 → (b == 10) ≡ false
-no_lf b other = not_true (b == 10) (λ e. other (eqb-true b 10 e))
+no_lf b other = false_from_ne_true (b == 10) (λ e. other (eqb-true b 10 e))
 
 first_byte : (b : ℕ) (text : List ℕ) → HasNoLf (b ∷ text) → b ≢ 10
 first_byte b text h = All-head (λ x. x ≢ 10) b text h

@@ -7,7 +7,7 @@ use Rattle.sector_model.specs.VolumeContents.{VolumeContents}
 use Rattle.sector_model.specs.declared.sector.Sector.{Sector}
 use Rattle.sector_model.specs.declared.run.Run.{Run}
 use Rattle.target_volume.specs.Volume.{VolumeState}
-use Rattle.migrate_server.specs.Counts.{HasRisen}
+use Rattle.basics.specs.Faults.{HasRisen}
 
 -- the sectors of the disk, and nothing loose
 abbrev pub copied_contents : List Sector → VolumeContents

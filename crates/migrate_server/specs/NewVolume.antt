@@ -8,7 +8,7 @@ use Rattle.target_volume.specs.declared.store_refused.StoreRefused.{StoreRefused
 use Rattle.target_volume.specs.declared.store_refused.StoreRefused.TheVariants.{Exists, Failed, NoMemory}
 use Rattle.target_volume.specs.declared.volume_name.VolumeName.{VolumeName}
 use Rattle.migrate_server.specs.Copy.{copied_contents}
-use Rattle.migrate_server.specs.Counts.{HasRisen}
+use Rattle.basics.specs.Faults.{HasRisen}
 
 -- no volume has the name, as far as the store tells
 abbrev pub IsFree : VolumeName → StoreState → Type 0

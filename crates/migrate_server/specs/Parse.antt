@@ -1,25 +1,17 @@
 -- What a JSON value asks for. A value that is no command that is built has none here, whatever is
 -- wrong with it: the reasons are not told apart yet.
-use Rattle.std.specs.Prelude.{ℕ, ◌+◌, ◌-◌, ◌^◌, List, [], ◌∷◌, length, codes, Bool, false, ◌&&◌, ◌||◌, ◌==◌, nat_le, if◌then◌else◌, Option, Some, None, option_and_then, option_map}
+use Rattle.std.specs.Prelude.{ℕ, ◌+◌, ◌-◌, ◌^◌, List, [], ◌∷◌, codes, Bool, false, ◌&&◌, nat_le, if◌then◌else◌, Option, Some, None, option_and_then, option_map}
 use Rattle.std.specs.List.{list_all, list_any, sum_by}
 use Rattle.std.specs.Str.{bytes_eq}
 use Rattle.serde_json.specs.Data.{Data, null, boolean, number, string, array, object, Items, no_items, item, Members, no_members, member}
 use Rattle.serde_json.specs.Find.{get, as_str, as_array, as_number, as_u64}
-use Rattle.basics.specs.declared.name.TheConstants.{MAX_NAME_BYTES}
+use Rattle.basics.specs.Spelled.{is_name}
 use Rattle.migrate_server.specs.declared.parse.TheConstants.{MOST_DISK_SECTORS, MOST_SECTORS, MOST_WRITTEN}
 use Rattle.migrate_server.specs.declared.command.MoveWrite.{MoveWrite}
 use Rattle.migrate_server.specs.declared.command.Command.{Command}
 use Rattle.migrate_server.specs.declared.command.Command.TheVariants.{Move}
 
 -- ---- the kinds of members
-
--- a to z, 0 to 9, or a hyphen
-abbrev pub is_name_byte : ℕ → Bool
-is_name_byte b = (nat_le 97 b && nat_le b 122) || (nat_le 48 b && nat_le b 57) || (b == 45)
-
-abbrev pub is_name : List ℕ → Bool
-is_name text = nat_le 1 (length text) && nat_le (length text) MAX_NAME_BYTES
-    && list_all is_name_byte text
 
 -- a name
 abbrev pub name_of : Data → Option (List ℕ)

@@ -4,11 +4,11 @@ ghost use Rattle.std.specs.BTreeMap.{keys};
 ghost use Rattle.std.specs.List.{list_all, list_any, sum_by};
 ghost use Rattle.std.specs.Str.{bytes_eq};
 ghost use Rattle.serde_json.specs.View.{view, items_view, members_view};
-ghost use Rattle.migrate_server.specs.Parse.{is_name, is_name_byte, name_of, number_of, write_of, write_of_items, write_of_three, writes_of, are_within, has_only, move_members, move_of, command_of};
+ghost use Rattle.migrate_server.specs.Parse.{name_of, number_of, write_of, write_of_items, write_of_three, writes_of, are_within, has_only, move_members, move_of, command_of};
 ghost use Rattle.migrate_server.specs.Line.{FitsDisk};
 
 use crate::command::{Command, MoveWrite, MoveWrites};
-use basics::{MAX_NAME_BYTES, Name, NoMemory};
+use basics::{MAX_NAME_BYTES, Name, NoMemory, is_name};
 use serde_json::{Map, Value};
 use std::alloc::Global;
 
@@ -67,25 +67,11 @@ fn name_of(value: &Value) -> Option<&str>
         (1 ≤ length text.now) × (length text.now ≤ MAX_NAME_BYTES)) }
 {
     let text = value.as_str()?;
-    if is_name(text) { Some(text) } else { None }
-}
-
-fn is_name(text: &str) -> bool
-    ensures { result ≡ is_name text.now }
-{
-    1 <= text.len() && text.len() <= MAX_NAME_BYTES && all_name_bytes(text.as_bytes())
-}
-
-fn all_name_bytes(bytes: &[u8]) -> bool
-    ensures { result ≡ list_all is_name_byte bytes.now }
-{
-    bytes.iter().all(|byte| is_name_byte(*byte))
-}
-
-fn is_name_byte(byte: u8) -> bool
-    ensures { result ≡ is_name_byte byte }
-{
-    (97 <= byte && byte <= 122) || (48 <= byte && byte <= 57) || byte == 45
+    if is_name(text.as_bytes()) {
+        Some(text)
+    } else {
+        None
+    }
 }
 
 /// The number of a value that is a whole number of 64 bits in a range.

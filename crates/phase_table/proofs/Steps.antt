@@ -2,6 +2,7 @@
 use Rattle.std.proofs.Common.{◌≡◌, ℕ, ◌<◌, ◌≤◌, Bool, true, false, List, [], ◌∷◌, Option, Some, None, refl, sym, ap, ◌∙◌, ◌⊎◌, arith}
 use Rattle.std.specs.Prelude.{◌==◌, ◌&&◌, ◌||◌, nat_lt, nat_le, slice_index_or, option_map, cond}
 use Rattle.std.specs.List.{list_any, find, AllByRecursion}
+use Rattle.std.proofs.lemmas.Bool.{false≢true}
 use Rattle.std.proofs.lemmas.Bool.Decides.{nat_tests}
 use Rattle.std.proofs.lemmas.List.Elements.{All-from_recursion, recursion_from_All, All-contains}
 use Rattle.std.proofs.lemmas.Map.Views.{Contains-from_any}
@@ -129,9 +130,6 @@ fits_means p f row = (
       (ap phase_number h.same_phase) (ap fact_number h.same_fact),
 )
 
-not_true : false ≡ true → ⊥
-not_true e = cc
-
 abbrev Misses : Phase → Fact → Row → Type 0
 Misses p f row = ¬ (Fits p f row)
 
@@ -145,7 +143,7 @@ none_split : (p : Phase) (f : Fact) (row : Row) (rows : List Row) (b : Bool) →
     → AllByRecursion (Misses p f) (row ∷ rows)
 none_split p f row rows true e none rest = absurd (not_some row.successor none)
 none_split p f row rows false e none rest =
-    ((λ h. not_true (sym e ∙ (fits_means p f row).1 h)), rest none)
+    ((λ h. false≢true (sym e ∙ (fits_means p f row).1 h)), rest none)
 
 none_misses : (p : Phase) (f : Fact) (rows : List Row) → successor_in rows p f ≡ None → AllByRecursion (Misses p f) rows
 none_misses p f [] none = tt
@@ -201,4 +199,4 @@ pub ends_have_no_successor : EndsHaveNoSuccessor
 ends_have_no_successor Completed = (λ t. nothing_behind_completed, λ h. refl)
 ends_have_no_successor Cancelled = (λ t. nothing_behind_cancelled, λ h. refl)
 ends_have_no_successor Failed = (λ t. nothing_behind_failed, λ h. refl)
-ends_have_no_successor _ = (λ t. absurd (not_true t), λ h. absurd (not_some Cancelled (h Cancel)))
+ends_have_no_successor _ = (λ t. absurd (false≢true t), λ h. absurd (not_some Cancelled (h Cancel)))

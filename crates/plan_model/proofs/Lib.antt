@@ -1,2 +1,2 @@
-pub mod CalendarFacts
+pub mod DaySums
 pub mod ListFacts

@@ -28,7 +28,7 @@ pub(crate) fn days_before(year: u64, month: u64, day: u64) -> u64
     days_of_years(year - 1970) + days_of_months(year, month - 1) + (day - 1)
 }
 
-#[tactic(auto, using(crate::proofs::CalendarFacts::days_of_years_zero, crate::proofs::CalendarFacts::days_of_years_more))]
+#[tactic(auto, using(crate::proofs::DaySums::years_zero, crate::proofs::DaySums::years_more))]
 fn days_of_years(n: u64) -> u64
     requires { n ≤ 1029 }
     ensures value { result ≡ days_of_years n }
@@ -41,7 +41,7 @@ fn days_of_years(n: u64) -> u64
     days
 }
 
-#[tactic(auto, using(crate::proofs::CalendarFacts::days_of_months_zero, crate::proofs::CalendarFacts::days_of_months_more))]
+#[tactic(auto, using(crate::proofs::DaySums::months_zero, crate::proofs::DaySums::months_more))]
 fn days_of_months(year: u64, n: u64) -> u64
     requires { n ≤ 11 }
     ensures value { result ≡ days_of_months year n }

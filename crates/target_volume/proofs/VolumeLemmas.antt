@@ -23,6 +23,5 @@ breaks_by old new first count few counted is =
       contents = record { before = refl; behind = refl; long = refl; loose = refl };
       no_less = omega arith;
       no_more = omega arith;
-      later = omega arith;
-      rose = omega arith;
+      rises = (omega arith, omega arith);
     })
