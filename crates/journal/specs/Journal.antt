@@ -1,7 +1,7 @@
 -- What a journal stands for, and what an append leaves of that.
 use Rattle.std.specs.Prelude.{◌≡◌, ◌≢◌, ◌⊎◌, ℕ, ◌+◌, ◌-◌, ◌≤◌, nat_lt, if◌then◌else◌, List, [], ◌∷◌, ◌++◌, length, take, Option, Some, None, option_map, IfSome, Result, Ok, Err}
 use Rattle.std.specs.List.{AllByRecursion}
-use Rattle.basics.specs.Faults.{Rose}
+use Rattle.basics.specs.Faults.{HasRisen}
 use Rattle.edge_traits.specs.Disk.{DiskContents, DiskState, IsImage, settled}
 use Rattle.record_codec.specs.declared.record.Record.{Record}
 use Rattle.record_codec.specs.Record.{HasSpelling, spelling}
@@ -101,8 +101,7 @@ pub record FailsAt (r : Record) (at : ℕ) (old new : JournalState) : Type 0 whe
     failure = Some (record { at = at; refused = r });
     disk = new.disk;
   }
-  pub later : old.disk.faults ≤ new.disk.faults
-  pub rose : Rose old.disk.faults new.disk.faults
+  pub rises : HasRisen old.disk.faults new.disk.faults
 
 -- what an append answers that nothing refuses
 abbrev pub Appends : Record → (old new : JournalState) → Result (Unit {0}) JournalRefused → Type 0

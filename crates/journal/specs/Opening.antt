@@ -1,11 +1,13 @@
 -- What opening a journal answers, and what it leaves.
-use Rattle.std.specs.Prelude.{◌≡◌, ◌⊎◌, ℕ, ◌+◌, ◌%◌, ◌<◌, ◌≤◌, nat_le, if◌then◌else◌, List, [], ◌∷◌, ◌++◌, length, take, Option, Some, None, option_map, IfSome}
-use Rattle.basics.specs.Faults.{Rose}
+use Rattle.std.specs.Prelude.{◌≡◌, ◌⊎◌, ℕ, ◌+◌, ◌%◌, ◌<◌, ◌≤◌, nat_le, if◌then◌else◌, List, [], ◌∷◌, ◌++◌, length, take, Option, Some, None, option_map, IfSome, Result, Ok, Err}
+use Rattle.std.specs.List.{AllByRecursion}
+use Rattle.basics.specs.Faults.{HasRisen}
 use Rattle.edge_traits.specs.Disk.{DiskContents, DiskState, IsImage, WhereTold, after_sync, settled}
 use Rattle.record_codec.specs.declared.record.Record.{Record}
+use Rattle.record_codec.specs.Record.{HasSpelling}
 use Rattle.journal.specs.Format.{Standing, Holds, NotAJournal as NoJournal, BadRecord as BadAt, StandsFor, StandsAs, front}
-use Rattle.journal.specs.Journal.{JournalState}
-use Rattle.journal.specs.declared.format.TheConstants.{MAGIC, CLOSED_GATE, EMPTY_BYTES, PIECE_BYTES}
+use Rattle.journal.specs.declared.cells.Found.{Found}
+use Rattle.journal.specs.declared.format.TheConstants.{MAGIC, CLOSED_GATE, EMPTY_BYTES, MAX_BYTES, PIECE_BYTES}
 use Rattle.journal.specs.declared.refusal.JournalRefused.{JournalRefused}
 use Rattle.journal.specs.declared.refusal.JournalRefused.TheVariants.{DiskFault, NotAJournal, BadRecord, Full, NoMemory}
 
@@ -19,17 +21,18 @@ abbrev pub reopened : List Record → (file : List ℕ) → List ℕ
 reopened records file = if nat_le (length file) EMPTY_BYTES then empty_file
     else take (length (front records) + 1) file
 
--- what a read gave is one of the images from before, and its records are those of the journal
-pub record IsOpenedAs (c : DiskContents) (j : JournalState) : Type 0 where
+-- what a read gave is one of the images from before, and has these records
+pub record IsOpenedAs (c : DiskContents) (records : List Record) (left : Option DiskContents)
+    : Type 0 where
   pub possible : IsImage c c.bytes
-  pub stands : StandsFor c.bytes (Holds j.records)
-  pub left : j.disk.contents ≡ Some (settled (reopened j.records c.bytes))
+  pub stands : StandsFor c.bytes (Holds records)
+  pub left : left ≡ Some (settled (reopened records c.bytes))
 
-pub record Opens (old : DiskState) (j : JournalState) : Type 0 where
-  pub whole : j.failure ≡ None
-  pub faults : j.disk.faults ≡ old.faults
-  pub told : IfSome old.contents (λ c. IsOpenedAs c j)
-  pub untold : old.contents ≡ None → j.disk.contents ≡ None
+-- what an opening leaves that is Ok, of a journal with these records
+pub record Opens (old : DiskState) (records : List Record) (new : DiskState) : Type 0 where
+  pub faults : new.faults ≡ old.faults
+  pub told : IfSome old.contents (λ c. IsOpenedAs c records new.contents)
+  pub untold : old.contents ≡ None → new.contents ≡ None
 
 -- each image after the refusal stands for what an earlier one stood for
 abbrev pub KeepsStanding : (old new : DiskContents) → Type 0
@@ -54,8 +57,7 @@ IsOpenOffset at c = (at ≡ 0) ⊎ (((at < length c.bytes) × (at % PIECE_BYTES 
     × (at ≡ length (front records) + 1)))
 
 pub record FaultsAt (at : ℕ) (old new : DiskState) : Type 0 where
-  pub later : old.faults ≤ new.faults
-  pub rose : Rose old.faults new.faults
+  pub rises : HasRisen old.faults new.faults
   pub offset : IfSome old.contents (IsOpenOffset at)
 
 -- what each refusal says, and what it leaves
@@ -69,3 +71,14 @@ SaysWhy NoMemory old new = IsOnlySynced old new
 pub record Refuses (why : JournalRefused) (old new : DiskState) : Type 0 where
   pub cause : SaysWhy why old new
   pub images : WhereTold KeepsStanding old.contents new.contents
+
+-- the records that were found have spellings, and the file that they need isn't too long
+pub record IsWhole (found : Found) : Type 0 where
+  pub spelled : AllByRecursion HasSpelling found.records.items
+  pub long : found.end ≡ length (front found.records.items) + 1
+  pub small : found.end ≤ MAX_BYTES
+
+-- what the reading and the repair of a disk answer
+abbrev pub IsLoaded : (old new : DiskState) → Result Found JournalRefused → Type 0
+IsLoaded old new (Ok found) = IsWhole found × Opens old found.records.items new
+IsLoaded old new (Err why) = Refuses why old new

@@ -1,7 +1,7 @@
 //! The reading of a file's cells, and the writing of one.
 ghost use Rattle.std.specs.Prelude.{◌≡◌, ◌≤◌, ◌<◌, ◌+◌, ◌^◌, [], ◌∷◌, ◌++◌, List, ℕ, length, MatchOption, MatchResult, IfOk, IfErr, OnOk};
-ghost use Rattle.record_codec.specs.Record.{KeepsRule, HasSpelling, Spells, spelling, word_bytes};
-ghost use Rattle.record_codec.specs.declared.record.Record.{Record};
+ghost use Rattle.record_codec.specs.Record.{KeepsRule, HasSpelling, spelling, word_bytes as bytes_of};
+ghost use Rattle.record_codec.specs.Parse.{word_at};
 ghost use Rattle.journal.specs.Cells.{IsOpen, AreRead, IsFound, IsRecordRead, begins_closed};
 ghost use Rattle.journal.specs.Format.{cell};
 
@@ -95,12 +95,31 @@ fn open_cell(cells: &[u8]) -> Option<(&[u8], &[u8])>
     if cells.len() < CELL_BYTES || cells[0] != OPEN_GATE {
         return None;
     }
-    let len = u32::from_be_bytes([cells[1], cells[2], cells[3], cells[4]]) as usize;
+    let len = word(&cells[1..]) as usize;
     let behind = &cells[CELL_BYTES..];
     if len > behind.len() {
         return None;
     }
     Some(behind.split_at(len))
+}
+
+/// A number in four bytes.
+#[tactic(auto, unfolding(record_codec::specs::Record::word_bytes))]
+fn word_bytes(number: u32) -> [u8; 4]
+    ensures { result ≡ bytes_of number }
+{
+    let mut bytes = [0; 4];
+    BigEndian::write_u32(&mut bytes, number);
+    bytes
+}
+
+/// The number in the first four bytes.
+#[tactic(auto, unfolding(record_codec::specs::Parse::word_at))]
+fn word(bytes: &[u8]) -> u32
+    requires { 4 ≤ length bytes.now }
+    ensures { result ≡ word_at bytes.now }
+{
+    u32::from_be_bytes([bytes[0], bytes[1], bytes[2], bytes[3]])
 }
 
 /// The cell of a record, with a closed gate behind it. It answers only want of memory.
@@ -112,8 +131,7 @@ pub(crate) fn cell_of(alloc: Global, record: &Record) -> Result<Vec<u8>, Journal
     ensures memory { IfErr result (λ refusal. refusal ≡ JournalRefused.NoMemory) }
 {
     let size = spelled_len(record);
-    let mut len = [0; 4];
-    BigEndian::write_u32(&mut len, size as u32);
+    let len = word_bytes(size as u32);
     let mut bytes = Vec::with_capacity(alloc, CELL_BYTES + size)?;
     bytes.extend_from_slice(&len)?;
     encode(record, &mut bytes)?;

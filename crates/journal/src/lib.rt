@@ -5,6 +5,7 @@
 
 mod cells;
 mod device;
+mod failure;
 mod format;
 mod journal;
 mod laws;
