@@ -16,7 +16,8 @@ use Rattle.record_codec.specs.declared.record.Kind.{Kind}
 use Rattle.record_codec.specs.declared.record.Kind.TheVariants.{PlanMade as PlanMadeKind, MigrationStarted as MigrationStartedKind, Chosen as ChosenKind, SnapTaken as SnapTakenKind, IdsStored as IdsStoredKind, VolumesMade as VolumesMadeKind, CheckpointAdded as CheckpointAddedKind, StageBegun as StageBegunKind, StageDone as StageDoneKind, Paused as PausedKind, SnapRemoved as SnapRemovedKind, CutoverSet as CutoverSetKind, PowerStored as PowerStoredKind, PoweredOff as PoweredOffKind, OffSeen as OffSeenKind, FinalSnapTaken as FinalSnapTakenKind, CancelAsked as CancelAskedKind, Ended as EndedKind}
 use Rattle.record_codec.specs.declared.parse.CodecRefused.TheVariants.{Bad, NoMemory}
 use Rattle.record_codec.specs.Laws.{SpellingsDiffer, SpelledIsRead}
-use Rattle.record_codec.proofs.FixedFields.{byte_split, fixed_forth, kinds_differ, tail_same, head_same}
+use Rattle.record_codec.proofs.FixedFields.{byte_split, fixed_forth, tail_same, head_same}
+use Rattle.record_codec.proofs.KindBytes.{kinds_differ}
 
 apart : (m n : ℕ) → (m == n) ≡ false → m ≡ n → ⊥
 apart m n t e = let no : false ≡ true = sym t ∙ eq-eqb m n e in cc
