@@ -24,26 +24,26 @@ cons_split : (r : Record) (records : List Record) (rest : List ℕ)
 cons_split r records rest = append_assoc (open_cell r) (flat_map open_cell records) rest
 
 -- the cells of records, and what follows them, are told by the bytes
-pub same_cells : (as bs : List Record) (x y : List ℕ) → AllByRecursion HasSpelling as
-    → AllByRecursion HasSpelling bs → ¬ BeginsWithCell x → ¬ BeginsWithCell y
-    → length (flat_map open_cell as ++ x) ≤ MAX_BYTES
-    → flat_map open_cell as ++ x ≡ flat_map open_cell bs ++ y → (as ≡ bs) × (x ≡ y)
+pub same_cells : (ones others : List Record) (x y : List ℕ) → AllByRecursion HasSpelling ones
+    → AllByRecursion HasSpelling others → ¬ BeginsWithCell x → ¬ BeginsWithCell y
+    → length (flat_map open_cell ones ++ x) ≤ MAX_BYTES
+    → flat_map open_cell ones ++ x ≡ flat_map open_cell others ++ y → (ones ≡ others) × (x ≡ y)
 same_cells [] [] x y has_a has_b end_x end_y small same = (refl, same)
-same_cells [] (b ∷ bs) x y has_a has_b end_x end_y small same =
-    absurd (end_x (b, flat_map open_cell bs ++ y, has_b.0, same ∙ cons_split b bs y))
-same_cells (a ∷ as) [] x y has_a has_b end_x end_y small same =
-    absurd (end_y (a, flat_map open_cell as ++ x, has_a.0, sym same ∙ cons_split a as x))
-same_cells (a ∷ as) (b ∷ bs) x y has_a has_b end_x end_y small same =
-    let split_a : flat_map open_cell (a ∷ as) ++ x ≡ open_cell a ++ (flat_map open_cell as ++ x) = cons_split a as x in
-    let len : length (flat_map open_cell (a ∷ as) ++ x) ≡ length (open_cell a ++ (flat_map open_cell as ++ x)) =
+same_cells [] (b ∷ others) x y has_a has_b end_x end_y small same =
+    absurd (end_x (b, flat_map open_cell others ++ y, has_b.0, same ∙ cons_split b others y))
+same_cells (a ∷ ones) [] x y has_a has_b end_x end_y small same =
+    absurd (end_y (a, flat_map open_cell ones ++ x, has_a.0, sym same ∙ cons_split a ones x))
+same_cells (a ∷ ones) (b ∷ others) x y has_a has_b end_x end_y small same =
+    let split_a : flat_map open_cell (a ∷ ones) ++ x ≡ open_cell a ++ (flat_map open_cell ones ++ x) = cons_split a ones x in
+    let len : length (flat_map open_cell (a ∷ ones) ++ x) ≡ length (open_cell a ++ (flat_map open_cell ones ++ x)) =
     ap length split_a in
-    let small_a : length (open_cell a ++ (flat_map open_cell as ++ x)) ≤ MAX_BYTES = omega (arith, len, small) in
-    let first = same_record a b (flat_map open_cell as ++ x) (flat_map open_cell bs ++ y) has_a.0 has_b.0 small_a
-    (sym split_a ∙ same ∙ cons_split b bs y) in
-    let less : length (flat_map open_cell as ++ x) ≤ MAX_BYTES =
-    omega (arith, small_a, length-append (open_cell a) (flat_map open_cell as ++ x)) in
-    let rest = same_cells as bs x y has_a.1 has_b.1 end_x end_y less first.1 in
-    let records : a ∷ as ≡ b ∷ bs = ap (λ (r : Record). r ∷ as) first.0 ∙ ap (λ (rs : List Record). b ∷ rs) rest.0 in
+    let small_a : length (open_cell a ++ (flat_map open_cell ones ++ x)) ≤ MAX_BYTES = omega (arith, len, small) in
+    let first = same_record a b (flat_map open_cell ones ++ x) (flat_map open_cell others ++ y) has_a.0 has_b.0 small_a
+    (sym split_a ∙ same ∙ cons_split b others y) in
+    let less : length (flat_map open_cell ones ++ x) ≤ MAX_BYTES =
+    omega (arith, small_a, length-append (open_cell a) (flat_map open_cell ones ++ x)) in
+    let rest = same_cells ones others x y has_a.1 has_b.1 end_x end_y less first.1 in
+    let records : a ∷ ones ≡ b ∷ others = ap (λ (r : Record). r ∷ ones) first.0 ∙ ap (λ (rs : List Record). b ∷ rs) rest.0 in
     (records, rest.1)
 
 behind_magic : (x y : List ℕ) → MAGIC ++ x ≡ MAGIC ++ y → x ≡ y
@@ -138,7 +138,7 @@ closed_of : (bytes : List ℕ) (records found : List Record) (rest : List ℕ)
 closed_of bytes records found [] spelled split is = absurd (cc)
 closed_of bytes records found (gate ∷ tail) spelled split is =
     elim (eqb_tells gate OPEN_GATE) [
-      inl (test, open) ↦
+      inl (test, opened) ↦
           let bad : Holds records ≡ BadRecord (length found + 1) = rw test at is in
           absurd (cc)
     | inr (test, closed) ↦

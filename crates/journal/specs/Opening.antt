@@ -22,11 +22,11 @@ reopened records file = if nat_le (length file) EMPTY_BYTES then empty_file
     else take (length (front records) + 1) file
 
 -- what a read gave is one of the images from before, and has these records
-pub record IsOpenedAs (c : DiskContents) (records : List Record) (left : Option DiskContents)
+pub record IsOpenedAs (c : DiskContents) (records : List Record) (now : Option DiskContents)
     : Type 0 where
   pub possible : IsImage c c.bytes
   pub stands : StandsFor c.bytes (Holds records)
-  pub left : left ≡ Some (settled (reopened records c.bytes))
+  pub left : now ≡ Some (settled (reopened records c.bytes))
 
 -- what an opening leaves that is Ok, of a journal with these records
 pub record Opens (old : DiskState) (records : List Record) (new : DiskState) : Type 0 where

@@ -1,11 +1,11 @@
 //! The steps on the disk. Each function has at most four calls of the disk, and says what a crash
 //! may leave wherever they fail.
-ghost use Rattle.std.specs.Prelude.{◌≡◌, ◌≢◌, ◌⊎◌, ◌≤◌, ◌<◌, ◌+◌, ◌-◌, ◌%◌, ◌^◌, [], ◌∷◌, ◌++◌, ℕ, length, take, option_map, IfSome, IfOk, IfErr, OnOk, OnErr, MatchResult};
+ghost use Rattle.std.specs.Prelude.{◌≡◌, ◌≢◌, ◌⊎◌, ◌≤◌, ◌<◌, ◌+◌, ◌-◌, ◌%◌, ◌^◌, [], ◌∷◌, ◌++◌, ℕ, length, take, drop, option_map, IfSome, IfOk, IfErr, OnOk, OnErr, MatchResult};
 ghost use Rattle.std.specs.Option.{ForSome};
 ghost use Rattle.basics.specs.Faults.{HasCause, Rose};
-ghost use Rattle.edge_traits.specs.Disk.{WhereTold, settled, after_sync, IsImage};
+ghost use Rattle.edge_traits.specs.Disk.{WhereTold, settled, overwritten};
 ghost use Rattle.journal.specs.Devices.{IsSettled, LeavesCutAppend, LeavesCut, LeavesFew, IsFileRead};
-ghost use Rattle.journal.specs.Opening.{empty_file};
+ghost use Rattle.journal.specs.Opening.{empty_file as file_of_none};
 
 use crate::JournalRefused;
 use crate::format::{CLOSED_GATE, EMPTY_BYTES, MAGIC, MAX_BYTES, OPEN_GATE, PIECE_BYTES};
@@ -49,12 +49,30 @@ fn read_pieces<D: Disk>(disk: &mut D, bytes: &mut [u8]) -> Result<(), FaultAt>
     let mut at = 0usize;
     while at < bytes.len() {
         let end = bytes.len().min(at + PIECE_BYTES);
-        if disk.read(at as u64, &mut bytes[at..end]).is_err() {
-            return Err(FaultAt(at as u64));
-        }
+        read_piece(disk, bytes, at, end)?;
         at = end;
     }
     Ok(())
+}
+
+/// Fills a range of the buffer with the bytes of the disk at the same offsets.
+fn read_piece<D: Disk>(
+    disk: &mut D,
+    bytes: &mut [u8],
+    at: usize,
+    end: usize,
+) -> Result<(), FaultAt>
+    requires range { at ≤ end }
+    requires within { end ≤ length bytes.old }
+    requires all { ForSome (D.state disk.old).contents (λ c. length bytes.old ≡ length c.bytes) }
+    ensures given { OnOk result (IfSome (D.state disk.old).contents
+        (λ c. bytes.new ≡ overwritten at (take (end - at) (drop at c.bytes)) bytes.old)) }
+    ensures kept { (D.state disk.new).contents ≡ (D.state disk.old).contents }
+    ensures cause { HasCause (D.state disk.old).faults (D.state disk.new).faults result }
+    ensures offset { IfErr result (λ fault. fault.0 ≡ at) }
+{
+    disk.read(at as u64, &mut bytes[at..end])
+        .or(Err(FaultAt(at as u64)))
 }
 
 /// Makes the disk an empty journal.
@@ -62,18 +80,24 @@ pub(crate) fn create<D: Disk>(disk: &mut D) -> Result<(), FaultAt>
     requires settled { ForSome (D.state disk.old).contents IsSettled }
     requires short { ForSome (D.state disk.old).contents (λ c. length c.bytes ≤ EMPTY_BYTES) }
     ensures created { OnOk result ((D.state disk.new).contents
-        ≡ option_map (λ c. settled empty_file) (D.state disk.old).contents) }
+        ≡ option_map (λ c. settled file_of_none) (D.state disk.old).contents) }
     ensures cut { OnErr result (WhereTold (LeavesFew EMPTY_BYTES)
         (D.state disk.old).contents (D.state disk.new).contents) }
     ensures cause { HasCause (D.state disk.old).faults (D.state disk.new).faults result }
     ensures offset { IfErr result (λ fault. (fault.0 ≡ 0) ⊎ (fault.0 ≡ EMPTY_BYTES)) }
 {
+    disk.cut(0).or(Err(FaultAt(0)))?;
+    disk.write_at(0, &empty_file()).or(Err(FaultAt(0)))?;
+    disk.sync().or(Err(FaultAt(EMPTY_BYTES as u64)))
+}
+
+/// The file of a journal without records.
+fn empty_file() -> [u8; EMPTY_BYTES]
+    ensures { result ≡ file_of_none }
+{
     let mut file = [CLOSED_GATE; EMPTY_BYTES];
     file[..MAGIC.len()].copy_from_slice(&MAGIC);
-    if disk.cut(0).is_err() || disk.write_at(0, &file).is_err() {
-        return Err(FaultAt(0));
-    }
-    disk.sync().or(Err(FaultAt(EMPTY_BYTES as u64)))
+    file
 }
 
 /// Cuts the disk to its first `end` bytes.
