@@ -79,7 +79,7 @@ fn read_record(alloc: Global, body: &[u8], before: usize) -> Result<Record, Jour
 fn count_cells(cells: &[u8]) -> usize {
     let mut count = 0usize;
     let mut rest = cells;
-    while let Some((_body, behind)) = open_cell(rest) {
+    while let Some((_, behind)) = open_cell(rest) {
         count = count.saturating_add(1);
         rest = behind;
     }
@@ -92,7 +92,10 @@ fn open_cell(cells: &[u8]) -> Option<(&[u8], &[u8])>
         ((body behind : List ℕ) → ¬ IsOpen cells.now body behind)
         (λ found. IsOpen cells.now found.0.now found.1.now) }
 {
-    if cells.len() < CELL_BYTES || cells[0] != OPEN_GATE {
+    if cells.len() < CELL_BYTES {
+        return None;
+    }
+    if cells[0] != OPEN_GATE {
         return None;
     }
     let len = word(&cells[1..]) as usize;
