@@ -7,7 +7,7 @@ use Rattle.std.proofs.lemmas.List.{append-nil, take_all, drop_all}
 use Rattle.std.proofs.lemmas.List.Elements.{filter-append}
 use Rattle.std.proofs.Math.Seq.{take-append_seam}
 use Rattle.sector_model.specs.declared.sector.Sector.{Sector}
-use Rattle.sector_model.specs.declared.limits.TheConstants.{MAX_WRITE_SECTORS, MAX_LOGGED_SECTORS}
+use Rattle.basics.specs.declared.limits.TheConstants.{MAX_WRITE_SECTORS, MAX_LOGGED_SECTORS}
 use Rattle.log_model.specs.declared.entry.TheConstants.{MAX_LOG_ENTRIES}
 use Rattle.log_model.specs.declared.entry.Owner.{Owner}
 use Rattle.log_model.specs.declared.entry.Owner.TheVariants.{Operator, Migration}
