@@ -3,3 +3,4 @@ pub mod Walks
 pub mod Blocks
 pub mod Marking
 pub mod Steps
+pub mod Histories

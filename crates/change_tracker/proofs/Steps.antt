@@ -1,5 +1,5 @@
 -- What one step more changes in the words of a list of steps.
-use Rattle.std.proofs.Common.{◌≡◌, ℕ, zero, suc, ◌+◌, ◌-◌, ◌*◌, ◌^◌, ◌<◌, ◌≤◌, List, [], ◌∷◌, ◌++◌, length, take, drop, Bool, true, false, not, cond, ◌==◌, ◌&&◌, ◌||◌, eqb, Option, Some, None, unwrap_or, option_map, sym, ap, subst, refl, ◌∙◌, arith, inl, inr, ◌⊎◌, append_assoc, length-append, length-drop, ap2}
+use Rattle.std.proofs.Common.{◌≡◌, ℕ, zero, suc, ◌+◌, ◌-◌, ◌*◌, ◌^◌, ◌<◌, ◌≤◌, List, [], ◌∷◌, ◌++◌, length, take, drop, Bool, true, false, not, cond, ◌==◌, ◌&&◌, ◌||◌, eqb, Option, Some, None, unwrap_or, option_map, sym, ap, subst, refl, ◌∙◌, arith, inl, inr, ◌⊎◌, append_assoc, length-append, length-drop}
 use Rattle.std.specs.List.{fold, count_by, find, list_any, position_or_len, range_with_len, filter_map}
 use Rattle.std.specs.Option.{option_or}
 use Rattle.std.proofs.Math.Bool.{or-false}
@@ -36,36 +36,36 @@ place-le s (x ∷ h) = bounded (freezes s x) (mark s h) (place-le s h)
 
 pub place_stays : (s : ℕ) (h more : List TrackStep) → mark s h < length h → mark s (h ++ more) ≡ mark s h
 place_stays s [] more less = absurd (omega arith)
-place_stays s (x ∷ h) more less = by (freezes s x) refl
+place_stays s (x ∷ h) more less = by (freezes s x) refl (λ inside. place_stays s h more inside)
   where
-    by : (b : Bool) → freezes s x ≡ b → cond (not (freezes s x)) (1 + mark s (h ++ more)) 0 ≡ cond (not (freezes s x)) (1 + mark s h) 0
-    by true is = rw is refl
-    by false is = let inside : mark s h < length h = (let e : cond (not (freezes s x)) (1 + mark s h) 0 ≡ 1 + mark s h = rw is refl in omega (arith, less, e)) in
-        ap (λ n. cond (not (freezes s x)) (1 + n) 0) (place_stays s h more inside)
+    by : (b : Bool) → freezes s x ≡ b → (mark s h < length h → mark s (h ++ more) ≡ mark s h) → cond (not (freezes s x)) (1 + mark s (h ++ more)) 0 ≡ cond (not (freezes s x)) (1 + mark s h) 0
+    by true is rest = rw is refl
+    by false is rest = let inside : mark s h < length h = (let e : cond (not (freezes s x)) (1 + mark s h) 0 ≡ 1 + mark s h = rw is refl in omega (arith, less, e)) in
+        ap (λ n. cond (not (freezes s x)) (1 + n) 0) (rest inside)
 
 pub place_known : (s : ℕ) (h : List TrackStep) → list_any (freezes s) h ≡ true → mark s h < length h
 place_known s [] some = absurd (false≢true some)
-place_known s (x ∷ h) some = by (freezes s x) refl
+place_known s (x ∷ h) some = by (freezes s x) refl (λ later. place_known s h later)
   where
-    by : (b : Bool) → freezes s x ≡ b → cond (not (freezes s x)) (1 + mark s h) 0 < suc (length h)
-    by true is = rw is (omega arith)
-    by false is = rw is (omega (arith, place_known s h (rw is at some)))
+    by : (b : Bool) → freezes s x ≡ b → (list_any (freezes s) h ≡ true → mark s h < length h) → cond (not (freezes s x)) (1 + mark s h) 0 < suc (length h)
+    by true is rest = rw is (omega arith)
+    by false is rest = rw is (omega (arith, rest (rw is at some)))
 
 pub place_none : (s : ℕ) (h : List TrackStep) → list_any (freezes s) h ≡ false → mark s h ≡ length h
 place_none s [] none = refl
-place_none s (x ∷ h) none = by (freezes s x) refl
+place_none s (x ∷ h) none = by (freezes s x) refl (λ later. place_none s h later)
   where
-    by : (b : Bool) → freezes s x ≡ b → cond (not (freezes s x)) (1 + mark s h) 0 ≡ suc (length h)
-    by true is = absurd (false≢true (sym none ∙ ap (λ b. b || list_any (freezes s) h) is))
-    by false is = rw is (let rest = place_none s h (rw is at none) in omega (arith, rest))
+    by : (b : Bool) → freezes s x ≡ b → (list_any (freezes s) h ≡ false → mark s h ≡ length h) → cond (not (freezes s x)) (1 + mark s h) 0 ≡ suc (length h)
+    by true is rest = absurd (false≢true (sym none ∙ ap (λ b. b || list_any (freezes s) h) is))
+    by false is rest = rw is (let last = rest (rw is at none) in omega (arith, last))
 
 pub place_new : (s : ℕ) (h : List TrackStep) (x : TrackStep) → list_any (freezes s) h ≡ false → freezes s x ≡ true → mark s (h ++ x ∷ []) ≡ length h
 place_new s [] x none here = rw here refl
-place_new s (y ∷ h) x none here = by (freezes s y) refl
+place_new s (y ∷ h) x none here = by (freezes s y) refl (λ later. place_new s h x later here)
   where
-    by : (b : Bool) → freezes s y ≡ b → cond (not (freezes s y)) (1 + mark s (h ++ x ∷ [])) 0 ≡ suc (length h)
-    by true is = absurd (false≢true (sym none ∙ ap (λ b. b || list_any (freezes s) h) is))
-    by false is = rw is (let rest = place_new s h x (rw is at none) here in omega (arith, rest))
+    by : (b : Bool) → freezes s y ≡ b → (list_any (freezes s) h ≡ false → mark s (h ++ x ∷ []) ≡ length h) → cond (not (freezes s y)) (1 + mark s (h ++ x ∷ [])) 0 ≡ suc (length h)
+    by true is rest = absurd (false≢true (sym none ∙ ap (λ b. b || list_any (freezes s) h) is))
+    by false is rest = rw is (let last = rest (rw is at none) in omega (arith, last))
 
 -- ---- counts
 
@@ -162,11 +162,11 @@ id_stays machine disk s h more less =
 
 find_push : (test : ℕ → Bool) (a n : ℕ) → find test (range_with_len a (suc n)) ≡ option_or (find test (range_with_len a n)) (cond (test (a + n)) (Some (a + n)) None)
 find_push test a zero = (let e : a + 0 ≡ a = omega arith in ap (λ n. cond (test n) (Some n) None) (sym e) ∙ refl)
-find_push test a (suc n) = by (test a) refl
+find_push test a (suc n) = by (test a) refl (find_push test (a + 1) n)
   where
-    by : (b : Bool) → test a ≡ b → cond (test a) (Some a) (find test (range_with_len (a + 1) (suc n))) ≡ option_or (cond (test a) (Some a) (find test (range_with_len (a + 1) n))) (cond (test (a + suc n)) (Some (a + suc n)) None)
-    by true is = rw is refl
-    by false is = rw is (find_push test (a + 1) n ∙ (let e : a + 1 + n ≡ a + suc n = omega arith in ap (λ k. option_or (find test (range_with_len (a + 1) n)) (cond (test k) (Some k) None)) e))
+    by : (b : Bool) → test a ≡ b → find test (range_with_len (a + 1) (suc n)) ≡ option_or (find test (range_with_len (a + 1) n)) (cond (test (a + 1 + n)) (Some (a + 1 + n)) None) → cond (test a) (Some a) (find test (range_with_len (a + 1) (suc n))) ≡ option_or (cond (test a) (Some a) (find test (range_with_len (a + 1) n))) (cond (test (a + suc n)) (Some (a + suc n)) None)
+    by true is rest = rw is refl
+    by false is rest = rw is (rest ∙ (let e : a + 1 + n ≡ a + suc n = omega arith in ap (λ k. option_or (find test (range_with_len (a + 1) n)) (cond (test k) (Some k) None)) e))
 
 find_same : (p q : ℕ → Bool) (a n : ℕ) → ((k : ℕ) → k < a + n → p k ≡ q k) → find p (range_with_len a n) ≡ find q (range_with_len a n)
 find_same p q a zero same = refl
