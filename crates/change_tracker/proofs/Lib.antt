@@ -4,3 +4,6 @@ pub mod Blocks
 pub mod Marking
 pub mod Steps
 pub mod Histories
+pub mod States
+pub mod Results
+pub mod Lookups

@@ -1,7 +1,7 @@
 -- How a tracker is kept: what was touched at all, once for each block; what was touched between
 -- freezes since the last reset; and the snapshots, of which the touches are told by the windows
 -- between their freezes.
-use Rattle.std.specs.Prelude.{◌≡◌, ℕ, ◌+◌, ◌-◌, ◌<◌, ◌≤◌, ◌==◌, ◌&&◌, nat_le, List, [], ◌∷◌, length, map, Bool, true, false, Option, Some, None, IfSome, unwrap_or, if◌then◌else◌}
+use Rattle.std.specs.Prelude.{◌≡◌, ℕ, ◌+◌, ◌-◌, ◌<◌, ◌≤◌, ◌==◌, ◌&&◌, nat_le, List, [], ◌∷◌, length, map, slice_get, Bool, true, false, Option, Some, None, IfSome, unwrap_or, if◌then◌else◌}
 use Rattle.std.specs.List.{enumerate_from}
 use Rattle.std.specs.Vec.{vec_len, vec_capacity}
 use Rattle.std.specs.declared.vec.Vec.{Vec}
@@ -11,7 +11,7 @@ use Rattle.sector_model.specs.declared.run.Run.{Run}
 use Rattle.change_tracker.specs.declared.kept.Kept.{Kept}
 use Rattle.change_tracker.specs.declared.word.Window.{Window}
 use Rattle.change_tracker.specs.declared.maps.Maps.{Maps}
-use Rattle.change_tracker.specs.Touches.{blocks_in}
+use Rattle.change_tracker.specs.Touches.{TouchState, is_touched, blocks_in}
 use Rattle.change_tracker.specs.Maps.{window, is_met_by, HasRoomWhere}
 use Rattle.change_tracker.specs.Tracker.{TrackerState, Snapshot}
 
@@ -51,17 +51,34 @@ AreIds from bound (kept ∷ rest) = (from ≤ kept.id) × AreIds (kept.id + 1) b
 abbrev pub IsAscending : List Kept → Type 0
 IsAscending snapshots = (bound : ℕ) × AreIds 0 bound snapshots
 
+-- the snapshot at this place of the list has the id
+abbrev pub IsAt : List Kept → (place id : ℕ) → Type 0
+IsAt snapshots place id =
+    (kept : Kept) × (slice_get snapshots place ≡ Some kept) × (kept.id ≡ id)
+
 -- the run lies within the disk, and marking it after this many freezes takes no memory
 pub record CanMark (capacity : ℕ) (maps : Maps) (freezes : ℕ) (run : Run) : Type 0 where
   pub some : 1 ≤ run.count
   pub within : run.first + run.count ≤ capacity
   pub room : HasRoomWhere (is_met_by run) maps freezes
 
+-- no block was touched after more than this many freezes
+abbrev pub NoLater : TouchState → (freezes : ℕ) → Type 0
+NoLater touches freezes = (w : Window) (block : ℕ) → freezes < w.from
+    → is_touched touches w block ≡ false
+
+-- each first touch came after at most this many freezes
+abbrev pub IsByNow : TouchState → (freezes : ℕ) → Type 0
+IsByNow touches freezes = (end block : ℕ) → freezes < end
+    → is_touched touches (window 0 end) block ≡ is_touched touches (window 0 (freezes + 1)) block
+
 pub record IsKept (capacity : ℕ) (counted : Option ℕ) (maps : Maps)
     (snapshots : Vec Kept Global) (free_from : ℕ) (mark_room : Option Run) (freeze_room : Bool)
     : Type 0 where
   pub ascending : AreIds 0 free_from snapshots.items
   pub few : unwrap_or counted 0 ≤ length snapshots.items
+  pub first_past : IsByNow maps.first (length snapshots.items)
+  pub changes_past : NoLater maps.changes (length snapshots.items)
   pub can_mark : IfSome mark_room (CanMark capacity maps (length snapshots.items))
   pub can_freeze : freeze_room ≡ true → vec_len snapshots < vec_capacity snapshots
 

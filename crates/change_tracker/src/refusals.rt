@@ -18,6 +18,11 @@ pub enum TrackRefused {
 }
 
 impl From<NoMemory> for TrackRefused {
+    ghost use Rattle.std.specs.Prelude.{◌≡◌};
+    ghost use Rattle.change_tracker.specs.declared.refusals.TrackRefused.TheVariants.{NoMemory};
+
+    ghost from_gives = { λ _ e. e ≡ NoMemory };
+
     fn from(_refused: NoMemory) -> Self {
         TrackRefused::NoMemory
     }

@@ -1,8 +1,9 @@
 //! The tracker of one disk.
-ghost use Rattle.std.specs.Prelude.{◌≡◌, ◌+◌, ◌<◌, ◌≤◌, ◌^◌, ◌∷◌, ◌++◌, [], IsOk, OnOk, OnErr, IfOk, ℕ, List, true, Some, None, position, ◌==◌, MatchBool};
+ghost use Rattle.std.specs.Prelude.{◌≡◌, ◌+◌, ◌<◌, ◌≤◌, ◌^◌, ◌∷◌, ◌++◌, [], IsOk, OnOk, OnErr, IfOk, ℕ, List, true, Some, None, false, ◌==◌, MatchBool, MatchOption};
+ghost use Rattle.std.specs.List.{list_any};
 ghost use Rattle.basics.specs.Refusal.{IsRefusedOr, IsRefusedBy};
 ghost use Rattle.sector_model.specs.Page.{page_of};
-ghost use Rattle.change_tracker.specs.Kept.{IsAscending, is_accepted, window_from, in_force_of};
+ghost use Rattle.change_tracker.specs.Kept.{IsAscending, IsAt, is_accepted, window_from, in_force_of};
 
 use crate::TrackRefused;
 use crate::kept::Kept;
@@ -262,7 +263,8 @@ impl Tracker {
 /// The place of a snapshot in the list.
 fn place_of(snapshots: &[Kept], id: u32) -> Option<usize>
     requires { IsAscending snapshots.now }
-    ensures { result ≡ position (λ kept. kept.id == id) snapshots.now }
+    ensures { MatchOption result (list_any (λ kept. kept.id == id) snapshots.now ≡ false)
+        (λ place. IsAt snapshots.now place id) }
 {
     let place = snapshots.partition_point(|kept| kept.id < id);
     match snapshots.get(place) {
