@@ -7,3 +7,5 @@ pub mod Histories
 pub mod States
 pub mod Results
 pub mod Lookups
+pub mod Queries
+pub mod AnswerPages
