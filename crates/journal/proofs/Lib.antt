@@ -2,6 +2,7 @@ mod CellLemmas
 pub mod StandingLemmas
 mod OpenCells
 mod Reading
+mod Keeping
 mod Results
 mod ImageLemmas
 mod AppendSteps

