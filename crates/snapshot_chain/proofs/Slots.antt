@@ -29,9 +29,6 @@ added_kept : (other old new : Option PageState) → IsSlotAdded other old new �
 added_kept other old new (inl same) some = rw same some
 added_kept other old new (inr (there, none, made)) some = absurd (false≢true (rw none at some))
 
-pub slots_kept : (other old new : LayerState) → AddsSlots other old new → KeepsSlots old new
-slots_kept other old new added block some = added_kept (slot_of other block) (slot_of old block) (slot_of new block) (added block) some
-
 added_of : (other old new : Option PageState) → IsSlotAdded other old new → IsSome new → (IsSome old) ⊎ (IsSome other)
 added_of other old new (inl same) some = inl (rw same at some)
 added_of other old new (inr (there, none, made)) some = inr there
@@ -143,16 +140,6 @@ pub room_open : (lower upper room : Option PageState) → IsRoomAt lower upper r
 room_open lower upper None is = is
 room_open lower upper (Some page) (inl (empty, blank)) = inl empty
 room_open lower upper (Some page) (inr join) = inr join
-
--- an open slot is room where one of the layers has no sector
-pub blank_room : (lower : PageState) (upper room : Option PageState) → IsBlank (Some lower) ⊎ IsBlank upper → IsOpenAt (Some lower) upper room → IsRoomAt (Some lower) upper room
-blank_room lower upper None blank is = absurd (cc)
-blank_room lower upper (Some page) blank (inl empty) = inl (empty, blank)
-blank_room lower upper (Some page) blank (inr join) = inr join
-
-pub open_some : (lower : PageState) (upper room : Option PageState) → IsOpenAt (Some lower) upper room → IsSome room
-open_some lower upper None is = absurd (cc)
-open_some lower upper (Some page) is = refl
 
 -- one block more
 pub room_more : (lower upper old new : LayerState) (block : ℕ) (page : PageState) → slot_of lower block ≡ Some page → IsRoomAt (Some page) (slot_of upper block) (slot_of new block)

@@ -58,10 +58,6 @@ any-or f g h (x ∷ xs) same = rw (same x, any-or f g h xs same) (four (f x) (g 
     four false true false d = refl
     four false false c d = refl
 
-any_eq : (f g : ℕ → Bool) (xs : List ℕ) → ((k : ℕ) → f k ≡ g k) → list_any f xs ≡ list_any g xs
-any_eq f g [] same = refl
-any_eq f g (x ∷ xs) same = rw (same x, any_eq f g xs same) refl
-
 -- a block in which a run is written over what was found before
 pub has_more : (first : ℕ) (xs : List Sector) (block : ℕ) (old : ℕ → Option Sector)
     → list_any (λ p. is_some (option_or (run_at first xs (128 * block + p)) (old p))) (range_with_len 0 128)
