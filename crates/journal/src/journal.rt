@@ -106,7 +106,7 @@ impl<D: Disk> Journal<D> {
             });
         }
         let cell = cell_of(self.alloc, record)?;
-        let copy = record.clone()?;
+        let copy = copy_of(record)?;
         self.records.reserve(1)?;
         match append_cell(&mut self.disk, self.len as u64, &cell) {
             Ok(()) => {
@@ -138,6 +138,14 @@ impl<D: Disk> Journal<D> {
         let Journal { disk, .. } = self;
         disk
     }
+}
+
+/// A copy of a record. It answers only want of memory.
+fn copy_of(record: &Record) -> Result<Record, JournalRefused>
+    ensures copy { IfOk result (λ copy. copy ≡ record.now) }
+    ensures memory { IfErr result (λ refusal. refusal ≡ JournalRefused.NoMemory) }
+{
+    Ok(record.clone()?)
 }
 
 /// Syncs the disk, reads the records of its file, and leaves it as a journal that can be appended
