@@ -1,5 +1,5 @@
 //! The journal.
-ghost use Rattle.std.specs.Prelude.{◌≡◌, ◌⊎◌, length, None, Err, option_map, MatchOption, IfOk, IfErr, OnOk, OnErr};
+ghost use Rattle.std.specs.Prelude.{◌≡◌, ◌≤◌, ◌⊎◌, length, None, Err, option_map, MatchOption, IfOk, IfErr, OnOk, OnErr};
 ghost use Rattle.std.specs.Option.{ForSome};
 ghost use Rattle.basics.specs.Faults.{HasCause};
 ghost use Rattle.edge_traits.specs.Disk.{WhereTold, settled};
@@ -166,6 +166,7 @@ fn repair<D: Disk>(disk: &mut D, len: usize, found: &Found) -> Result<(), FaultA
     requires settled { ForSome (D.state disk.old).contents IsSettled }
     requires long { ForSome (D.state disk.old).contents (λ c. len ≡ length c.bytes) }
     requires whole { IsWhole found.now }
+    requires fresh { len ≤ EMPTY_BYTES → found.now.end ≡ EMPTY_BYTES }
     requires found { ForSome (D.state disk.old).contents
         (λ c. StandsFor c.bytes (Holds found.now.records.items)) }
     ensures repaired { OnOk result ((D.state disk.new).contents
