@@ -71,7 +71,7 @@ cut_has records r gate image failure spelled has which closed small (inr (other,
     let cells : length tail ≡ length (cell r) + 1 = length-append (cell r) (CLOSED_GATE ∷ []) in
     let less : length image ≤ MAX_BYTES = omega (arith, long, cells, length-cell r) in
     elim (eqb_tells other OPEN_GATE) [
-      inl (test, opened) ↦
+      | inl (test, opened) ↦
           let with_it : image ≡ front (records ++ r ∷ []) ++ CLOSED_GATE ∷ [] =
           whole ∙ ap (λ g. front records ++ g ∷ tail) opened
           ∙ front_and_one records r (CLOSED_GATE ∷ []) in
@@ -79,7 +79,7 @@ cut_has records r gate image failure spelled has which closed small (inr (other,
           stands_closed (records ++ r ∷ []) CLOSED_GATE [] image (all_spelled records r spelled has) closed_gate
           with_it less in
           inr (inl (subst (λ (x : Record). StandsFor image (Holds (records ++ x ∷ []))) (sym which) all))
-    | inr (test, differs) ↦ inl (stands_closed records other tail image spelled differs whole less)
+      | inr (test, differs) ↦ inl (stands_closed records other tail image spelled differs whole less)
     ]
 
 held_after_cut : (records : List Record) (r : Record) (failure : Failure) (old new : DiskContents)
@@ -185,8 +185,8 @@ pub reopened_rests : (records : List Record) (file : List ℕ) → StandsFor fil
     → IsAtRest records (settled (reopened records file))
 reopened_rests records file stands =
     elim (cases_lt EMPTY_BYTES (length file)) [
-      inl more ↦ rests_long records file more (closed_in file records more stands)
-    | inr few ↦ rests_short records file few (none_in_short file records few stands)
+      | inl more ↦ rests_long records file more (closed_in file records more stands)
+      | inr few ↦ rests_short records file few (none_in_short file records few stands)
     ]
   where
     rests_short : (records : List Record) (file : List ℕ) → length file ≤ EMPTY_BYTES → records ≡ []
@@ -195,6 +195,7 @@ reopened_rests records file stands =
         let test : nat_le (length file) EMPTY_BYTES ≡ true = grind (arith, nat_tests) in
         let made : reopened records file ≡ front records ++ CLOSED_GATE ∷ [] = rw (test, none) refl in
         (CLOSED_GATE, closed_gate, ap settled made)
+
     rests_long : (records : List Record) (file : List ℕ) → EMPTY_BYTES < length file
         → HasClosed file records → IsAtRest records (settled (reopened records file))
     rests_long records file more is =
@@ -266,8 +267,7 @@ settled_there records failure contents len whole long held =
       where
         here : (c : DiskContents) → IsAtRest records c → IsSettled c × (len ≡ length c.bytes)
         here c (gate, closed, is) =
-            let bytes : c.bytes ≡ front records ++ gate ∷ [] = ap (λ (d : DiskContents). d.bytes) is in
-            (
+            let bytes : c.bytes ≡ front records ++ gate ∷ [] = ap (λ (d : DiskContents). d.bytes) is in (
               is ∙ ap settled (sym bytes),
               omega (arith, long, ap length bytes, length-append (front records) (gate ∷ [])),
             )

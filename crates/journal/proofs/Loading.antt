@@ -108,8 +108,7 @@ cut_keeps (Some old) (Some new) found len at_rest long more whole stands leaves 
     let reaches : length (front found.records.items) + 1 ≤ length image = omega (arith, parts.0, whole.long) in
     let kept : StandsFor image (Holds found.records.items) =
     cut_stands found.records.items old.bytes image many (small_file found.records.items old.bytes many holds) holds
-    reaches parts.1 in
-    (
+    reaches parts.1 in (
       old.bytes,
       itself old (at_rest old refl),
       λ standing other.
@@ -145,7 +144,7 @@ unread NotAJournal old new (just, long) = record {
   cause = (
     just.synced,
     found_as NoJournal old.contents (λ c. MAX_BYTES < length c.bytes)
-    (λ c more. Foreign (omega (arith, more)) (inl more) refl) long,
+        (λ c more. Foreign (omega (arith, more)) (inl more) refl) long,
   );
   images = just_keeps old new just;
 }
@@ -183,12 +182,12 @@ pub whole_found : (bytes : List ℕ) (found : Found) → length bytes ≤ MAX_BY
     → IsFound bytes (Ok found) → IsWhole found
 whole_found bytes found small (stands, end) =
     elim (cases_lt EMPTY_BYTES (length bytes)) [
-      inl more ↦
+      | inl more ↦
           let closed = closed_in bytes found.records.items more stands in
           let long : length bytes ≡ length (front found.records.items) + length (closed.gate ∷ closed.tail) =
           ap length closed.split ∙ length-append (front found.records.items) (closed.gate ∷ closed.tail) in
           record { spelled = closed.spelled; long = end; small = omega (arith, end, long) }
-    | inr few ↦
+      | inr few ↦
           let none : found.records.items ≡ [] = none_in_short bytes found.records.items few stands in
           let spelled : AllByRecursion HasSpelling found.records.items = rw none tt in
           let short : found.end ≡ 9 = end ∙ ap (λ (rs : List Record). length (front rs) + 1) none in
@@ -240,6 +239,7 @@ loaded old mid new bytes found small just same fact repaired faults = (
       left =
           repaired ∙ ap (λ (x : Option DiskContents). option_map (λ (d : DiskContents). settled (reopened found.records.items d.bytes)) x) is;
     }
+
     untold : (o m n : Option DiskContents) → m ≡ option_map after_sync o
         → n ≡ option_map (λ c. settled (reopened found.records.items c.bytes)) m → o ≡ None → n ≡ None
     untold o m n is repaired none = rw (repaired, is, none) refl

@@ -22,5 +22,5 @@ returns-else-len-le-EMPTY_BYTES-clause-kept g c =
     on_err_then c.cut_to.result (WhereTold (LeavesCut c.args.found.now.end) old new) (WhereTold KeepsStanding old new)
     c.cut_to.ensures.left
     (λ leaves.
-        cut_keeps old new c.args.found.now c.args.len c.requires.settled c.requires.long (omega arith) c.requires.whole
-        c.requires.found leaves)
+    cut_keeps old new c.args.found.now c.args.len c.requires.settled c.requires.long (omega arith) c.requires.whole
+    c.requires.found leaves)
