@@ -43,8 +43,8 @@ pub sync_cut : (old written new : Option DiskContents) (len : ℕ) (cell : List 
 sync_cut None written new len cell at_rest long is same = rw (same, is) tt
 sync_cut (Some old) written new len cell at_rest long is same =
     rw (same, is) (λ image i.
-        cut_before old len cell image (at_rest old refl) (long old refl)
-        (images_of_write old len cell image i))
+    cut_before old len cell image (at_rest old refl) (long old refl)
+    (images_of_write old len cell image i))
 
 -- the gate's write failed
 pub gate_cut : (old synced new : Option DiskContents) (len : ℕ) (cell : List ℕ)
@@ -77,10 +77,10 @@ pub last_cut : (old synced opened new : Option DiskContents) (len : ℕ) (cell :
 last_cut None synced opened new len cell long some is gate same = rw (same, gate, is) tt
 last_cut (Some old) synced opened new len cell long some is gate same =
     rw (same, gate, is) (λ image i.
-        let bytes : 1 ≤ length old.bytes = omega (arith, long old refl, some) in
-        cut_after old.bytes cell image bytes
-        (later_images old len cell image (long old refl) some
-        (images_of_write (with_cell len cell old) (len - 1) (OPEN_GATE ∷ []) image i)))
+    let bytes : 1 ≤ length old.bytes = omega (arith, long old refl, some) in
+    cut_after old.bytes cell image bytes
+    (later_images old len cell image (long old refl) some
+    (images_of_write (with_cell len cell old) (len - 1) (OPEN_GATE ∷ []) image i)))
 
 opened_is : (c : DiskContents) (len : ℕ) (cell : List ℕ) → len ≡ length c.bytes → 1 ≤ len
     → after_sync (after_write (len - 1) (OPEN_GATE ∷ []) (with_cell len cell c))

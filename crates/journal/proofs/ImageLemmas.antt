@@ -17,8 +17,8 @@ starts_same front image long same =
     omega (arith, length-take (length front) image) in
     ext_get_or 0 (take (length front) image) front len
     (λ k below.
-        let inside : k < length front = omega arith in
-        get_or-take (length front) image k 0 inside ∙ same k inside)
+    let inside : k < length front = omega arith in
+    get_or-take (length front) image k 0 inside ∙ same k inside)
 
 before_it : (k first count : ℕ) (file : List ℕ) → k < first
     → is_loose k (loosened first count (settled file)) ≡ false
@@ -37,10 +37,9 @@ image_of_longer file count image is =
     let short : length image ≤ max (length file) (length file + count) = is.short in
     let same : (k : ℕ) → k < length file → get_or image k 0 ≡ get_or file k 0 =
     λ k below.
-        let within : k < length image = omega arith in
-        is.kept k within below (before_it k (length file) count file below) in
-    let starts : take (length file) image ≡ file = starts_same file image long same in
-    (
+    let within : k < length image = omega arith in
+    is.kept k within below (before_it k (length file) count file below) in
+    let starts : take (length file) image ≡ file = starts_same file image long same in (
       sym (take-append-drop (length file) image) ∙ ap (λ xs. xs ++ drop (length file) image) starts,
       omega (arith, length-drop (length file) image),
     )
@@ -81,26 +80,26 @@ image_of_gate file at image within is =
     let begins : at ≤ length file = omega arith in
     ext_get_or 0 image (overwritten at (gate ∷ []) file) same
     (λ k below.
-        let inside : k < length file = omega arith in
-        elim (cases_lt k at) [
-          inl before ↦
-              is.kept k below inside (before_it k at 1 file before)
-              ∙ sym (overwritten_before at (gate ∷ []) file k begins before)
-        | inr from ↦
-              elim (cases_lt at k) [
-                inl behind ↦
-                    let past : at + 1 ≤ k = omega arith in
-                    is.kept k below inside (behind_it k at 1 file past)
-                    ∙ sym (overwritten_behind at (gate ∷ []) file k begins past)
-              | inr to ↦
-                    let here : k ≡ at = omega arith in
-                    let none : k - at ≡ 0 = omega arith in
-                    let only : k < at + 1 = omega arith in
-                    ap (λ n. get_or image n 0) here
-                    ∙ ap (λ n. get_or (gate ∷ []) n 0) (sym none)
-                    ∙ sym (overwritten_within at (gate ∷ []) file k begins from only)
-              ]
-        ])
+    let inside : k < length file = omega arith in
+    elim (cases_lt k at) [
+      | inl before ↦
+          is.kept k below inside (before_it k at 1 file before)
+          ∙ sym (overwritten_before at (gate ∷ []) file k begins before)
+      | inr from ↦
+          elim (cases_lt at k) [
+            | inl behind ↦
+                let past : at + 1 ≤ k = omega arith in
+                is.kept k below inside (behind_it k at 1 file past)
+                ∙ sym (overwritten_behind at (gate ∷ []) file k begins past)
+            | inr to ↦
+                let here : k ≡ at = omega arith in
+                let none : k - at ≡ 0 = omega arith in
+                let only : k < at + 1 = omega arith in
+                ap (λ n. get_or image n 0) here
+                ∙ ap (λ n. get_or (gate ∷ []) n 0) (sym none)
+                ∙ sym (overwritten_within at (gate ∷ []) file k begins from only)
+          ]
+    ])
 
 -- a disk that is cut keeps the bytes that it has
 pub image_of_shorter : (file : List ℕ) (end : ℕ) (image : List ℕ) → end ≤ length file
@@ -110,11 +109,10 @@ image_of_shorter file end image within is =
     let long : min (length file) end ≤ length image = is.long in
     let short : length image ≤ length file = is.short in
     let len : length (take (length image) file) ≡ length image =
-    omega (arith, length-take (length image) file) in
-    (
+    omega (arith, length-take (length image) file) in (
       omega arith,
       ext_get_or 0 image (take (length image) file) (sym len)
-      (λ k below.
+          (λ k below.
           let inside : k < length file = omega arith in
           is.kept k below inside refl ∙ sym (get_or-take (length image) file k 0 below)),
     )
@@ -140,5 +138,5 @@ cut_after file cell image some is =
     inr (
       get_or image (length file - 1) 0,
       image_of_gate (file ++ cell) (length file - 1) image within is
-      ∙ overwritten_gate file cell (get_or image (length file - 1) 0) some,
+          ∙ overwritten_gate file cell (get_or image (length file - 1) 0) some,
     )

@@ -3,6 +3,7 @@ pub mod StandingLemmas
 mod OpenCells
 mod Reading
 mod Keeping
+mod Loading
 mod Results
 mod ImageLemmas
 mod AppendSteps

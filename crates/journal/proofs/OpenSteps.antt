@@ -38,8 +38,8 @@ pub next_piece : (at end len : ℕ) → (at % PIECE_BYTES ≡ 0) ⊎ (at ≡ len
     → end ≡ min len (at + PIECE_BYTES) → (end % PIECE_BYTES ≡ 0) ⊎ (end ≡ len)
 next_piece at end len (inl begins) more is =
     elim (cases_lt (at + PIECE_BYTES) len) [
-      inl within ↦ inl (omega arith)
-    | inr last ↦ inr (omega arith)
+      | inl within ↦ inl (omega arith)
+      | inr last ↦ inr (omega arith)
     ]
 next_piece at end len (inr done) more is = absurd (omega arith)
 
@@ -86,5 +86,5 @@ pub sync_few : (old cut written new : Option DiskContents) (file : List ℕ) (mo
 sync_few None cut written new file most within at_rest few is then same = rw (same, then, is) tt
 sync_few (Some old) cut written new file most within at_rest few is then same =
     rw (same, then, is) (λ image i.
-        let short : length image ≤ max old.greatest (0 + length file) = i.short in
-        omega (arith, short, few_now old most (at_rest old refl) (few old refl)))
+    let short : length image ≤ max old.greatest (0 + length file) = i.short in
+    omega (arith, short, few_now old most (at_rest old refl) (few old refl)))

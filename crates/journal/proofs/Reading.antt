@@ -93,8 +93,8 @@ closed_stands : (cells : List ℕ) (records : List Record) (rest : List ℕ) →
 closed_stands cells records [] is closed = absurd (cc)
 closed_stands cells records (gate ∷ tail) is closed =
     elim (eqb_tells gate OPEN_GATE) [
-      inl (test, same) ↦ (let no : not true ≡ true = rw test at closed in absurd (cc))
-    | inr (test, differs) ↦
+      | inl (test, same) ↦ (let no : not true ≡ true = rw test at closed in absurd (cc))
+      | inr (test, differs) ↦
           record {
             records = records;
             rest = gate ∷ tail;
@@ -118,8 +118,8 @@ ends_open : (records : List Record) (rest : List ℕ) → begins_closed rest ≡
 ends_open records [] open_end = refl
 ends_open records (gate ∷ tail) open_end =
     elim (eqb_tells gate OPEN_GATE) [
-      inl (test, same) ↦ rw test refl
-    | inr (test, differs) ↦ (let no : not false ≡ false = rw test at open_end in absurd (cc))
+      | inl (test, same) ↦ rw test refl
+      | inr (test, differs) ↦ (let no : not false ≡ false = rw test at open_end in absurd (cc))
     ]
 
 -- or where the file does

@@ -24,3 +24,7 @@ for_each o P fact x is = rw is at fact
 
 pub at_some : {T : Type 0} (o : Option T) (x : T) (P : T → Type 0) → o ≡ Some x → IfSome o P → P x
 at_some o x P is fact = rw is at fact
+
+pub on_err_then : {T E : Type 0} (r : Result T E) (Q P : Type 0) → OnErr r Q → (Q → P) → OnErr r P
+on_err_then (Ok answer) Q P fact leads = tt
+on_err_then (Err refusal) Q P fact leads = leads fact

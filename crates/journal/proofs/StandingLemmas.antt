@@ -53,7 +53,7 @@ parsed_one : (bytes : List ℕ) (one other : Standing) → length bytes ≤ MAX_
     → IsParsed bytes other → one ≡ other
 parsed_one bytes one other small first second =
     let same : MAGIC ++ (flat_map open_cell first.records ++ first.rest)
-        ≡ MAGIC ++ (flat_map open_cell second.records ++ second.rest) =
+    ≡ MAGIC ++ (flat_map open_cell second.records ++ second.rest) =
     sym (front_split first.records first.rest) ∙ sym first.split ∙ second.split
     ∙ front_split second.records second.rest in
     let long : length bytes ≡ length (MAGIC ++ (flat_map open_cell first.records ++ first.rest)) =
@@ -109,7 +109,7 @@ pub stands_closed : (records : List Record) (gate : ℕ) (tail bytes : List ℕ)
     → length bytes ≤ MAX_BYTES → StandsFor bytes (Holds records)
 stands_closed records gate tail bytes spelled closed is small =
     elim (cases_lt EMPTY_BYTES (length bytes)) [
-      inl more ↦
+      | inl more ↦
           Parsed more small (record {
             records = records;
             rest = gate ∷ tail;
@@ -118,7 +118,7 @@ stands_closed records gate tail bytes spelled closed is small =
             ends = no_cell_behind gate tail closed;
             is = sym (closed_standing records gate tail closed);
           })
-    | inr few ↦
+      | inr few ↦
           let short : length (front records ++ gate ∷ tail) ≤ EMPTY_BYTES =
           omega (arith, few, ap length is) in
           Short few (ap (λ (rs : List Record). Holds rs) (some_front records gate tail short))
@@ -138,10 +138,10 @@ closed_of : (bytes : List ℕ) (records found : List Record) (rest : List ℕ)
 closed_of bytes records found [] spelled split is = absurd (cc)
 closed_of bytes records found (gate ∷ tail) spelled split is =
     elim (eqb_tells gate OPEN_GATE) [
-      inl (test, opened) ↦
+      | inl (test, opened) ↦
           let bad : Holds records ≡ BadRecord (length found + 1) = rw test at is in
           absurd (cc)
-    | inr (test, closed) ↦
+      | inr (test, closed) ↦
           let holds : Holds records ≡ Holds found = rw test at is in
           let same : found ≡ records = cc in
           record {

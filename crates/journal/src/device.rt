@@ -56,12 +56,7 @@ fn read_pieces<D: Disk>(disk: &mut D, bytes: &mut [u8]) -> Result<(), FaultAt>
 }
 
 /// Fills a range of the buffer with the bytes of the disk at the same offsets.
-fn read_piece<D: Disk>(
-    disk: &mut D,
-    bytes: &mut [u8],
-    at: usize,
-    end: usize,
-) -> Result<(), FaultAt>
+fn read_piece<D: Disk>(disk: &mut D, bytes: &mut [u8], at: usize, end: usize) -> Result<(), FaultAt>
     requires range { at ≤ end }
     requires within { end ≤ length bytes.old }
     requires all { ForSome (D.state disk.old).contents (λ c. length bytes.old ≡ length c.bytes) }

@@ -1,5 +1,5 @@
 //! The journal.
-ghost use Rattle.std.specs.Prelude.{◌≡◌, ◌⊎◌, length, None, Err, option_map, MatchOption, IfOk, IfErr, OnOk, OnErr};
+ghost use Rattle.std.specs.Prelude.{◌≡◌, ◌≤◌, ◌⊎◌, length, None, Err, option_map, MatchOption, IfOk, IfErr, OnOk, OnErr};
 ghost use Rattle.std.specs.Option.{ForSome};
 ghost use Rattle.basics.specs.Faults.{HasCause};
 ghost use Rattle.edge_traits.specs.Disk.{WhereTold, settled};
@@ -106,7 +106,7 @@ impl<D: Disk> Journal<D> {
             });
         }
         let cell = cell_of(self.alloc, record)?;
-        let copy = record.clone()?;
+        let copy = copy_of(record)?;
         self.records.reserve(1)?;
         match append_cell(&mut self.disk, self.len as u64, &cell) {
             Ok(()) => {
@@ -140,6 +140,14 @@ impl<D: Disk> Journal<D> {
     }
 }
 
+/// A copy of a record. It answers only want of memory.
+fn copy_of(record: &Record) -> Result<Record, JournalRefused>
+    ensures copy { IfOk result (λ copy. copy ≡ record.now) }
+    ensures memory { IfErr result (λ refusal. refusal ≡ JournalRefused.NoMemory) }
+{
+    Ok(record.clone()?)
+}
+
 /// Syncs the disk, reads the records of its file, and leaves it as a journal that can be appended
 /// to.
 fn load<D: Disk>(alloc: Global, disk: &mut D) -> Result<Found, JournalRefused>
@@ -158,6 +166,7 @@ fn repair<D: Disk>(disk: &mut D, len: usize, found: &Found) -> Result<(), FaultA
     requires settled { ForSome (D.state disk.old).contents IsSettled }
     requires long { ForSome (D.state disk.old).contents (λ c. len ≡ length c.bytes) }
     requires whole { IsWhole found.now }
+    requires fresh { len ≤ EMPTY_BYTES → found.now.end ≡ EMPTY_BYTES }
     requires found { ForSome (D.state disk.old).contents
         (λ c. StandsFor c.bytes (Holds found.now.records.items)) }
     ensures repaired { OnOk result ((D.state disk.new).contents

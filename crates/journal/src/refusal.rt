@@ -51,7 +51,10 @@ impl fmt::Display for JournalRefused {
                 write!(f, "record {number} of the journal is cut or no record")
             }
             JournalRefused::Full { length } => {
-                write!(f, "the journal of {length} bytes has no room for the record")
+                write!(
+                    f,
+                    "the journal of {length} bytes has no room for the record"
+                )
             }
             JournalRefused::NoMemory => write!(f, "memory ran out"),
         }

@@ -23,5 +23,5 @@ loop-at-preserved g c =
 pub returns-clause-given : goal.returns-clause-given
 returns-clause-given g c =
     if_each _ _ (λ contents told.
-        all_read c.loop-at.at c.loop-at.bytes contents.bytes (omega arith)
-        (omega (arith, c.requires.all contents told)) (c.loop-at.invariant.read contents told))
+    all_read c.loop-at.at c.loop-at.bytes contents.bytes (omega arith)
+    (omega (arith, c.requires.all contents told)) (c.loop-at.invariant.read contents told))
