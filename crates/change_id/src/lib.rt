@@ -1,12 +1,14 @@
 //! Change identifiers of the form `<UUID>/<number>`, as VMware's changed block tracking has them.
 //! Here the UUID packs the machine, the disk and how often the disk's tracking was reset, and the
-//! number counts the disk's snapshots since the last reset.
+//! number counts the disk's snapshots since tracking was enabled and, where it was reset, since the
+//! last reset.
 #![tactic(auto)]
 
 ghost use Rattle.std.specs.Prelude.{◌≡◌, ◌≤◌, ◌<◌, ◌↔◌, ◌==◌, Contains, IfNone, IfSome, IsTrue, MatchOption, position, slice_index, decimal, drop, length, take};
+ghost use Rattle.std.specs.Str.{IsAscii};
 ghost use Rattle.change_id.specs.declared.ChangeId.{ChangeId};
 ghost use Rattle.change_id.specs.ChangeId.{refusal_number, packed, spelling, uuid_text, uuid_part, number_part, IsUuidText, IsNumberText, IsAnswer, Spells, LacksSlash, LacksUuid, LacksNumber, slash};
-ghost use Rattle.change_id.specs.Laws.{OneAnswer, WrittenParses, SpellingsDiffer, PackingsDiffer};
+ghost use Rattle.change_id.specs.Laws.{OneAnswer, WrittenParses, SpellingsDiffer, PackingsFit, PackingsDiffer};
 
 use std::error::Error;
 use std::fmt;
@@ -26,7 +28,8 @@ pub const MAX_ID_BYTES: usize = UUID_BYTES + 1 + MAX_DIGITS;
 pub struct ChangeId {
     /// What [`pack`] gives for the machine, the disk and its resets.
     pub uuid: u128,
-    /// The number of the snapshot since the last reset, from 1 on.
+    /// The number of the snapshot, from 1 on, since tracking was enabled and, where it was reset,
+    /// since the last reset.
     pub seq: u64,
 }
 
@@ -99,11 +102,13 @@ pub fn parse(text: &[u8]) -> Result<ChangeId, IdRefused>
     Ok(ChangeId { uuid, seq })
 }
 
-/// Writes the one spelling of `id` to the front of `out`, and gives its length in bytes. The rest
-/// of `out` stays as it was.
+/// Writes the one spelling of `id` to the front of `out`, and gives its length in bytes. It is
+/// ASCII, and the rest of `out` stays as it was. An identifier with the number 0 is written too,
+/// but [`parse`] reads none such.
 pub fn write_to(id: &ChangeId, out: &mut [u8; MAX_ID_BYTES]) -> usize
-    requires { 1 ≤ id.now.seq }
     ensures text { take result out.new ≡ spelling id.now.uuid id.now.seq }
+    ensures spells { 1 ≤ id.now.seq → Spells (take result out.new) id.now }
+    ensures ascii { IsAscii (take result out.new) }
     ensures rest { drop result out.new ≡ drop result out.old }
     ensures fits { result ≤ MAX_ID_BYTES }
 {
@@ -201,6 +206,11 @@ pub fn spellings_differ()
     ensures { SpellingsDiffer }
 {}
 
+/// A packing of numbers that fit has 128 bits, as the UUID of an identifier.
+pub fn packings_fit()
+    ensures { PackingsFit }
+{}
+
 /// No two triples of machine, disk and resets share a packing.
 pub fn packings_differ()
     ensures { PackingsDiffer }
@@ -282,7 +292,6 @@ mod tests {
         let text = b"ffffffff-ffff-ffff-ffff-ffffffffffff/18446744073709551615";
         assert_eq!(rt; write_to(&id, &mut out), MAX_ID_BYTES);
         assert_eq!(rt; &out, text);
-        assert_ne!(rt; Since::From(id), Since::All);
     }
 
     #[test]

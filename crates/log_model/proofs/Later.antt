@@ -130,21 +130,23 @@ numbered_place_gives d n log low high =
     let passes : gives d n log (0 + place) ≡ true =
     ap (gives d n log) at ∙ both (epoch d (take (place + 1) log) == epoch d log) (number d (take (place + 1) log) == n)
     (eq-eqb (epoch d (take (place + 1) log)) (epoch d log) some.1.same_epoch) (eq-eqb (number d (take (place + 1) log)) n some.1.numbered) in
-    let first : First (gives d n log) 0 (length log) place = first_passing (gives d n log) 0 (length log) place some.1.within passes in
+    let first : First (gives d n log) 0 (length log) place = first_passing (gives d n log) 0 (length log) place some.1.snapshot.within passes in
     let k : ℕ = first.k in
     let start : 0 + k ≡ k = omega arith in
     let here : numbered_place d n log ≡ k = ap (λ (o : Option ℕ). unwrap_or o (length log)) first.found ∙ start in
     let parts = both_parts (epoch d (take (k + 1) log) == epoch d log) (number d (take (k + 1) log) == n) (ap (gives d n log) (sym start) ∙ first.passes) in
     let epochs : epoch d (take (k + 1) log) ≡ epoch d log = eqb-true (epoch d (take (k + 1) log)) (epoch d log) parts.0 in
     let numbered : number d (take (k + 1) log) ≡ n = eqb-true (number d (take (k + 1) log)) n parts.1 in
-    let inside : k < length log = omega (arith, first.early, some.1.within) in
+    let inside : k < length log = omega (arith, first.early, some.1.snapshot.within) in
     let entry = at_place log k inside in
     let next : take (suc k) log ≡ take (k + 1) log = ap (λ m. take m log) (sym (add-one k)) in
     let taken : is_snap (entry.0).act ≡ true =
     is_taken d n k log entry.0 (is_snap (entry.0).act) low entry.2 refl (ap (epoch d) next ∙ epochs) (ap (number d) next ∙ numbered) (λ j less. let same : 0 + j ≡ j = omega arith in ap (gives d n log) (sym same) ∙ first.none j less) in
     subst (GivesNumber d n log) (sym here) (record {
-      within = inside;
-      by_snap = λ x read. subst (λ (y : Entry). is_snap y.act ≡ true) (same_Some entry.0 x (sym entry.1 ∙ read)) taken;
+      snapshot = record {
+        within = inside;
+        by_snap = λ x read. subst (λ (y : Entry). is_snap y.act ≡ true) (same_Some entry.0 x (sym entry.1 ∙ read)) taken;
+      };
       same_epoch = epochs;
       numbered = numbered;
     })

@@ -155,9 +155,7 @@ answers_sound (Move name sectors writes) (Refused why) old new sound h =
     ]
 
 not_refused : (line : List ℕ) (why : Refusal) (reply : Reply) → Means line (Refuses why) → reply ≡ Refused why → reply ≢ Refused Volume
-not_refused line NotBuilt reply means is = λ same. cc
-not_refused line NameTaken reply means is = absurd means
-not_refused line Volume reply means is = absurd means
+not_refused line why reply means is = let not_built = means.1 in λ same. cc
 
 line_sound : (line : List ℕ) (what : Line) (reply : Reply) (old new : State) → IsTrue old.store.sound → Means line what → LineAnswers what reply old new → Sound reply old new
 line_sound line Blank reply old new sound means h = absurd h

@@ -9,7 +9,7 @@ use Rattle.sector_model.specs.Disk.{replaced}
 use Rattle.sector_model.specs.Sector.{zero_sector}
 use Rattle.sector_model.specs.VolumeContents.{VolumeContents, IsSized, volume_written, volume_flushed}
 use Rattle.sector_model.specs.declared.sector.Sector.{Sector}
-use Rattle.target_volume.specs.Volume.{VolumeState, after_write, after_zero, after_flush, Breaks, Fails}
+use Rattle.target_volume.specs.Volume.{VolumeState, after_write, after_zero, after_flush, Breaks, VolumeFails}
 use Rattle.basics.specs.Faults.{HasRisen}
 use Rattle.migrate_server.specs.Copy.{after_copy, contents_copied_to, copied_contents, copied_to, CopyFails}
 
@@ -125,7 +125,7 @@ fails_with now after kept =
     ∙ ap (λ (x : ℕ). record { name = now.name; capacity = now.capacity; contents = after.contents; written = x; faults = after.faults; sound = now.sound }) (sym (ap (λ (v : VolumeState). v.written) kept))
 
 pub flush_fails : {T E : Type 0} (disk : List Sector) (at : ℕ) (old now after : VolumeState) (result : Result T E) (e : E) → now ≡ copied_to disk at old → result ≡ Err e
-    → (IsTrue now.sound → IsOk result) → Fails now after → CopyFails old after
+    → (IsTrue now.sound → IsOk result) → VolumeFails now after → CopyFails old after
 flush_fails disk at old now after result e is err ok fails = record {
   unsound = sym (ap (λ (v : VolumeState). v.sound) is) ∙ not_sound now.sound result e err ok;
   rises = subst (λ (n : ℕ). HasRisen n after.faults) (ap (λ (v : VolumeState). v.faults) is) fails.rises;

@@ -2,7 +2,7 @@
 use Rattle.std.proofs.Common.{◌≡◌, ◌≢◌, ◌⊎◌, ℕ, suc, ◌+◌, ◌-◌, ◌<◌, ◌≤◌, Bool, true, false, MatchBool, cond, not, if◌then◌else◌, ◌==◌, List, [], ◌∷◌, ◌++◌, length, take, drop, Option, Some, None, Result, Ok, Err, inl, inr, refl, sym, ap, subst, append_assoc, ◌∙◌, arith}
 use Rattle.std.specs.Prelude.{IfSome, IsTrue, OnOk, OnErr, All, count_by, nat_le, ◌&&◌}
 use Rattle.std.proofs.KnownBytes.{Appends-nil, Appends-trans, Consumes-nil, Consumes-trans}
-use Rattle.std.proofs.lemmas.Bool.{false≢true, true≢false, false_from_ne_true, eqb-true, lt-leb}
+use Rattle.std.proofs.lemmas.Bool.{false≢true, true≢false, false_from_ne_true, and_left, eqb-true, lt-leb}
 use Rattle.std.specs.List.{filter, flat_map, list_all}
 use Rattle.std.specs.Io.KnownBytes.{Appends, Consumes, IsAtEnd}
 use Rattle.std.proofs.lemmas.List.{append-nil, length-append, take-append-drop, take_at, take_all, drop_at}
@@ -41,27 +41,18 @@ use Rattle.migrate_server.proofs.Complete.{session_complete, session_sound, no_v
 
 -- ---- one line
 
-not_blank : (why : Refusal) (line : List ℕ) → Means line (Refuses why) → is_blank line ≡ false
-not_blank NotBuilt line means = means.0
-not_blank NameTaken line means = absurd means
-not_blank Volume line means = absurd means
-
 pub refuses_line : (buffer : LineBuffer) (text : List ℕ) (why : Refusal) (old : State) → buffer.is_long ≡ false → Means buffer.bytes.items (Refuses why) → Holds buffer text
     → HasReply text (Some (Refused why)) old old
 refuses_line buffer text why old short means (inl held) =
-    subst (λ line. HasReply line (Some (Refused why)) old old) held.1 (not_blank why buffer.bytes.items means, (Refuses why, means, (refl, refl)))
+    subst (λ line. HasReply line (Some (Refused why)) old old) held.1 (means.0, (Refuses why, means, (refl, refl)))
 refuses_line buffer text why old short means (inr long) = let h = long.0 in cc
-
-and_false : (a b : Bool) → a ≡ false → (a && b) ≡ false
-and_false false b h = refl
-and_false true b h = cc
 
 -- a line that is too long is neither blank nor a command
 pub long_line : (buffer : LineBuffer) (text : List ℕ) (old : State) → buffer.is_long ≡ true → Holds buffer text → HasReply text (Some (Refused NotBuilt)) old old
 long_line buffer text old long (inl held) = let h = held.0 in cc
 long_line buffer text old long (inr held) =
-    let blank : is_blank text ≡ false = and_false (nat_le (length text) LINE_LIMIT) (list_all is_space text) (lt-leb (length text) LINE_LIMIT held.1) in
-    (blank, (Refuses NotBuilt, (blank, λ command spells. absurd (omega (arith, spells.fits, held.1))), (refl, refl)))
+    let blank : is_blank text ≡ false = and_left (nat_le (length text) LINE_LIMIT) (list_all is_space text) (lt-leb (length text) LINE_LIMIT held.1) in
+    (blank, (Refuses NotBuilt, (blank, refl, λ command spells. absurd (omega (arith, spells.fits, held.1))), (refl, refl)))
 
 pub serves_line : (text : List ℕ) (sink sink_after : SinkState) (old new : State) (some : Option Reply) (reply : Reply) (bytes : List ℕ) → some ≡ Some reply → HasReply text some old new → bytes ≡ reply_line reply
     → Appends sink.held sink_after.held bytes → sink_after.faults ≡ sink.faults → ServesLine text sink sink_after old new

@@ -7,6 +7,7 @@ use Rattle.std.specs.List.{concat, sum_by, AllByRecursion}
 use Rattle.std.specs.Int.{w32, w64, w128, to_be_bytes}
 use Rattle.basics.specs.Spelled.{IsName}
 use Rattle.change_id.specs.declared.ChangeId.{ChangeId}
+use Rattle.change_id.specs.ChangeId.{IdHasRange}
 use Rattle.basics.specs.declared.limits.TheConstants.{MAX_INTERVAL}
 use Rattle.record_codec.specs.declared.record.TheConstants.{MAX_WAY, MAX_HOW}
 use Rattle.record_codec.specs.declared.record.Record.{Record}
@@ -65,9 +66,6 @@ field_size (Flag flag) = 1
 field_size (Text text) = 1 + length text
 field_size (Words numbers) = 4 + 4 * length numbers
 field_size (Ids ids) = 4 + 24 * length ids
-
-abbrev pub IdHasRange : ChangeId → Type 0
-IdHasRange id = (id.uuid < 2 ^ 128) × (id.seq < 2 ^ 64)
 
 -- each number of a field has the bits that it is given
 abbrev pub HasRange : Field → Type 0

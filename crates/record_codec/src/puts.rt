@@ -1,7 +1,8 @@
 //! The writing of one field. Each call needs the room that it takes, so none of them fails.
 ghost use Rattle.std.specs.Prelude.{◌≡◌, ◌≤◌, ◌<◌, ◌+◌, ◌*◌, ◌++◌, ◌∷◌, [], ◌^◌, length, vec_len, vec_capacity};
 ghost use Rattle.std.specs.List.{AllByRecursion};
-ghost use Rattle.record_codec.specs.Record.{IdHasRange, word_bytes, long_bytes, uuid_bytes, id_bytes, flag_byte, all_word_bytes, all_id_bytes};
+ghost use Rattle.change_id.specs.ChangeId.{IdHasRange};
+ghost use Rattle.record_codec.specs.Record.{word_bytes, long_bytes, uuid_bytes, id_bytes, flag_byte, all_word_bytes, all_id_bytes};
 
 use crate::{IdList, Name, NumberList};
 use byteorder::{BigEndian, ByteOrder};

@@ -3,7 +3,7 @@ use Rattle.std.proofs.Common.{◌≡◌, ℕ, ◌-◌, ◌^◌, ◌≤◌, false
 use Rattle.basics.specs.Calls.{after_call}
 use Rattle.basics.specs.Faults.{counted_by, last_count}
 use Rattle.target_volume.specs.MemVolume.{MemVolumeState, HeldState, volume_state, held_broken}
-use Rattle.target_volume.specs.Volume.{Breaks, Fails}
+use Rattle.target_volume.specs.Volume.{Breaks, VolumeFails}
 
 pub on_err_map : {T E : Type 0} {P Q : Type 0} (r : Result T E) → (P → Q) → OnErr r P → OnErr r Q
 on_err_map (Ok x) f h = tt

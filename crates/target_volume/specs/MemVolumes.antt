@@ -158,9 +158,7 @@ IsCountedIn sound faults (Home h) = IsSized (length h.contents.sectors) h.conten
 IsCountedIn sound faults (Lent loan) = loan.faults ≤ faults
 
 abbrev pub AreCountedIn : (sound : Bool) (faults : ℕ) → List (VolumeName × Slot) → Type 0
-AreCountedIn sound faults [] = Unit {0}
-AreCountedIn sound faults (slot ∷ slots) = IsCountedIn sound faults (slot_state slot.1)
-    × AreCountedIn sound faults slots
+AreCountedIn sound faults slots = All (λ slot. IsCountedIn sound faults (slot_state slot.1)) slots
 
 -- what holds of a store's fields: where it is sound nothing was told to fail, its slots are kept,
 -- and they are in order

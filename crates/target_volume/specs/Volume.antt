@@ -38,7 +38,7 @@ abbrev pub after_flush : VolumeState → VolumeState
 after_flush v = record v { contents = option_map volume_flushed v.contents }
 
 -- a failed read or flush leaves what the volume holds; only its count of faults rose
-pub record Fails (old new : VolumeState) : Type 0 where
+pub record VolumeFails (old new : VolumeState) : Type 0 where
   pub kept : new ≡ record old { faults = new.faults }
   pub rises : HasRisen old.faults new.faults
 

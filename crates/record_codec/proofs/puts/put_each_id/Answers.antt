@@ -1,6 +1,7 @@
 use Rattle.std.proofs.Common.{arith}
 use Rattle.std.proofs.lemmas.List.Elements.{All-more}
-use Rattle.record_codec.specs.Record.{IdHasRange, id_bytes}
+use Rattle.change_id.specs.ChangeId.{IdHasRange}
+use Rattle.record_codec.specs.Record.{id_bytes}
 use Rattle.record_codec.proofs.Pieces.{put_step, all_taken}
 use Rattle.record_codec.proofs.puts.put_each_id.Goals as goal
 

@@ -1,7 +1,8 @@
 use Rattle.std.proofs.Common.{◌≡◌, ◌+◌, ◌*◌, ◌≤◌, ◌++◌, take, vec_len}
 use Rattle.std.specs.List.{All}
 use Rattle.std.specs.Vec.{vec_capacity}
-use Rattle.record_codec.specs.Record.{IdHasRange, all_id_bytes}
+use Rattle.change_id.specs.ChangeId.{IdHasRange}
+use Rattle.record_codec.specs.Record.{all_id_bytes}
 use Rattle.record_codec.proofs.puts.put_each_id.Given as goal
 
 abbrev pub invariant-loop-id : goal.invariant-loop-id
