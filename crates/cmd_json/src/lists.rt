@@ -29,7 +29,7 @@ impl<K: Kind> Kind for ListKind<K> {
         for value in values {
             items.push(self.0.read(alloc, value)?)?;
         }
-        Ok(Sequence::of(items))
+        Ok(Sequence::from_vec(items))
     }
 }
 
