@@ -14,7 +14,9 @@ mod tests;
 mod text;
 
 pub use calls::Calls;
-pub use limits::MAX_INTERVAL;
+pub use limits::{
+    MAX_DISK_SECTORS, MAX_DISKS, MAX_INTERVAL, MAX_LOGGED_SECTORS, MAX_WRITE_SECTORS,
+};
 pub use name::{MAX_NAME_BYTES, Name};
 pub use number_list::NumberList;
 pub use refusal::{Failed, NoMemory};

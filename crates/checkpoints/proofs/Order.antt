@@ -1,7 +1,7 @@
 -- The order of checkpoints under adding and finishing, and the last of them.
 use Rattle.std.proofs.Common.{◌≡◌, ℕ, zero, suc, ◌+◌, ◌-◌, ◌<◌, ◌≤◌, Bool, true, false, not, List, [], ◌∷◌, ◌++◌, length, Option, Some, None, refl, sym, ap, ◌∙◌, arith, add-one, add_assoc, cond}
 use Rattle.std.specs.Prelude.{◌==◌, ◌&&◌, ◌||◌, nat_lt, map, slice_get, slice_index, option_map, if◌then◌else◌}
-use Rattle.std.proofs.lemmas.Bool.{not-false}
+use Rattle.std.proofs.lemmas.Bool.{not-false, not-true}
 use Rattle.std.proofs.lemmas.Bool.Decides.{nat_tests}
 use Rattle.std.proofs.lemmas.List.Sums.{sum_by-cons, sum_by_push}
 use Rattle.checkpoints.specs.declared.checkpoint.Checkpoint.{Checkpoint}
@@ -89,10 +89,6 @@ goes true on e = cc
 goes false true e = refl
 goes false false e = cc
 
-not_true : (b : Bool) → not b ≡ true → b ≡ false
-not_true true e = sym e
-not_true false e = refl
-
 unrefused : (b : Bool) → (if b then None else Some Order) ≡ None → b ≡ true
 unrefused true e = refl
 unrefused false e = cc
@@ -152,7 +148,7 @@ add_leaves_the_count state previous current last =
 
 count_done_one : (x : Checkpoint) → is_unfinished (Some x) ≡ true
     → finished_count (finished_checkpoint x ∷ []) ≡ finished_count (x ∷ []) + 1
-count_done_one x e = let not_done : x.done ≡ false = not_true x.done e in rw not_done refl
+count_done_one x e = let not_done : x.done ≡ false = not-true x.done e in rw not_done refl
 
 count_done : (xs : List Checkpoint) → is_unfinished (last_of xs) ≡ true
     → finished_count (with_last_done xs) ≡ finished_count xs + 1

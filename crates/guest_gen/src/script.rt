@@ -2,7 +2,8 @@
 ghost use Rattle.std.specs.Prelude.{◌≡◌, ◌≤◌, ◌+◌, ◌*◌, ◌%◌, ◌/◌, ◌^◌, ◌<◌, [], ◌∷◌, length, slice_index, min, All, IfOk, MatchOption};
 ghost use Rattle.guest_gen.specs.Script.{advance, offered, write_from, Lies};
 
-use sector_model::{MAX_DISK_SECTORS, MAX_DISKS, NoMemory};
+use basics::{MAX_DISK_SECTORS, MAX_DISKS};
+use sector_model::NoMemory;
 use std::alloc::Global;
 use std::marker::Model;
 
@@ -40,7 +41,7 @@ impl Model for GuestScript {
 
     ghost view = { λ s. offered s.state s.left s.capacities.items };
 
-    ghost use Rattle.sector_model.specs.declared.limits.TheConstants.{MAX_DISKS};
+    ghost use Rattle.basics.specs.declared.limits.TheConstants.{MAX_DISKS};
 
     ghost invariant = { λ s. (1 ≤ length s.capacities.items)
         × (length s.capacities.items ≤ MAX_DISKS)

@@ -7,7 +7,7 @@ use Rattle.std.proofs.lemmas.List.{append-nil, take_all, drop_all}
 use Rattle.std.proofs.lemmas.List.Elements.{filter-append}
 use Rattle.std.proofs.Math.Seq.{take-append_seam}
 use Rattle.sector_model.specs.declared.sector.Sector.{Sector}
-use Rattle.sector_model.specs.declared.limits.TheConstants.{MAX_WRITE_SECTORS, MAX_LOGGED_SECTORS}
+use Rattle.basics.specs.declared.limits.TheConstants.{MAX_WRITE_SECTORS, MAX_LOGGED_SECTORS}
 use Rattle.log_model.specs.declared.entry.TheConstants.{MAX_LOG_ENTRIES}
 use Rattle.log_model.specs.declared.entry.Owner.{Owner}
 use Rattle.log_model.specs.declared.entry.Owner.TheVariants.{Operator, Migration}
@@ -45,15 +45,11 @@ pub snap_stands : (capacities : List ℕ) (log : List Entry) (who : ℕ) (must_b
     → FitsBehind (all_of capacities) log who (Snap (taken log + 1) owner)
 snap_stands capacities log who must_be_off owner lets h = ((refl, lets), room log (chosen_none (must_be_off && machine_on log) Running (spent_refusal log) h).1)
 
-and_second : (a b : Bool) → (a && b) ≡ true → b ≡ true
-and_second true b h = h
-and_second false b h = absurd (false≢true h)
-
 lets : (who : ℕ) (owner has : Owner) → may_remove who owner has ≡ true → OwnerLets who (Some has)
 lets who Operator Operator h = tt
 lets who (Migration m) Operator h = tt
 lets who Operator (Migration n) h = absurd (false≢true h)
-lets who (Migration m) (Migration n) h = eqb-true who 1 (and_second (eqb m n) (eqb who 1) h)
+lets who (Migration m) (Migration n) h = eqb-true who 1 ((and_parts (eqb m n) (eqb who 1) h).1)
 
 owner_stands : (who : ℕ) (owner : Owner) (o : Option Owner) (log : List Entry) → owner_refusal who owner o log ≡ None → OwnerLets who o × (length log < MAX_LOG_ENTRIES)
 owner_stands who owner None log h = absurd (cc)

@@ -1,7 +1,7 @@
 -- From an identifier to the mark of the snapshot that has it.
 use Rattle.std.proofs.Common.{◌≡◌, ℕ, zero, suc, ◌+◌, ◌<◌, ◌≤◌, List, [], ◌∷◌, ◌++◌, length, take, Bool, true, false, cond, ◌&&◌, ◌==◌, eqb, Some, None, subst, sym, ap, refl, ◌∙◌, arith, inl, inr, add-one, length-append, length-take}
 use Rattle.std.specs.List.{find, range_with_len}
-use Rattle.std.proofs.lemmas.Bool.{cases_eq, eqb-true, eqb-false, eq-eqb, false≢true}
+use Rattle.std.proofs.lemmas.Bool.{and_parts, cases_eq, eqb-true, eqb-false, eq-eqb, false≢true}
 use Rattle.std.proofs.lemmas.Option.{same_Some, none-some}
 use Rattle.std.proofs.lemmas.List.{take-append-le, take-take}
 use Rattle.change_id.specs.ChangeId.{packed}
@@ -20,14 +20,10 @@ use Rattle.log_model.proofs.Epochs.{takes-at_mark, snap-takes, InForce, in_force
 
 -- ---- the test
 
-two-parts : (a b : Bool) → (a && b) ≡ true → (a ≡ true) × (b ≡ true)
-two-parts true b h = (refl, h)
-two-parts false b h = absurd (false≢true h)
-
 passed-at : (b : Bool) (u n : ℕ) (id : ChangeId) → eqb n 0 ≡ b → is_id id (cond b None (Some (record { uuid = u; seq = n }))) ≡ true → (1 ≤ n) × (id.uuid ≡ u) × (id.seq ≡ n)
 passed-at true u n id zero_number h = absurd (false≢true h)
 passed-at false u n id some_number h =
-    let parts = two-parts (u == id.uuid) (n == id.seq) h in
+    let parts = and_parts (u == id.uuid) (n == id.seq) h in
     let not_zero = eqb-false n 0 some_number in
     (omega (arith, not_zero), sym (eqb-true u id.uuid parts.0), sym (eqb-true n id.seq parts.1))
 

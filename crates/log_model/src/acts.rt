@@ -11,7 +11,8 @@ use crate::query::is_within;
 use crate::{
     Act, Entry, LinkRefused, MAX_LOG_ENTRIES, MIGRATION_CALLER, Owner, Snapped, WriteRefused,
 };
-use sector_model::{MAX_LOGGED_SECTORS, MAX_WRITE_SECTORS, Sector, SectorList};
+use basics::{MAX_LOGGED_SECTORS, MAX_WRITE_SECTORS};
+use sector_model::{Sector, SectorList};
 use std::alloc::Global;
 
 /// Adds an entry, unless the log is full.

@@ -1,12 +1,12 @@
 -- Lines, their answers, and the session that they make.
 use Rattle.std.proofs.Common.{◌≡◌, ◌≢◌, ◌⊎◌, ℕ, suc, ◌+◌, ◌-◌, ◌<◌, ◌≤◌, Bool, true, false, MatchBool, cond, not, if◌then◌else◌, ◌==◌, List, [], ◌∷◌, ◌++◌, length, take, drop, Option, Some, None, Result, Ok, Err, inl, inr, refl, sym, ap, subst, append_assoc, ◌∙◌, arith}
-use Rattle.std.specs.Prelude.{IfSome, IsTrue, OnOk, OnErr, All, count_by, nat_le, ◌&&◌}
+use Rattle.std.specs.Prelude.{IfSome, IsTrue, OnOk, OnErr, count_by, nat_le}
 use Rattle.std.proofs.KnownBytes.{Appends-nil, Appends-trans, Consumes-nil, Consumes-trans}
 use Rattle.std.proofs.lemmas.Bool.{false≢true, true≢false, false_from_ne_true, and_left, eqb-true, lt-leb}
-use Rattle.std.specs.List.{filter, flat_map, list_all}
+use Rattle.std.specs.List.{flat_map, list_all}
 use Rattle.std.specs.Io.KnownBytes.{Appends, Consumes, IsAtEnd}
-use Rattle.std.proofs.lemmas.List.{append-nil, length-append, take-append-drop, take_at, take_all, drop_at}
-use Rattle.std.proofs.lemmas.List.Elements.{filter-append, All-head, All-tail, All-append}
+use Rattle.std.proofs.lemmas.List.{append-nil, length-append, take-append-drop, take_at}
+use Rattle.std.proofs.lemmas.List.Elements.{filter-append, All-head, All-tail}
 use Rattle.std.proofs.lemmas.List.Sums.{sum_by-append, sum_by-cons}
 use Rattle.std.proofs.lemmas.Grind.{flat_map-append}
 use Rattle.basics.specs.Faults.{Rose}
@@ -19,22 +19,22 @@ use Rattle.migrate_server.specs.declared.reader.TheConstants.{INPUT_LIMIT}
 use Rattle.migrate_server.specs.declared.reader.NoLine.{NoLine}
 use Rattle.migrate_server.specs.declared.reader.NoLine.TheVariants.{Fault as LineFault, Limit, NoMemory as NoLineMemory}
 use Rattle.migrate_server.specs.declared.reply.Refusal.{Refusal}
-use Rattle.migrate_server.specs.declared.reply.Refusal.TheVariants.{NotBuilt, NameTaken, Volume}
+use Rattle.migrate_server.specs.declared.reply.Refusal.TheVariants.{NotBuilt}
 use Rattle.migrate_server.specs.declared.reply.Reply.{Reply}
 use Rattle.migrate_server.specs.declared.reply.Reply.TheVariants.{Refused}
 use Rattle.migrate_server.specs.declared.serve.NoReply.{NoReply}
 use Rattle.migrate_server.specs.declared.serve.NoReply.TheVariants.{Fault, NoMemory as NoReplyMemory}
 use Rattle.migrate_server.specs.declared.status.Status.{Status}
 use Rattle.migrate_server.specs.declared.serve.Stop.{Stop}
-use Rattle.migrate_server.specs.declared.serve.Stop.TheVariants.{ReadFault, WriteFault, InputLimit, NoMemory}
+use Rattle.migrate_server.specs.declared.serve.Stop.TheVariants.{WriteFault, NoMemory}
 use Rattle.migrate_server.specs.EndsFor.{EndsFor, TellsUsage, usage_line}
 use Rattle.migrate_server.specs.declared.line.TheConstants.{LINE_LIMIT}
 use Rattle.migrate_server.specs.Line.{Means, is_space, is_blank, is_lf, lines_of, ended_lines, before_first_line, requests_among}
 use Rattle.migrate_server.specs.LineBuffer.{Holds}
 use Rattle.migrate_server.specs.Reply.{reply_line}
-use Rattle.migrate_server.specs.Reader.{ReaderState, HasNoLf, Takes, IsIdle, TakesLine, TakesEnd, HasNoLine, FailsInLine, PassesLimit, StopsInLine, budget}
+use Rattle.migrate_server.specs.Reader.{ReaderState, HasNoLf, IsIdle, TakesLine, TakesEnd, HasNoLine, budget}
 use Rattle.migrate_server.specs.Serve.{HasReply, ServesLine, FailsInReply, LacksReply, bytes_of_reply, stop_without_line, stop_without_reply, status_of}
-use Rattle.migrate_server.specs.Serves.{Serves, EndsLast}
+use Rattle.migrate_server.specs.Serves.{Serves}
 use Rattle.migrate_server.specs.Session.{State, state_of, Session, Step}
 use Rattle.migrate_server.specs.World.{World}
 use Rattle.migrate_server.proofs.Complete.{session_complete, session_sound, no_volume}

@@ -1,5 +1,6 @@
 -- The command `move`: what is known of it when it was read, when it is refused, what it answers,
--- and what it leaves of the store. It needs no machine, so the store alone says whether the name is taken, where it tells its volumes.
+-- and what it leaves of the store. It needs no machine, so the store alone says whether the name is
+-- taken, where it tells its volumes.
 use Rattle.std.specs.Prelude.{◌≡◌, ◌⊎◌, ℕ, ◌+◌, ◌≤◌, All, List, length, is_some, if◌then◌else◌, Option, Some, None, IfSome, IsSomeAnd}
 use Rattle.target_volume.specs.VolumeName.{find_volume}
 use Rattle.target_volume.specs.VolumeStore.{StoreState, StoredVolume}

@@ -1,6 +1,6 @@
 -- A store that gains a volume under a name that had none, by a copy of a disk. Which call fails on
 -- the way, and what the volume holds then, is the store's choice: that is a relation.
-use Rattle.std.specs.Prelude.{◌≡◌, ◌⊎◌, ℕ, List, false, Option, Some, None, IfSome, IsSome, Result, Ok, Err, option_map}
+use Rattle.std.specs.Prelude.{◌≡◌, ◌⊎◌, ℕ, List, false, Some, None, IfSome, IsSome, Result, Ok, Err, option_map}
 use Rattle.sector_model.specs.declared.sector.Sector.{Sector}
 use Rattle.target_volume.specs.VolumeName.{find_volume, with_volume}
 use Rattle.target_volume.specs.VolumeStore.{StoreState, StoredVolume}

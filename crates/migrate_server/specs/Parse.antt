@@ -6,7 +6,7 @@ use Rattle.std.specs.Str.{bytes_eq}
 use Rattle.serde_json.specs.Data.{Data, null, boolean, number, string, array, object, Items, no_items, item, Members, no_members, member}
 use Rattle.serde_json.specs.Find.{get, as_str, as_array, as_number, as_u64}
 use Rattle.basics.specs.Spelled.{is_name}
-use Rattle.sector_model.specs.declared.limits.TheConstants.{MAX_DISK_SECTORS, MAX_WRITE_SECTORS, MAX_LOGGED_SECTORS}
+use Rattle.basics.specs.declared.limits.TheConstants.{MAX_DISK_SECTORS, MAX_WRITE_SECTORS, MAX_LOGGED_SECTORS}
 use Rattle.migrate_server.specs.declared.command.MoveWrite.{MoveWrite}
 use Rattle.migrate_server.specs.declared.command.Command.{Command}
 use Rattle.migrate_server.specs.declared.command.Command.TheVariants.{Move}

@@ -8,8 +8,10 @@ ghost use Rattle.migrate_server.specs.Parse.{name_of, number_of, write_of, write
 ghost use Rattle.migrate_server.specs.Line.{FitsDisk};
 
 use crate::command::{Command, MoveWrite, MoveWrites};
-use basics::{MAX_NAME_BYTES, Name, NoMemory, is_name};
-use sector_model::{MAX_DISK_SECTORS, MAX_LOGGED_SECTORS, MAX_WRITE_SECTORS};
+use basics::{
+    MAX_DISK_SECTORS, MAX_LOGGED_SECTORS, MAX_NAME_BYTES, MAX_WRITE_SECTORS, Name, NoMemory,
+    is_name,
+};
 use serde_json::{Map, Value};
 use std::alloc::Global;
 

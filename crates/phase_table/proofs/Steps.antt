@@ -2,6 +2,7 @@
 use Rattle.std.proofs.Common.{◌≡◌, ℕ, ◌<◌, ◌≤◌, Bool, true, false, not, List, [], ◌∷◌, Some, None, refl, sym, ap, ◌∙◌, subst, ◌⊎◌, arith}
 use Rattle.std.specs.Prelude.{◌==◌, ◌&&◌, ◌||◌, nat_lt, nat_le, slice_index_or, option_map, cond, IsTrue}
 use Rattle.std.specs.List.{list_any, list_all, find, AllByRecursion}
+use Rattle.std.proofs.lemmas.Bool.{and_parts, false≢true}
 use Rattle.std.proofs.lemmas.Bool.Decides.{nat_tests}
 use Rattle.std.proofs.lemmas.List.Elements.{All-from_recursion, recursion_from_All, All-contains}
 use Rattle.std.proofs.lemmas.Map.Views.{Contains-from_any}
@@ -97,10 +98,6 @@ step_is_row test row p q f same successor holds =
     ∙ ap (λ (x : Phase). row_of p f x) successor in
     subst (λ (x : Row). IsTrue (test x)) is holds
 
-both : (a b : Bool) → (a && b) ≡ true → (a ≡ true) × (b ≡ true)
-both true b e = (refl, e)
-both false b e = cc
-
 some_is : (p q : Phase) → Some p ≡ Some q → p ≡ q
 some_is p q e = cc
 
@@ -116,7 +113,7 @@ steps_split row rows test p q f false fit holds e rest = rest e
 pub tests_hold_of_steps : TestsHoldOfSteps
 tests_hold_of_steps [] test all p q f e = cc
 tests_hold_of_steps (row ∷ rows) test all p q f e =
-    let parts = both (test row) (list_all test rows) all in
+    let parts = and_parts (test row) (list_all test rows) all in
     steps_split row rows test p q f (fits row p f) refl parts.0 e
     (tests_hold_of_steps rows test parts.1 p q f)
 
@@ -159,9 +156,6 @@ no_late_back_edge p q h e =
     late_means_not (phase_number p) h
     (tests_hold_of_steps all_rows back_test each_back_edge p q Running e)
 
-not_true : false ≡ true → ⊥
-not_true e = cc
-
 abbrev Misses : Phase → Fact → Row → Type 0
 Misses p f row = ¬ (Fits row p f)
 
@@ -175,7 +169,7 @@ none_split : (p : Phase) (f : Fact) (row : Row) (rows : List Row) (b : Bool) →
     → AllByRecursion (Misses p f) (row ∷ rows)
 none_split p f row rows true e none rest = absurd (not_some row.successor none)
 none_split p f row rows false e none rest =
-    ((λ h. not_true (sym e ∙ (fits_means row p f).1 h)), rest none)
+    ((λ h. false≢true (sym e ∙ (fits_means row p f).1 h)), rest none)
 
 none_misses : (p : Phase) (f : Fact) (rows : List Row) → successor_in rows p f ≡ None
     → AllByRecursion (Misses p f) rows
@@ -236,4 +230,4 @@ pub ends_have_no_successor : EndsHaveNoSuccessor
 ends_have_no_successor Completed = (λ t. nothing_behind_completed, λ h. refl)
 ends_have_no_successor Cancelled = (λ t. nothing_behind_cancelled, λ h. refl)
 ends_have_no_successor Failed = (λ t. nothing_behind_failed, λ h. refl)
-ends_have_no_successor _ = (λ t. absurd (not_true t), λ h. absurd (not_some Cancelled (h Cancel)))
+ends_have_no_successor _ = (λ t. absurd (false≢true t), λ h. absurd (not_some Cancelled (h Cancel)))

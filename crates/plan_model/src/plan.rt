@@ -8,7 +8,7 @@ use std::error::Error;
 use std::fmt;
 
 /// Machines that migrate together.
-#[derive(Debug, Drop)]
+#[derive(Debug, PartialEq, Eq, Drop)]
 pub struct Plan {
     /// The number of the plan, from 1.
     pub number: u32,
@@ -34,7 +34,7 @@ pub struct VmFact {
 }
 
 /// Why a plan is refused. A refused plan leaves everything as it was.
-#[derive(Debug, Drop)]
+#[derive(Debug, PartialEq, Eq, Drop)]
 pub enum PlanRefused {
     /// It names no machine.
     Empty,
@@ -70,6 +70,11 @@ impl PlanRefused {
 }
 
 impl fmt::Display for PlanRefused {
+    ghost use Rattle.std.specs.Prelude.{Some};
+    ghost use Rattle.plan_model.specs.Plans.{plan_refusal_text};
+
+    ghost output = { λ refusal. Some (plan_refusal_text refusal) };
+
     fn fmt<W: fmt::Write>(&self, f: &mut fmt::Formatter<W>) -> fmt::Result {
         match self {
             PlanRefused::Empty => write!(f, "a plan names a machine or more"),

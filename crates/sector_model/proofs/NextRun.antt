@@ -8,7 +8,7 @@ use Rattle.sector_model.specs.Run.{end_of, from_sector, next_run, in_runs, AreSp
 use Rattle.sector_model.specs.Page.{areas_from}
 use Rattle.sector_model.specs.declared.run.Run.{Run}
 use Rattle.sector_model.proofs.Spacing.{none_before, none_in_gap, in_first, past_first}
-use Rattle.sector_model.proofs.PageLaws.{kept, dropped, areas_from-later}
+use Rattle.sector_model.proofs.PageLaws.{clip_end, kept, dropped, areas_from-later}
 
 pub run_is : (a b m n : ℕ) → a ≡ b → m ≡ n → ◌≡◌ {A = Run} (record { first = a; count = m }) (record { first = b; count = n })
 run_is a b m n same long = ap (λ x. record { first = x; count = m }) same ∙ ap (λ y. record { first = b; count = y }) long
@@ -110,13 +110,9 @@ next_clipped false m at c r rs is spaced inside past =
       gap = λ s from less. none_in_gap m r rs s spaced less;
     }
 
-clipped_end : (b : Bool) (r : Run) (at : ℕ) → at < end_of r → end_of (cond b (record { first = at; count = end_of r - at }) r) ≡ end_of r
-clipped_end true r at past = omega arith
-clipped_end false r at past = refl
-
 first_next : (m : ℕ) (r : Run) (rs : List Run) (at c : ℕ) → AreSpacedFrom m (r ∷ rs) → end_of r ≤ c → at < end_of r → Next (r ∷ rs) at c (from_sector at r)
 first_next m r rs at c spaced inside past =
-    let ends = clipped_end (ltb r.first at) r at past in
+    let ends = clip_end r at past in
     record {
       is = next_clipped (ltb r.first at) m at c r rs refl spaced inside past;
       areas = kept at r rs past ∙ ap (λ (more : List Run). from_sector at r ∷ more)

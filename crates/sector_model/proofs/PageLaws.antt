@@ -54,7 +54,7 @@ clip_end_at : (b : Bool) (r : Run) (start : ℕ) → start < end_of r → end_of
 clip_end_at true r start past = omega arith
 clip_end_at false r start past = refl
 
-clip_end : (r : Run) (start : ℕ) → start < end_of r → end_of (from_sector start r) ≡ end_of r
+pub clip_end : (r : Run) (start : ℕ) → start < end_of r → end_of (from_sector start r) ≡ end_of r
 clip_end r start past = clip_end_at (ltb r.first start) r start past
 
 behind_first : (start : ℕ) (r : Run) (rs : List Run) (k : ℕ) (d : Run) → start < end_of r → k < length (from_sector start r ∷ areas_from start rs)

@@ -1,5 +1,5 @@
 -- A list with a range replaced, item by item; and one sector of a disk after a write, and after several.
-use Rattle.std.proofs.Common.{◌≡◌, ℕ, ◌+◌, ◌-◌, ◌*◌, ◌/◌, ◌<◌, ◌≤◌, List, [], ◌∷◌, ◌++◌, length, take, drop, Bool, true, false, ◌||◌, min, max, ap, refl, ◌∙◌, arith, length-append, length-take, length-drop, ◌⊎◌, inl, inr}
+use Rattle.std.proofs.Common.{◌≡◌, ℕ, ◌+◌, ◌-◌, ◌*◌, ◌/◌, ◌<◌, ◌≤◌, List, [], ◌∷◌, ◌++◌, length, take, drop, false, min, max, ap, refl, ◌∙◌, arith, length-append, length-take, length-drop, ◌⊎◌, inl, inr}
 use Rattle.std.specs.List.{fold, slice_get, list_any, AllByRecursion}
 use Rattle.std.proofs.lemmas.Bool.{or_parts, ltb-false, cases_lt}
 use Rattle.sector_model.specs.Disk.{Write, Fits, replaced, after_write}

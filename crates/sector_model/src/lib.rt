@@ -6,7 +6,6 @@
 #![tactic(auto)]
 
 mod laws;
-mod limits;
 mod page;
 mod run;
 mod sector;
@@ -17,7 +16,6 @@ pub use laws::{
     broken_volumes, folds_join, loose_sectors_after, pages_join, pages_lie_within, runs_are_exact,
     touched_blocks_are_met, volume_stops, volumes_keep_their_size,
 };
-pub use limits::{MAX_DISK_SECTORS, MAX_DISKS, MAX_LOGGED_SECTORS, MAX_WRITE_SECTORS};
 pub use page::{PAGE_AREAS, Page};
 pub use run::{BLOCK_SECTORS, Run, Runs};
 pub use sector::{SECTOR_BYTES, Sector, SectorList};

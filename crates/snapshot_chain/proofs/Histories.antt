@@ -2,7 +2,7 @@
 use Rattle.std.proofs.Common.{◌≡◌, ℕ, zero, suc, ◌+◌, ◌<◌, ◌≤◌, List, [], ◌∷◌, ◌++◌, length, map, take, get_or, subst, Bool, true, false, Option, Some, None, is_some, IfSome, ◌↔◌, sym, ap, refl, ◌∙◌, arith, inl, inr, ◌⊎◌, cond, eqb, ◌==◌, not, ◌||◌}
 use Rattle.std.specs.Option.{option_or}
 use Rattle.std.specs.List.{fold, list_any, range_with_len, filter, find, position_or_len, All, AllPairs}
-use Rattle.std.proofs.Math.Bool.{or-false, or-true}
+use Rattle.std.proofs.Math.Bool.{or-true}
 use Rattle.std.proofs.lemmas.Bool.{eq-eqb, cases_eq, ne_eqb, false≢true, false_from_ne_true}
 use Rattle.std.proofs.lemmas.List.{take-append-le, append-nil, map-append}
 use Rattle.std.proofs.lemmas.List.Kept.{AllPairs-filter}

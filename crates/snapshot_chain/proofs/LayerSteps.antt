@@ -1,5 +1,5 @@
 -- Steps on a list of layers.
-use Rattle.std.proofs.Common.{◌≡◌, ℕ, zero, suc, ◌+◌, ◌<◌, ◌≤◌, List, [], ◌∷◌, length, set, get_or, take, drop, ◌++◌, Bool, true, false, cond, ◌&&◌, leb, nat_eq, Option, Some, None, IfSome, Result, Ok, Err, length-set, sym, ap, subst, refl, ◌∙◌, arith}
+use Rattle.std.proofs.Common.{◌≡◌, ℕ, zero, suc, ◌+◌, ◌<◌, ◌≤◌, List, [], ◌∷◌, length, set, get_or, Bool, true, false, cond, ◌&&◌, leb, nat_eq, Option, Some, None, Result, Ok, Err, length-set, sym, ap, subst, refl, ◌∙◌, arith}
 use Rattle.std.specs.List.{remove, position, AllByRecursion}
 use Rattle.std.specs.Result.{IsErrAnd, IfErr}
 use Rattle.basics.specs.Refusal.{IsRefusedBy, IsRefusedOr}
@@ -7,13 +7,12 @@ use Rattle.sector_model.specs.declared.sector.Sector.{Sector}
 use Rattle.snapshot_chain.specs.declared.chain.ChainRefused.{ChainRefused}
 use Rattle.snapshot_chain.specs.declared.chain.ChainRefused.TheVariants.{UnknownSnap, Range, NoMemory}
 use Rattle.snapshot_chain.specs.Chain.{ChainState, after_merging, contents_of, is_within, read_refusal}
-use Rattle.snapshot_chain.specs.Kept.{state_of, AreIds, HasMergeRoom, room_id}
-use Rattle.snapshot_chain.specs.declared.chain.MergeRoom.{MergeRoom}
+use Rattle.snapshot_chain.specs.Kept.{state_of, AreIds}
 use Rattle.snapshot_chain.proofs.Keeping.{all-set, all-at, all-remove}
 use Rattle.snapshot_chain.proofs.States.{merged_state}
-use Rattle.std.proofs.lemmas.List.{take_all, drop_all, append-nil, get_or-set_same, get_or-set_other, get_or_default}
+use Rattle.std.proofs.lemmas.List.{get_or-set_same, get_or_default}
 use Rattle.std.proofs.lemmas.Bool.{leb-true, false≢true}
-use Rattle.snapshot_chain.specs.Layer.{LayerState, IsWithin, IsMerged, IsRoomFor}
+use Rattle.snapshot_chain.specs.Layer.{LayerState, IsWithin, IsMerged}
 use Rattle.snapshot_chain.specs.Layers.{layer_at, MergedAt}
 
 pub fits : (c first count : ℕ) → (leb 1 count && leb (first + count) c) ≡ true → first + count ≤ c
@@ -101,21 +100,6 @@ refuse_unknown T false is = refl
 pub only_memory : {T : Type 0} (result : Result T ChainRefused) → IsErrAnd result (λ why. why ≡ NoMemory) → IfErr result (λ why. why ≡ NoMemory)
 only_memory (Ok answer) is = tt
 only_memory (Err why) is = is
-
--- the room for a merge is for the layers at the index of its snapshot
-pub room_at : (layers : List LayerState) (ids : List ℕ) (room : MergeRoom) (id i : ℕ) → HasMergeRoom layers ids room → Some room.id ≡ Some id → position (nat_eq id) ids ≡ Some i
-    → IsRoomFor (layer_at layers i) (layer_at layers (i + 1)) room.pages
-room_at layers ids room id i has is at =
-    let same : room.id ≡ id = cc in
-    let here : ◌≡◌ {A = Option ℕ} (Some has.index) (Some i) = sym has.at ∙ ap (λ (n : ℕ). position (nat_eq n) ids) same ∙ at in
-    let index : has.index ≡ i = cc in
-    let P : ℕ → Type 0 = λ n. IsRoomFor (layer_at layers n) (layer_at layers (n + 1)) room.pages in subst P index has.fits
-
-pub room_index : (layers : List LayerState) (ids : List ℕ) (room : Option MergeRoom) (id : ℕ) → IfSome room (HasMergeRoom layers ids) → room_id room ≡ Some id → (i : ℕ) × (position (nat_eq id) ids ≡ Some i)
-room_index layers ids None id has is = absurd (cc)
-room_index layers ids (Some room) id has is =
-    let same : room.id ≡ id = cc in
-    (has.index, sym (ap (λ (n : ℕ). position (nat_eq n) ids) same) ∙ has.at)
 
 pub read_unknown : (T : Type 0) (chain : ChainState) (id : Option ℕ) (first count : ℕ) → contents_of id chain ≡ None → IsRefusedBy {T = T} (read_refusal chain id first count) (Err UnknownSnap)
 read_unknown T chain id first count none = rw none refl

@@ -4,8 +4,6 @@ use Rattle.std.specs.Int.{bit_at, w128, trailing_zeros}
 use Rattle.std.specs.Int.RustNames.{bit_and, bit_or, count_ones}
 use Rattle.std.specs.List.{slice_get, list_any, range_with_len}
 use Rattle.std.specs.Option.{option_copied, option_map, option_or}
-use Rattle.std.specs.Slice.{IsItemAt}
-use Rattle.std.proofs.lemmas.Option.{slice_get_past, slice_get_read}
 use Rattle.std.specs.Int.Count.{ones}
 use Rattle.std.proofs.Math.Pow.{pow_mono}
 use Rattle.std.proofs.lemmas.Nat.{ones_cat, one_shl, mod-pow-add, mod-mul-add, mod_below, and_mask, zero_from_ones, pow-add, div-add-mod'}
@@ -35,9 +33,6 @@ bit_below m p k less = ap (λ n. bit_at n k) (turned m p) ∙ bit_at_cat_low 1 p
 
 bit_here : (m p : ℕ) → m < 2 ^ p → bit_at (m + 2 ^ p) p ≡ 1
 bit_here m p above = ap (λ n. bit_at n p) (turned m p) ∙ bit_at_cat_high 1 p m p above (omega arith) ∙ (let none : p - p ≡ 0 = omega arith in ap (bit_at 1) none)
-
-bit_past : (m p k : ℕ) → m < 2 ^ p → p < k → bit_at (m + 2 ^ p) k ≡ 0
-bit_past m p k above less = bit_at_above (m + 2 ^ p) (p + 1) k (next_above m p above) (omega arith)
 
 nested : (n j k : ℕ) → n % 2 ^ (j + k) % 2 ^ k ≡ n % 2 ^ k
 nested n j k = ap (λ x. x % 2 ^ k) (mod-pow-add n j k) ∙ mod-mul-add (n / 2 ^ k % 2 ^ j) (2 ^ k) (n % 2 ^ k) (mod_below n (2 ^ k) (pow_pos k))
@@ -105,10 +100,6 @@ above_none page offset k above le = rw (bit_at_above page.mask offset k above le
 pub empty_none : (page : PageState) (k : ℕ) → page.mask ≡ 0 → sector_at page k ≡ None
 empty_none page k empty = above_none page 0 k (omega (arith, empty)) (omega arith)
 
-no_bit : (b p : ℕ) → b < 2 → b * 2 ^ p ≡ 0 → b ≡ 0
-no_bit zero p less none = refl
-no_bit (suc b) p less none = let one_bit : suc b ≡ 1 = omega (arith, less) in absurd (omega (arith, pow_pos p, rw one_bit at none))
-
 -- the test of an offset and the index, as code computes them
 pub test_bit : (m k : ℕ) → k < 128 → not (eqb (bit_and m (1 * 2 ^ k % 2 ^ 128)) 0) ≡ has_offset m k
 test_bit m k within = ap (λ x. not (eqb x 0)) (ap (bit_and m) (one_shl k 128 within) ∙ and_pow m k) ∙ elim (cases_eq (bit_at m k) 0) [
@@ -175,9 +166,6 @@ kept_sector page offset sector none k within = elim (cases_eq k offset) [
   | inr other ↦ rw (ne_eqb k offset other) refl
 ]
 
-pub no_sector : (page : PageState) (offset : ℕ) → has_offset page.mask offset ≡ false → sector_at page offset ≡ None
-no_sector page offset none = rw none refl
-
 pub index_below : (page : PageState) (offset : ℕ) → IsPage page → has_offset page.mask offset ≡ true → rank page.mask offset < length page.sectors
 index_below page offset is has = omega (arith, rank_less page.mask offset (has_bit page.mask offset has), is.1)
 
@@ -204,11 +192,6 @@ more_none page offset f above same here k less = elim (cases_lt k offset) [
 
 pub wider : (m p : ℕ) → m < 2 ^ p → m < 2 ^ (p + 1)
 wider m p above = omega (arith, above, pow-add 2 p 1)
-
--- what `get` gives of a slice
-pub read_item : {X : Type 0} (xs : List X) (i : ℕ) (r : Option (Bor X)) → IsItemAt xs i r → option_copied r ≡ slice_get xs i
-read_item xs i None h = sym (slice_get_past xs i h.3)
-read_item xs i (Some x) h = sym (slice_get_read xs (length xs) i x.now refl h.3.0 (h.4 (omega arith) x.now))
 
 -- a page with a bit has a sector
 any_at : (p : ℕ → Bool) (a n k : ℕ) → a ≤ k → k < a + n → p k ≡ true → list_any p (range_with_len a n) ≡ true

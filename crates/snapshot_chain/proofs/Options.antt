@@ -17,10 +17,6 @@ neither None b none = (refl, none)
 neither (Some x) b none = absurd (cc)
 
 -- what stands is written over, and stands where something was written
-pub over_none : {X : Type 0} (o : Option X) → option_map (unwrap_or None) o ≡ o
-over_none None = refl
-over_none (Some x) = refl
-
 pub over_both : {X : Type 0} (a b : Option X) → option_map (unwrap_or a) (option_or a b) ≡ option_or a b
 over_both None None = refl
 over_both None (Some x) = refl

@@ -1,11 +1,11 @@
 -- Slots of a layer, and the pages that are put there.
-use Rattle.std.proofs.Common.{◌≡◌, ◌≢◌, ℕ, ◌+◌, ◌-◌, ◌*◌, ◌<◌, ◌≤◌, List, [], length, Bool, true, false, cond, eqb, Option, Some, None, IsSome, Result, Ok, Err, sym, ap, subst, refl, ◌∙◌, arith, inl, inr, ◌⊎◌}
+use Rattle.std.proofs.Common.{◌≡◌, ◌≢◌, ℕ, ◌+◌, ◌-◌, ◌*◌, ◌<◌, ◌≤◌, List, [], length, Bool, true, false, cond, Option, Some, None, IsSome, Result, Ok, Err, sym, ap, refl, ◌∙◌, arith, inl, inr, ◌⊎◌}
 use Rattle.std.specs.Option.{option_or, option_map, unwrap_or}
 use Rattle.std.specs.Prelude.{◌==◌, OnErr}
 use Rattle.std.proofs.lemmas.Bool.{cases_eq, cases_lt, eq-eqb, ne_eqb, false≢true}
 use Rattle.sector_model.specs.declared.sector.Sector.{Sector}
 use Rattle.snapshot_chain.specs.Page128.{PageState, no_sectors, sector_at, run_at, IsRewritten, IsGrown}
-use Rattle.snapshot_chain.specs.Layer.{LayerState, slot_of, sector_of, sector_in, HasSame, IsWritten, IsWrittenOver, IsGrownAt, AreGrown, KeepsSlots, IsSlotAdded, AddsSlots, IsWithin, IsMerged, IsBlank, IsJoinAt, IsRoomAt, IsOpenAt, IsRoomFor, after_taking, TakesPages}
+use Rattle.snapshot_chain.specs.Layer.{LayerState, slot_of, sector_of, sector_in, HasSame, IsWritten, IsWrittenOver, IsGrownAt, AreGrown, KeepsSlots, IsSlotAdded, AddsSlots, IsWithin, IsMerged, IsBlank, IsRoomAt, IsOpenAt, IsRoomFor, after_taking, TakesPages}
 use Rattle.std.proofs.lemmas.Option.{slice_get_past}
 use Rattle.snapshot_chain.proofs.Writes.{run_from}
 use Rattle.snapshot_chain.proofs.Masks.{empty_none}
@@ -28,9 +28,6 @@ slots_same other old new added block offset within = added_same (slot_of other b
 added_kept : (other old new : Option PageState) → IsSlotAdded other old new → IsSome old → IsSome new
 added_kept other old new (inl same) some = rw same some
 added_kept other old new (inr (there, none, made)) some = absurd (false≢true (rw none at some))
-
-pub slots_kept : (other old new : LayerState) → AddsSlots other old new → KeepsSlots old new
-slots_kept other old new added block some = added_kept (slot_of other block) (slot_of old block) (slot_of new block) (added block) some
 
 added_of : (other old new : Option PageState) → IsSlotAdded other old new → IsSome new → (IsSome old) ⊎ (IsSome other)
 added_of other old new (inl same) some = inl (rw same at some)
@@ -143,16 +140,6 @@ pub room_open : (lower upper room : Option PageState) → IsRoomAt lower upper r
 room_open lower upper None is = is
 room_open lower upper (Some page) (inl (empty, blank)) = inl empty
 room_open lower upper (Some page) (inr join) = inr join
-
--- an open slot is room where one of the layers has no sector
-pub blank_room : (lower : PageState) (upper room : Option PageState) → IsBlank (Some lower) ⊎ IsBlank upper → IsOpenAt (Some lower) upper room → IsRoomAt (Some lower) upper room
-blank_room lower upper None blank is = absurd (cc)
-blank_room lower upper (Some page) blank (inl empty) = inl (empty, blank)
-blank_room lower upper (Some page) blank (inr join) = inr join
-
-pub open_some : (lower : PageState) (upper room : Option PageState) → IsOpenAt (Some lower) upper room → IsSome room
-open_some lower upper None is = absurd (cc)
-open_some lower upper (Some page) is = refl
 
 -- one block more
 pub room_more : (lower upper old new : LayerState) (block : ℕ) (page : PageState) → slot_of lower block ≡ Some page → IsRoomAt (Some page) (slot_of upper block) (slot_of new block)

@@ -23,9 +23,6 @@ found-append (x ∷ xs) ys block offset =
     ap (λ (o : Option Sector). option_or o (sector_in x block offset)) (found-append xs ys block offset)
     ∙ or_assoc (found ys block offset) (found xs block offset) (sector_in x block offset)
 
-pub holds_refl : (xs : List LayerState) → HoldsSame xs xs
-holds_refl xs = record { at = λ block offset within. refl }
-
 pub holds_append : (xs ys zs : List LayerState) → HoldsSame xs ys → HoldsSame (xs ++ zs) (ys ++ zs)
 holds_append xs ys zs same = record {
   at = λ block offset within.

@@ -208,11 +208,6 @@ live_in c id ids layers long = ap is_some (find-in c id [] ids layers long) ∙ 
     kept None = refl
     kept (Some i) = refl
 
--- one empty layer
-none_found : (xs : List ℕ) → list_any (λ offset. false) xs ≡ false
-none_found [] = refl
-none_found (x ∷ xs) = none_found xs
-
 no_blocks : (xs : List ℕ) → filter (λ b. list_any (λ offset. false) (range_with_len 0 128)) xs ≡ []
 no_blocks [] = refl
 no_blocks (x ∷ xs) = no_blocks xs

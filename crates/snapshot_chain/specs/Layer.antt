@@ -7,7 +7,7 @@ use Rattle.std.specs.Map.{lookup}
 use Rattle.std.specs.List.{list_any, range_with_len}
 use Rattle.sector_model.specs.declared.run.TheConstants.{BLOCK_SECTORS}
 use Rattle.sector_model.specs.declared.sector.Sector.{Sector}
-use Rattle.snapshot_chain.specs.Page128.{PageState, no_sectors, sector_at, run_at, IsRewritten}
+use Rattle.snapshot_chain.specs.Page128.{PageState, no_sectors, sector_at, run_at}
 
 abbrev pub LayerState : Type 0
 LayerState = List (ℕ × PageState)

@@ -7,21 +7,21 @@ use Rattle.std.specs.Prelude.{IfSome, IsSome, IsSomeAnd, is_some}
 use Rattle.sector_model.specs.Sector.{filled}
 use Rattle.sector_model.specs.VolumeContents.{IsSized}
 use Rattle.std.specs.BTreeMap.{is_at, insert_entry}
-use Rattle.std.specs.List.{AllByRecursion, filter, filter_map}
+use Rattle.std.specs.List.{AllByRecursion, filter_map}
 use Rattle.std.specs.List.Sorted.{IsStrictlySortedBy}
-use Rattle.std.specs.Map.{keys_of, lookup}
+use Rattle.std.specs.Map.{lookup}
 use Rattle.std.specs.Ordering.{match_ordering}
 use Rattle.basics.specs.Calls.{CallLog, never_fails, after_call}
 use Rattle.basics.specs.Faults.{counted_by}
-use Rattle.target_volume.specs.MemVolume.{HeldState, MemVolumeState, held_state, volume_state}
+use Rattle.target_volume.specs.MemVolume.{HeldState, MemVolumeState, volume_state}
 use Rattle.target_volume.specs.MemVolumes.{SlotState, Home, Lent, MemVolumesState, slot_state, stored_of, loan_in, named_loan, IsCountedIn, AreCountedIn, IsWhole, volume_calls, store_state, next_volume, after_opening, after_keeping, IsHome, IsHomeWith, IsLent, IsLentWith}
 use Rattle.target_volume.specs.VolumeName.{volume_cmp, volumes_total, find_volume, with_volume, without_volume, AreAscending}
-use Rattle.target_volume.specs.VolumeStore.{StoredVolume, Loan, Lends, IsThere, IsOrderly, lent_out, after_lending, after_taking_back}
+use Rattle.target_volume.specs.VolumeStore.{StoredVolume, Loan, Lends, IsThere, IsOrderly, after_lending, after_taking_back}
 use Rattle.target_volume.specs.declared.mem_volume.Held.{Held}
 use Rattle.target_volume.specs.declared.mem_volumes.Slot.{Slot}
 use Rattle.target_volume.specs.declared.mem_volumes.Slot.TheVariants.{Home as SlotHome, Lent as SlotLent}
 use Rattle.target_volume.specs.declared.volume_name.VolumeName.{VolumeName}
-use Rattle.target_volume.proofs.PairLemmas.{map_values, map_values-insert_entry, lookup-map_values, keys-map_values, kept-insert_entry, kept-without, lookup_kept, sorted_kept}
+use Rattle.target_volume.proofs.PairLemmas.{map_values-insert_entry, lookup-map_values, keys-map_values, kept-insert_entry, kept-without, lookup_kept, sorted_kept}
 use Rattle.target_volume.proofs.NameLemmas.{exact_volumes}
 
 -- ---- what is kept stays kept

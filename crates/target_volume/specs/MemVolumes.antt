@@ -1,13 +1,12 @@
 -- A store in memory: its volumes by name, the junk byte of new ones, and the calls that are to
 -- fail.
-use Rattle.std.specs.Prelude.{◌≡◌, ℕ, ◌/◌, ◌%◌, ◌-◌, ◌≤◌, Bool, ◌&&◌, true, false, ◌==◌, List, [], ◌∷◌, length, map, Option, Some, None, option_map, nat_lt, All, IsTrue}
+use Rattle.std.specs.Prelude.{◌≡◌, ℕ, ◌/◌, ◌%◌, ◌-◌, ◌≤◌, Bool, ◌&&◌, true, false, ◌==◌, List, [], length, map, Option, Some, None, option_map, nat_lt, All, IsTrue}
 use Rattle.std.specs.List.{filter, filter_map}
-use Rattle.std.specs.Map.{values_of}
 use Rattle.basics.specs.Calls.{CallLog, no_calls, never_fails, after_call}
 use Rattle.basics.specs.Faults.{counted_by}
 use Rattle.sector_model.specs.VolumeContents.{IsSized}
 use Rattle.target_volume.specs.MemVolume.{HeldState, MemVolumeState, held_state, fresh_held}
-use Rattle.target_volume.specs.VolumeName.{find_volume, with_volume, AreAscending}
+use Rattle.target_volume.specs.VolumeName.{with_volume, AreAscending}
 use Rattle.target_volume.specs.VolumeStore.{StoredVolume, Loan, StoreState, lent_out}
 use Rattle.target_volume.specs.declared.mem_volumes.TheConstants.{VOLUME_CALLS}
 use Rattle.target_volume.specs.declared.mem_volumes.Slot.{Slot}

@@ -1,7 +1,7 @@
 -- What a store of volumes is to whoever has volumes made and lent out, and what each call leaves
 -- of that. It lends a volume out and takes it back, and what it holds of one is told only while
 -- that is at home: so a store and its loans together tell of each volume once.
-use Rattle.std.specs.Prelude.{◌≡◌, ℕ, ◌-◌, ◌≤◌, ◌⊎◌, Bool, true, ◌&&◌, Option, Some, None, option_map, IsTrue, IfSome, IsSome, IsSomeAnd, List}
+use Rattle.std.specs.Prelude.{◌≡◌, ℕ, ◌-◌, ◌≤◌, ◌⊎◌, Bool, ◌&&◌, Option, Some, None, option_map, IsTrue, IfSome, IsSome, IsSomeAnd, List}
 use Rattle.basics.specs.Faults.{HasRisen, counted_by}
 use Rattle.sector_model.specs.VolumeContents.{VolumeContents, IsSized}
 use Rattle.target_volume.specs.Volume.{VolumeState}

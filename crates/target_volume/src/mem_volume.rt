@@ -80,7 +80,8 @@ impl Volume for MemVolume {
         ensures given { OnOk result
             (buf.new ≡ take (length buf.old) (drop first self.old.held.contents.sectors)) }
         ensures same { OnOk result (volume_state self.new ≡ volume_state self.old) }
-        ensures failed { OnErr result (VolumeFails (volume_state self.old) (volume_state self.new)) }
+        ensures failed { OnErr result
+            (VolumeFails (volume_state self.old) (volume_state self.new)) }
         ensures sound { IsTrue (volume_state self.old).sound → IsOk result }
 
         ensures fails { IsErr result ↔ FailsNext self.old.held.calls }
@@ -151,7 +152,8 @@ impl Volume for MemVolume {
     fn flush(&mut self) -> Result<(), VolumeFailed>
         ensures flushed { OnOk result
             (volume_state self.new ≡ after_flush (volume_state self.old)) }
-        ensures failed { OnErr result (VolumeFails (volume_state self.old) (volume_state self.new)) }
+        ensures failed { OnErr result
+            (VolumeFails (volume_state self.old) (volume_state self.new)) }
         ensures sound { IsTrue (volume_state self.old).sound → IsOk result }
 
         ensures fails { IsErr result ↔ FailsNext self.old.held.calls }

@@ -1,8 +1,7 @@
 -- The layer that is taken out, and the one that stands at its index then.
-use Rattle.std.proofs.Common.{◌≡◌, ◌+◌, ◌<◌, List, length, sym, ◌∙◌, arith, subst, set}
-use Rattle.std.specs.List.{remove}
+use Rattle.std.proofs.Common.{◌≡◌, ◌+◌, List, sym, ◌∙◌, subst}
 use Rattle.std.proofs.lemmas.List.{get_or-set_same}
-use Rattle.snapshot_chain.specs.Layer.{LayerState, IsMerged}
+use Rattle.snapshot_chain.specs.Layer.{LayerState}
 use Rattle.snapshot_chain.specs.Layers.{layer_at, MergedAt}
 use Rattle.snapshot_chain.proofs.LayerSteps.{lower_is, upper_is, merged_at, set_twice, rest_long}
 use Rattle.snapshot_chain.proofs.layers.merge_down.Goals as goal

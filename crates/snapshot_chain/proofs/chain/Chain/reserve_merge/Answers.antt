@@ -1,9 +1,8 @@
 -- The room is made beside the layers; what the chain holds stays.
-use Rattle.std.proofs.Common.{◌≡◌, ◌+◌, ◌<◌, length, nat_eq, Some, None, Ok, is_some, sym, ap, ◌∙◌, arith}
+use Rattle.std.proofs.Common.{◌≡◌, nat_eq, Some, None, Ok, is_some, sym, ap, ◌∙◌}
 use Rattle.std.specs.List.{position}
 use Rattle.snapshot_chain.specs.Chain.{snapshot_of}
-use Rattle.snapshot_chain.proofs.States.{live_in, at_position}
-use Rattle.snapshot_chain.proofs.Keeping.{no_memory}
+use Rattle.snapshot_chain.proofs.States.{live_in}
 use Rattle.snapshot_chain.proofs.LayerSteps.{refuse_live, refuse_unknown, only_memory}
 use Rattle.snapshot_chain.proofs.chain.Chain.reserve_merge.Goals as goal
 

@@ -1,7 +1,6 @@
 -- One block more: its page is kept where the write needs memory there.
-use Rattle.std.proofs.Common.{◌≡◌, ◌≢◌, ◌≤◌, ◌<◌, ◌*◌, ◌+◌, ℕ, ◌∙◌, length, arith, inl, inr, IsSome}
+use Rattle.std.proofs.Common.{◌<◌, ◌*◌, ◌+◌, ◌∙◌, length, arith, inl, inr}
 use Rattle.std.proofs.lemmas.Bool.{cases_eq}
-use Rattle.snapshot_chain.specs.Layer.{slot_of}
 use Rattle.snapshot_chain.proofs.Slots.{grown_some, grown_none, grown_all}
 use Rattle.snapshot_chain.proofs.layer.Layer.grown_pages.Goals as goal
 use Rattle.snapshot_chain.proofs.layer.Layer.grown_pages.Goals.{in-Some+in_ok-add, in_default}

@@ -1,5 +1,5 @@
 -- First all slots are made, then each page of the lower layer gets its room.
-use Rattle.std.proofs.Common.{◌≡◌, ℕ, Some, IsSome, map, refl, [], arith}
+use Rattle.std.proofs.Common.{◌≡◌, ℕ, Some, IsSome, map, [], arith}
 use Rattle.std.specs.Map.Iter.{deref_pair}
 use Rattle.std.specs.Map.{keys_of}
 use Rattle.std.proofs.lemmas.Map.Views.{All-turn, Contains-keys_from_lookup, tells_apart}

@@ -1,9 +1,9 @@
 -- One offset more: what both have there is behind the others, or is nothing.
-use Rattle.std.proofs.Common.{◌≡◌, ℕ, ◌+◌, ◌*◌, ◌∙◌, Option, ap, sym, refl, bit_or, arith}
+use Rattle.std.proofs.Common.{◌≡◌, ℕ, ◌∙◌, Option, ap, sym, refl, bit_or, arith}
 use Rattle.std.proofs.lemmas.Nat.{ones-le, or_lt}
 use Rattle.std.specs.Option.{option_or, option_copied}
 use Rattle.sector_model.specs.declared.sector.Sector.{Sector}
-use Rattle.snapshot_chain.specs.Page128.{sector_at, run_at}
+use Rattle.snapshot_chain.specs.Page128.{sector_at}
 use Rattle.snapshot_chain.proofs.Masks.{built_some, built_none, built_empty, copied_or}
 use Rattle.snapshot_chain.proofs.page128.Page128.joined.Goals as goal
 use Rattle.snapshot_chain.proofs.page128.Page128.joined.Goals.{in-Some+in_ok-page, in_default}

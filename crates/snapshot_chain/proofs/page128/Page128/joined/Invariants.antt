@@ -1,5 +1,4 @@
 -- The page has what the two have up to here, and nothing from here on.
-use Rattle.std.proofs.Common.{◌≡◌, ℕ, ◌+◌, ◌*◌}
 use Rattle.std.specs.Option.{option_or}
 use Rattle.snapshot_chain.specs.Page128.{sector_at}
 use Rattle.snapshot_chain.proofs.Masks.{IsBuilt}

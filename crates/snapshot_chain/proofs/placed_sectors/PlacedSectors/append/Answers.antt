@@ -1,6 +1,5 @@
 -- The mask with the new bit, and the number of its bits.
-use Rattle.std.proofs.Common.{refl, ◌<◌, ◌≡◌, ◌^◌, length}
-use Rattle.std.specs.Int.RustNames.{count_ones}
+use Rattle.std.proofs.Common.{refl, ◌<◌, ◌^◌}
 use Rattle.snapshot_chain.proofs.Masks.{set_bit, below_all, grown_count}
 use Rattle.snapshot_chain.proofs.placed_sectors.PlacedSectors.append.Goals as goal
 

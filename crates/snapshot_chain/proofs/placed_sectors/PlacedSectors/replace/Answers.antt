@@ -1,7 +1,7 @@
 -- The sector at the index of its offset is another, and no other offset has that index.
 use Rattle.std.proofs.Common.{◌≡◌, ◌<◌, length, true, sym, ◌∙◌, arith}
-use Rattle.snapshot_chain.specs.Page128.{has_offset, rank, sector_at}
-use Rattle.snapshot_chain.proofs.Masks.{index_below, replaced_sector, kept_sector, no_sector}
+use Rattle.snapshot_chain.specs.Page128.{has_offset, rank}
+use Rattle.snapshot_chain.proofs.Masks.{index_below, replaced_sector}
 use Rattle.snapshot_chain.proofs.placed_sectors.PlacedSectors.replace.Goals as goal
 
 pub index_mut-requires : goal.index_mut-requires

@@ -1,0 +1,9 @@
+mod CellLemmas
+pub mod StandingLemmas
+mod OpenCells
+mod Reading
+mod Keeping
+mod Results
+mod ImageLemmas
+mod AppendSteps
+mod OpenSteps
