@@ -16,8 +16,8 @@ mod tests;
 
 pub use basics::{Sequence, Text};
 pub use command::{
-    ActLine, Command, DisturbLine, GuestLine, MAX_DISK_SECTORS, MAX_HOST_LIMIT, MAX_READ_SECTORS,
-    MAX_WORKERS, MAX_WRITE_SECTORS, MoveWrite, SECTOR_BYTES,
+    ActLine, Command, DisturbLine, GuestLine, MAX_HOST_LIMIT, MAX_READ_SECTORS, MAX_WORKERS,
+    MoveWrite, SECTOR_BYTES,
 };
 pub use plan_model::{Moment, Name};
 pub use read::{BUILT, order_is_kept, read_command};
