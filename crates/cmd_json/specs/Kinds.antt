@@ -10,7 +10,7 @@ use Rattle.plan_model.specs.declared.moment.Moment.{Moment}
 use Rattle.cmd_json.specs.declared.kind.Misfit.{Misfit}
 use Rattle.cmd_json.specs.declared.kind.Misfit.TheVariants.{Field, Number}
 use Rattle.cmd_json.specs.declared.command.MoveWrite.{MoveWrite}
-use Rattle.cmd_json.specs.declared.command.TheConstants.{MAX_WRITE_SECTORS}
+use Rattle.basics.specs.declared.limits.TheConstants.{MAX_WRITE_SECTORS}
 
 abbrev pub Kind : Type 0 → Type 0
 Kind T = Data → Result T Misfit

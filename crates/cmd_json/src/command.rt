@@ -2,12 +2,6 @@
 use crate::{Sequence, Text};
 use plan_model::{Moment, Name};
 
-/// The most sectors of a disk: 256 GiB.
-pub const MAX_DISK_SECTORS: u64 = 1 << 29;
-
-/// The most sectors of one write: 64 KiB.
-pub const MAX_WRITE_SECTORS: u64 = 128;
-
 /// The most sectors that one command shows, so that its reply stays short.
 pub const MAX_READ_SECTORS: u64 = 16;
 

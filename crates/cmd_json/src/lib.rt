@@ -11,16 +11,14 @@ mod members;
 mod objects;
 mod read;
 mod refusal;
-mod sequence;
 #[cfg(test)]
 mod tests;
-mod text;
 
+pub use basics::{Sequence, Text};
 pub use command::{
-    ActLine, Command, DisturbLine, GuestLine, MAX_DISK_SECTORS, MAX_HOST_LIMIT, MAX_READ_SECTORS,
-    MAX_WORKERS, MAX_WRITE_SECTORS, MoveWrite, SECTOR_BYTES,
+    ActLine, Command, DisturbLine, GuestLine, MAX_HOST_LIMIT, MAX_READ_SECTORS, MAX_WORKERS,
+    MoveWrite, SECTOR_BYTES,
 };
+pub use plan_model::{Moment, Name};
 pub use read::{BUILT, order_is_kept, read_command};
 pub use refusal::CmdRefused;
-pub use sequence::Sequence;
-pub use text::Text;

@@ -4,9 +4,10 @@ ghost use Rattle.serde_json.specs.View.{view};
 ghost use Rattle.cmd_json.specs.Kinds.{a_number, the_item, a_move_write};
 
 use crate::Sequence;
-use crate::command::{MAX_WRITE_SECTORS, MoveWrite};
+use crate::command::MoveWrite;
 use crate::kind::{Kind, Misfit};
 use crate::kinds::number_of;
+use basics::MAX_WRITE_SECTORS;
 use serde_json::Value;
 use std::alloc::Global;
 
@@ -29,7 +30,7 @@ impl<K: Kind> Kind for ListKind<K> {
         for value in values {
             items.push(self.0.read(alloc, value)?)?;
         }
-        Ok(Sequence::of(items))
+        Ok(Sequence::from_vec(items))
     }
 }
 

@@ -74,7 +74,7 @@ impl Members {
     {
         match self.take(name) {
             Some(value) => said(self.alloc, name, &ListKind(kind), value),
-            None => Ok(Sequence::of(Vec::new(self.alloc))),
+            None => Ok(Sequence::from_vec(Vec::new(self.alloc))),
         }
     }
 

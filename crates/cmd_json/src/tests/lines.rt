@@ -7,8 +7,7 @@ use std::test::Fail;
 
 #[test]
 fn a_command_without_members_lacks_its_first_one(rt: HostRuntime) -> Result<(), Fail> {
-    let front = r#"{"cmd":"#;
-    let rows = [
+    const ROWS: &[(&str, &str)] = &[
         (r#""move""#, "field name"),
         (r#""host""#, "field name"),
         (r#""vm""#, "field name"),
@@ -32,13 +31,13 @@ fn a_command_without_members_lacks_its_first_one(rt: HostRuntime) -> Result<(), 
         (r#""restart""#, "ok"),
         (r#""quit""#, "ok"),
     ];
-    answer(&rt, rt.alloc(), front, &rows, "}")
+    let front = r#"{"cmd":"#;
+    answer(&rt, rt.alloc(), front, ROWS, "}")
 }
 
 #[test]
 fn a_line_is_json_and_nothing_else(rt: HostRuntime) -> Result<(), Fail> {
-    let front = "";
-    let rows = [
+    const ROWS: &[(&str, &str)] = &[
         ("x", "json"),
         ("", "json"),
         ("{", "json"),
@@ -58,24 +57,24 @@ fn a_line_is_json_and_nothing_else(rt: HostRuntime) -> Result<(), Fail> {
         (r#"{"cmd":"quit"} //"#, "json"),
         ("quit", "json"),
     ];
-    answer(&rt, rt.alloc(), front, &rows, "")
+    let front = "";
+    answer(&rt, rt.alloc(), front, ROWS, "")
 }
 
 #[test]
 fn spaces_may_stand_between_tokens(rt: HostRuntime) -> Result<(), Fail> {
-    let front = "";
-    let rows = [
+    const ROWS: &[(&str, &str)] = &[
         (r#" {"cmd":"quit"} "#, "ok"),
         ("\t{\"cmd\" :\t\"quit\"\r}\r", "ok"),
         (r#"{ "cmd" : "host" , "name" : "h" }"#, "ok"),
     ];
-    answer(&rt, rt.alloc(), front, &rows, "")
+    let front = "";
+    answer(&rt, rt.alloc(), front, ROWS, "")
 }
 
 #[test]
 fn a_command_is_an_object_that_names_it(rt: HostRuntime) -> Result<(), Fail> {
-    let front = "";
-    let rows = [
+    const ROWS: &[(&str, &str)] = &[
         ("5", "command"),
         ("null", "command"),
         ("true", "command"),
@@ -91,13 +90,13 @@ fn a_command_is_an_object_that_names_it(rt: HostRuntime) -> Result<(), Fail> {
         (r#"{"name":"h"}"#, "command"),
         (r#"{"CMD":"quit"}"#, "command"),
     ];
-    answer(&rt, rt.alloc(), front, &rows, "")
+    let front = "";
+    answer(&rt, rt.alloc(), front, ROWS, "")
 }
 
 #[test]
 fn a_command_is_one_of_the_table(rt: HostRuntime) -> Result<(), Fail> {
-    let front = r#"{"cmd":"#;
-    let rows = [
+    const ROWS: &[(&str, &str)] = &[
         (r#""fly""#, "command"),
         (r#""""#, "command"),
         (r#""Quit""#, "command"),
@@ -115,13 +114,13 @@ fn a_command_is_one_of_the_table(rt: HostRuntime) -> Result<(), Fail> {
         (r#""q\u0075it""#, "ok"),
         (r#""\u0051uit""#, "command"),
     ];
-    answer(&rt, rt.alloc(), front, &rows, "}")
+    let front = r#"{"cmd":"#;
+    answer(&rt, rt.alloc(), front, ROWS, "}")
 }
 
 #[test]
 fn a_name_has_1_to_32_letters_digits_and_hyphens(rt: HostRuntime) -> Result<(), Fail> {
-    let front = r#"{"cmd":"host","#;
-    let rows = [
+    const ROWS: &[(&str, &str)] = &[
         (r#""name":"a""#, "ok"),
         (r#""name":"z""#, "ok"),
         (r#""name":"0""#, "ok"),
@@ -150,13 +149,13 @@ fn a_name_has_1_to_32_letters_digits_and_hyphens(rt: HostRuntime) -> Result<(), 
         (r#""name":{}"#, "field name"),
         (r#""name":true"#, "field name"),
     ];
-    answer(&rt, rt.alloc(), front, &rows, "}")
+    let front = r#"{"cmd":"host","#;
+    answer(&rt, rt.alloc(), front, ROWS, "}")
 }
 
 #[test]
 fn a_number_is_whole_without_a_sign_and_of_64_bits(rt: HostRuntime) -> Result<(), Fail> {
-    let front = r#"{"cmd":"write","vm":"a","disk":0,"count":1,"fill":0,"first":"#;
-    let rows = [
+    const ROWS: &[(&str, &str)] = &[
         ("0", "ok"),
         ("1", "ok"),
         ("18446744073709551615", "ok"),
@@ -174,13 +173,13 @@ fn a_number_is_whole_without_a_sign_and_of_64_bits(rt: HostRuntime) -> Result<()
         ("[1]", "field first"),
         ("{}", "field first"),
     ];
-    answer(&rt, rt.alloc(), front, &rows, "}")
+    let front = r#"{"cmd":"write","vm":"a","disk":0,"count":1,"fill":0,"first":"#;
+    answer(&rt, rt.alloc(), front, ROWS, "}")
 }
 
 #[test]
 fn another_spelling_of_a_number_is_no_json(rt: HostRuntime) -> Result<(), Fail> {
-    let front = r#"{"cmd":"write","vm":"a","disk":0,"count":1,"fill":0,"first":"#;
-    let rows = [
+    const ROWS: &[(&str, &str)] = &[
         ("01", "json"),
         ("00", "json"),
         ("+1", "json"),
@@ -192,13 +191,13 @@ fn another_spelling_of_a_number_is_no_json(rt: HostRuntime) -> Result<(), Fail> 
         ("1e400", "json"),
         ("Infinity", "json"),
     ];
-    answer(&rt, rt.alloc(), front, &rows, "}")
+    let front = r#"{"cmd":"write","vm":"a","disk":0,"count":1,"fill":0,"first":"#;
+    answer(&rt, rt.alloc(), front, ROWS, "}")
 }
 
 #[test]
 fn a_number_of_32_bits_ends_where_they_end(rt: HostRuntime) -> Result<(), Fail> {
-    let front = r#"{"cmd":"reset","vm":"a","disk":"#;
-    let rows = [
+    const ROWS: &[(&str, &str)] = &[
         ("0", "ok"),
         ("4294967295", "ok"),
         ("4294967296", "number disk"),
@@ -210,13 +209,13 @@ fn a_number_of_32_bits_ends_where_they_end(rt: HostRuntime) -> Result<(), Fail> 
         (r#""0""#, "field disk"),
         ("null", "field disk"),
     ];
-    answer(&rt, rt.alloc(), front, &rows, "}")
+    let front = r#"{"cmd":"reset","vm":"a","disk":"#;
+    answer(&rt, rt.alloc(), front, ROWS, "}")
 }
 
 #[test]
 fn members_are_tested_in_the_order_of_the_table(rt: HostRuntime) -> Result<(), Fail> {
-    let front = r#"{"cmd":"write","#;
-    let rows = [
+    const ROWS: &[(&str, &str)] = &[
         (r#""fill":256,"count":129,"first":-1,"disk":-1"#, "field vm"),
         (
             r#""vm":"a","fill":256,"count":129,"first":-1,"disk":-1"#,
@@ -239,13 +238,13 @@ fn members_are_tested_in_the_order_of_the_table(rt: HostRuntime) -> Result<(), F
             "number fill",
         ),
     ];
-    answer(&rt, rt.alloc(), front, &rows, "}")
+    let front = r#"{"cmd":"write","#;
+    answer(&rt, rt.alloc(), front, ROWS, "}")
 }
 
 #[test]
 fn of_two_members_of_a_name_the_last_counts(rt: HostRuntime) -> Result<(), Fail> {
-    let front = r#"{"cmd":"host","#;
-    let rows = [
+    const ROWS: &[(&str, &str)] = &[
         (r#""name":5,"name":"h""#, "ok"),
         (r#""name":"h","name":5"#, "field name"),
         (r#""name":"h","limit":0,"limit":1"#, "ok"),
@@ -259,13 +258,13 @@ fn of_two_members_of_a_name_the_last_counts(rt: HostRuntime) -> Result<(), Fail>
         (r#""name":"h","cmd":"quit""#, "field name"),
         (r#""name":"h","cmd":5"#, "command"),
     ];
-    answer(&rt, rt.alloc(), front, &rows, "}")
+    let front = r#"{"cmd":"host","#;
+    answer(&rt, rt.alloc(), front, ROWS, "}")
 }
 
 #[test]
 fn a_member_too_many_is_told_last_and_the_least_one(rt: HostRuntime) -> Result<(), Fail> {
-    let front = r#"{"cmd":"host","#;
-    let rows = [
+    const ROWS: &[(&str, &str)] = &[
         (r#""name":"h","b":1,"a":2"#, "field a"),
         (r#""name":"h","b":1,"aa":2"#, "field aa"),
         (r#""name":"h","é":1,"z":2"#, "field z"),
@@ -278,7 +277,8 @@ fn a_member_too_many_is_told_last_and_the_least_one(rt: HostRuntime) -> Result<(
         (r#""name":"h","a":{"b":[1,{"c":null}]}"#, "field a"),
         (r#""name":"h","a b":1"#, "field a b"),
     ];
-    answer(&rt, rt.alloc(), front, &rows, "}")
+    let front = r#"{"cmd":"host","#;
+    answer(&rt, rt.alloc(), front, ROWS, "}")
 }
 
 fn answer_to(alloc: Global, line: &[u8]) -> Result<String, Fail> {

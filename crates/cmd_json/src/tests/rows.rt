@@ -4,8 +4,7 @@ use std::test::Fail;
 
 #[test]
 fn a_host_has_a_name_and_may_have_a_limit(rt: HostRuntime) -> Result<(), Fail> {
-    let front = r#"{"cmd":"host","#;
-    let rows = [
+    const ROWS: &[(&str, &str)] = &[
         (r#""limit":1"#, "field name"),
         (r#""name":"h""#, "ok"),
         (r#""name":"h","limit":0"#, "number limit"),
@@ -19,13 +18,13 @@ fn a_host_has_a_name_and_may_have_a_limit(rt: HostRuntime) -> Result<(), Fail> {
         (r#""limit":0,"name":"H""#, "field name"),
         (r#""limit":0,"name":"h""#, "number limit"),
     ];
-    answer(&rt, rt.alloc(), front, &rows, "}")
+    let front = r#"{"cmd":"host","#;
+    answer(&rt, rt.alloc(), front, ROWS, "}")
 }
 
 #[test]
 fn reset_has_a_machine_and_a_disk(rt: HostRuntime) -> Result<(), Fail> {
-    let front = r#"{"cmd":"reset","#;
-    let rows = [
+    const ROWS: &[(&str, &str)] = &[
         (r#""vm":"a","disk":0"#, "ok"),
         (r#""disk":0"#, "field vm"),
         (r#""vm":"a""#, "field disk"),
@@ -33,13 +32,13 @@ fn reset_has_a_machine_and_a_disk(rt: HostRuntime) -> Result<(), Fail> {
         (r#""vm":5,"disk":4294967296"#, "field vm"),
         (r#""vm":"a","disk":0,"first":0"#, "field first"),
     ];
-    answer(&rt, rt.alloc(), front, &rows, "}")
+    let front = r#"{"cmd":"reset","#;
+    answer(&rt, rt.alloc(), front, ROWS, "}")
 }
 
 #[test]
 fn a_move_has_a_name_sectors_and_writes(rt: HostRuntime) -> Result<(), Fail> {
-    let front = r#"{"cmd":"move","#;
-    let rows = [
+    const ROWS: &[(&str, &str)] = &[
         (r#""name":"a","sectors":256,"writes":[]"#, "ok"),
         (r#""sectors":256,"writes":[]"#, "field name"),
         (r#""name":"a","writes":[]"#, "field sectors"),
@@ -57,13 +56,13 @@ fn a_move_has_a_name_sectors_and_writes(rt: HostRuntime) -> Result<(), Fail> {
         (r#""name":5,"sectors":0,"writes":5"#, "field name"),
         (r#""name":"a","sectors":0,"writes":5"#, "number sectors"),
     ];
-    answer(&rt, rt.alloc(), front, &rows, "}")
+    let front = r#"{"cmd":"move","#;
+    answer(&rt, rt.alloc(), front, ROWS, "}")
 }
 
 #[test]
 fn a_write_of_a_move_is_a_list_of_three_numbers(rt: HostRuntime) -> Result<(), Fail> {
-    let front = r#"{"cmd":"move","name":"a","sectors":1,"writes":"#;
-    let rows = [
+    const ROWS: &[(&str, &str)] = &[
         ("[]", "ok"),
         ("[[0,1,2]]", "ok"),
         ("[[0,1,2],[3,128,255]]", "ok"),
@@ -85,13 +84,13 @@ fn a_write_of_a_move_is_a_list_of_three_numbers(rt: HostRuntime) -> Result<(), F
         ("[[[[]]]]", "field writes"),
         ("[[0,1,[2]]]", "field writes"),
     ];
-    answer(&rt, rt.alloc(), front, &rows, "}")
+    let front = r#"{"cmd":"move","name":"a","sectors":1,"writes":"#;
+    answer(&rt, rt.alloc(), front, ROWS, "}")
 }
 
 #[test]
 fn the_first_thing_wrong_with_a_write_is_told(rt: HostRuntime) -> Result<(), Fail> {
-    let front = r#"{"cmd":"move","name":"a","sectors":1,"writes":"#;
-    let rows = [
+    const ROWS: &[(&str, &str)] = &[
         ("[[0,1,256,3]]", "number writes"),
         ("[[0,129]]", "number writes"),
         (r#"[[0,"1",256]]"#, "field writes"),
@@ -102,13 +101,13 @@ fn the_first_thing_wrong_with_a_write_is_told(rt: HostRuntime) -> Result<(), Fai
         ("[[0,129,2],[0,1]]", "number writes"),
         ("[[0,1,2],5]", "field writes"),
     ];
-    answer(&rt, rt.alloc(), front, &rows, "}")
+    let front = r#"{"cmd":"move","name":"a","sectors":1,"writes":"#;
+    answer(&rt, rt.alloc(), front, ROWS, "}")
 }
 
 #[test]
 fn a_machine_has_a_name_a_host_and_disks(rt: HostRuntime) -> Result<(), Fail> {
-    let front = r#"{"cmd":"vm","#;
-    let rows = [
+    const ROWS: &[(&str, &str)] = &[
         (r#""name":"a","host":"h","disks":[]"#, "ok"),
         (r#""name":"a","host":"h","disks":[0]"#, "ok"),
         (r#""name":"a","host":"h","disks":{"0":1}"#, "field disks"),
@@ -119,13 +118,13 @@ fn a_machine_has_a_name_a_host_and_disks(rt: HostRuntime) -> Result<(), Fail> {
         (r#""name":"a","host":"H","disks":5"#, "field host"),
         (r#""name":"a","host":7,"disks":[]"#, "field host"),
     ];
-    answer(&rt, rt.alloc(), front, &rows, "}")
+    let front = r#"{"cmd":"vm","#;
+    answer(&rt, rt.alloc(), front, ROWS, "}")
 }
 
 #[test]
 fn a_disk_is_a_number_of_64_bits(rt: HostRuntime) -> Result<(), Fail> {
-    let front = r#"{"cmd":"vm","name":"a","host":"h","disks":"#;
-    let rows = [
+    const ROWS: &[(&str, &str)] = &[
         ("[18446744073709551615,1]", "ok"),
         ("[18446744073709551616]", "number disks"),
         (r#"[1,"2"]"#, "field disks"),
@@ -135,13 +134,13 @@ fn a_disk_is_a_number_of_64_bits(rt: HostRuntime) -> Result<(), Fail> {
         ("[[1]]", "field disks"),
         ("[null]", "field disks"),
     ];
-    answer(&rt, rt.alloc(), front, &rows, "}")
+    let front = r#"{"cmd":"vm","name":"a","host":"h","disks":"#;
+    answer(&rt, rt.alloc(), front, ROWS, "}")
 }
 
 #[test]
 fn a_write_has_five_members(rt: HostRuntime) -> Result<(), Fail> {
-    let front = r#"{"cmd":"write","#;
-    let rows = [
+    const ROWS: &[(&str, &str)] = &[
         (r#""vm":"a","disk":0,"first":0,"count":1,"fill":0"#, "ok"),
         (
             r#""vm":"a","disk":1,"first":9,"count":128,"fill":255"#,
@@ -172,78 +171,78 @@ fn a_write_has_five_members(rt: HostRuntime) -> Result<(), Fail> {
             "number fill",
         ),
     ];
-    answer(&rt, rt.alloc(), front, &rows, "}")
+    let front = r#"{"cmd":"write","#;
+    answer(&rt, rt.alloc(), front, ROWS, "}")
 }
 
 #[test]
 fn a_member_of_a_write_that_is_missing_is_told(rt: HostRuntime) -> Result<(), Fail> {
-    let front = r#"{"cmd":"write","#;
-    let rows = [
+    const ROWS: &[(&str, &str)] = &[
         (r#""disk":0,"first":0,"count":1,"fill":0"#, "field vm"),
         (r#""vm":"a","first":0,"count":1,"fill":0"#, "field disk"),
         (r#""vm":"a","disk":0,"count":1,"fill":0"#, "field first"),
         (r#""vm":"a","disk":0,"first":0,"fill":0"#, "field count"),
         (r#""vm":"a","disk":0,"first":0,"count":1"#, "field fill"),
     ];
-    answer(&rt, rt.alloc(), front, &rows, "}")
+    let front = r#"{"cmd":"write","#;
+    answer(&rt, rt.alloc(), front, ROWS, "}")
 }
 
 #[test]
 fn enable_has_a_machine(rt: HostRuntime) -> Result<(), Fail> {
-    let front = r#"{"cmd":"enable","#;
-    let rows = [
+    const ROWS: &[(&str, &str)] = &[
         (r#""vm":"a""#, "ok"),
         (r#""vm":"A""#, "field vm"),
         (r#""vm":1"#, "field vm"),
         (r#""vm":"a","disk":0"#, "field disk"),
         (r#""disk":0"#, "field vm"),
     ];
-    answer(&rt, rt.alloc(), front, &rows, "}")
+    let front = r#"{"cmd":"enable","#;
+    answer(&rt, rt.alloc(), front, ROWS, "}")
 }
 
 #[test]
 fn snapshot_has_a_machine(rt: HostRuntime) -> Result<(), Fail> {
-    let front = r#"{"cmd":"snapshot","#;
-    let rows = [
+    const ROWS: &[(&str, &str)] = &[
         (r#""vm":"a""#, "ok"),
         (r#""vm":"A""#, "field vm"),
         (r#""vm":1"#, "field vm"),
         (r#""vm":"a","disk":0"#, "field disk"),
         (r#""disk":0"#, "field vm"),
     ];
-    answer(&rt, rt.alloc(), front, &rows, "}")
+    let front = r#"{"cmd":"snapshot","#;
+    answer(&rt, rt.alloc(), front, ROWS, "}")
 }
 
 #[test]
 fn cancel_has_a_machine(rt: HostRuntime) -> Result<(), Fail> {
-    let front = r#"{"cmd":"cancel","#;
-    let rows = [
+    const ROWS: &[(&str, &str)] = &[
         (r#""vm":"a""#, "ok"),
         (r#""vm":"A""#, "field vm"),
         (r#""vm":1"#, "field vm"),
         (r#""vm":"a","disk":0"#, "field disk"),
         (r#""disk":0"#, "field vm"),
     ];
-    answer(&rt, rt.alloc(), front, &rows, "}")
+    let front = r#"{"cmd":"cancel","#;
+    answer(&rt, rt.alloc(), front, ROWS, "}")
 }
 
 #[test]
 fn start_has_a_plan(rt: HostRuntime) -> Result<(), Fail> {
-    let front = r#"{"cmd":"start","#;
-    let rows = [
+    const ROWS: &[(&str, &str)] = &[
         (r#""plan":"p""#, "ok"),
         (r#""plan":"""#, "field plan"),
         (r#""plan":1"#, "field plan"),
         (r#""plan":"p","vm":"a""#, "field vm"),
         (r#""vm":"a""#, "field plan"),
     ];
-    answer(&rt, rt.alloc(), front, &rows, "}")
+    let front = r#"{"cmd":"start","#;
+    answer(&rt, rt.alloc(), front, ROWS, "}")
 }
 
 #[test]
 fn remove_has_a_machine_and_a_snapshot(rt: HostRuntime) -> Result<(), Fail> {
-    let front = r#"{"cmd":"remove","#;
-    let rows = [
+    const ROWS: &[(&str, &str)] = &[
         (r#""vm":"a","snapshot":1"#, "ok"),
         (r#""vm":"a","snapshot":0"#, "ok"),
         (r#""vm":"a","snapshot":4294967295"#, "ok"),
@@ -253,13 +252,13 @@ fn remove_has_a_machine_and_a_snapshot(rt: HostRuntime) -> Result<(), Fail> {
         (r#""snapshot":1"#, "field vm"),
         (r#""vm":"a","snapshot":1,"disk":1"#, "field disk"),
     ];
-    answer(&rt, rt.alloc(), front, &rows, "}")
+    let front = r#"{"cmd":"remove","#;
+    answer(&rt, rt.alloc(), front, ROWS, "}")
 }
 
 #[test]
 fn a_query_has_five_members(rt: HostRuntime) -> Result<(), Fail> {
-    let front = r#"{"cmd":"query","#;
-    let rows = [
+    const ROWS: &[(&str, &str)] = &[
         (
             r#""vm":"a","snapshot":1,"disk":0,"since":"*","start":0"#,
             "ok",
@@ -307,13 +306,13 @@ fn a_query_has_five_members(rt: HostRuntime) -> Result<(), Fail> {
             "ok",
         ),
     ];
-    answer(&rt, rt.alloc(), front, &rows, "}")
+    let front = r#"{"cmd":"query","#;
+    answer(&rt, rt.alloc(), front, ROWS, "}")
 }
 
 #[test]
 fn a_query_starts_where_a_sector_begins(rt: HostRuntime) -> Result<(), Fail> {
-    let front = r#"{"cmd":"query","vm":"a","snapshot":1,"disk":0,"since":"*","start":"#;
-    let rows = [
+    const ROWS: &[(&str, &str)] = &[
         ("0", "ok"),
         ("1", "number start"),
         ("100", "number start"),
@@ -330,13 +329,13 @@ fn a_query_starts_where_a_sector_begins(rt: HostRuntime) -> Result<(), Fail> {
         (r#""512""#, "field start"),
         ("null", "field start"),
     ];
-    answer(&rt, rt.alloc(), front, &rows, "}")
+    let front = r#"{"cmd":"query","vm":"a","snapshot":1,"disk":0,"since":"*","start":"#;
+    answer(&rt, rt.alloc(), front, ROWS, "}")
 }
 
 #[test]
 fn a_read_has_four_members_and_may_have_a_snapshot(rt: HostRuntime) -> Result<(), Fail> {
-    let front = r#"{"cmd":"read","#;
-    let rows = [
+    const ROWS: &[(&str, &str)] = &[
         (r#""vm":"a","disk":0,"first":0,"count":1"#, "ok"),
         (
             r#""vm":"a","disk":0,"first":0,"count":16,"snapshot":4294967295"#,
@@ -365,13 +364,13 @@ fn a_read_has_four_members_and_may_have_a_snapshot(rt: HostRuntime) -> Result<()
             "number count",
         ),
     ];
-    answer(&rt, rt.alloc(), front, &rows, "}")
+    let front = r#"{"cmd":"read","#;
+    answer(&rt, rt.alloc(), front, ROWS, "}")
 }
 
 #[test]
 fn power_is_a_truth_value(rt: HostRuntime) -> Result<(), Fail> {
-    let front = r#"{"cmd":"power","#;
-    let rows = [
+    const ROWS: &[(&str, &str)] = &[
         (r#""vm":"a","on":true"#, "ok"),
         (r#""vm":"a","on":false"#, "ok"),
         (r#""vm":"a","on":1"#, "field on"),
@@ -381,41 +380,41 @@ fn power_is_a_truth_value(rt: HostRuntime) -> Result<(), Fail> {
         (r#""vm":"a""#, "field on"),
         (r#""on":true"#, "field vm"),
     ];
-    answer(&rt, rt.alloc(), front, &rows, "}")
+    let front = r#"{"cmd":"power","#;
+    answer(&rt, rt.alloc(), front, ROWS, "}")
 }
 
 #[test]
 fn inventory_has_no_members(rt: HostRuntime) -> Result<(), Fail> {
+    const ROWS: &[(&str, &str)] = &[(r#""vm":"a""#, "field vm"), (r#""b":1,"a":2"#, "field a")];
     let front = r#"{"cmd":"inventory","#;
-    let rows = [(r#""vm":"a""#, "field vm"), (r#""b":1,"a":2"#, "field a")];
-    answer(&rt, rt.alloc(), front, &rows, "}")
+    answer(&rt, rt.alloc(), front, ROWS, "}")
 }
 
 #[test]
 fn status_has_no_members(rt: HostRuntime) -> Result<(), Fail> {
+    const ROWS: &[(&str, &str)] = &[(r#""vm":"a""#, "field vm"), (r#""b":1,"a":2"#, "field a")];
     let front = r#"{"cmd":"status","#;
-    let rows = [(r#""vm":"a""#, "field vm"), (r#""b":1,"a":2"#, "field a")];
-    answer(&rt, rt.alloc(), front, &rows, "}")
+    answer(&rt, rt.alloc(), front, ROWS, "}")
 }
 
 #[test]
 fn restart_has_no_members(rt: HostRuntime) -> Result<(), Fail> {
+    const ROWS: &[(&str, &str)] = &[(r#""vm":"a""#, "field vm"), (r#""b":1,"a":2"#, "field a")];
     let front = r#"{"cmd":"restart","#;
-    let rows = [(r#""vm":"a""#, "field vm"), (r#""b":1,"a":2"#, "field a")];
-    answer(&rt, rt.alloc(), front, &rows, "}")
+    answer(&rt, rt.alloc(), front, ROWS, "}")
 }
 
 #[test]
 fn quit_has_no_members(rt: HostRuntime) -> Result<(), Fail> {
+    const ROWS: &[(&str, &str)] = &[(r#""vm":"a""#, "field vm"), (r#""b":1,"a":2"#, "field a")];
     let front = r#"{"cmd":"quit","#;
-    let rows = [(r#""vm":"a""#, "field vm"), (r#""b":1,"a":2"#, "field a")];
-    answer(&rt, rt.alloc(), front, &rows, "}")
+    answer(&rt, rt.alloc(), front, ROWS, "}")
 }
 
 #[test]
 fn a_plan_has_a_name_machines_and_may_have_an_interval(rt: HostRuntime) -> Result<(), Fail> {
-    let front = r#"{"cmd":"plan","#;
-    let rows = [
+    const ROWS: &[(&str, &str)] = &[
         (r#""name":"p","vms":[]"#, "ok"),
         (r#""name":"p","vms":["a"]"#, "ok"),
         (r#""name":"p","vms":["a","a"],"interval":1"#, "ok"),
@@ -434,13 +433,13 @@ fn a_plan_has_a_name_machines_and_may_have_an_interval(rt: HostRuntime) -> Resul
         (r#""name":"p","vms":["A"],"interval":0"#, "field vms"),
         (r#""name":"P","vms":["A"],"interval":0"#, "field name"),
     ];
-    answer(&rt, rt.alloc(), front, &rows, "}")
+    let front = r#"{"cmd":"plan","#;
+    answer(&rt, rt.alloc(), front, ROWS, "}")
 }
 
 #[test]
 fn the_machines_of_a_plan_are_names(rt: HostRuntime) -> Result<(), Fail> {
-    let front = r#"{"cmd":"plan","name":"p","vms":"#;
-    let rows = [
+    const ROWS: &[(&str, &str)] = &[
         (r#"["a","A"]"#, "field vms"),
         (r#"["a",5]"#, "field vms"),
         (r#"["a",["b"]]"#, "field vms"),
@@ -451,13 +450,13 @@ fn the_machines_of_a_plan_are_names(rt: HostRuntime) -> Result<(), Fail> {
         (r#"["aaaaaaaaaaaaaaaaaaaaaaaaaaaaaa-9"]"#, "ok"),
         (r#"["aaaaaaaaaaaaaaaaaaaaaaaaaaaaaa-9a"]"#, "field vms"),
     ];
-    answer(&rt, rt.alloc(), front, &rows, "}")
+    let front = r#"{"cmd":"plan","name":"p","vms":"#;
+    answer(&rt, rt.alloc(), front, ROWS, "}")
 }
 
 #[test]
 fn a_moment_has_one_spelling(rt: HostRuntime) -> Result<(), Fail> {
-    let front = r#"{"cmd":"run","workers":0,"at":"#;
-    let rows = [
+    const ROWS: &[(&str, &str)] = &[
         (r#""2024-05-01T10:00:00Z""#, "ok"),
         (r#""2000-01-01T00:00:00Z""#, "ok"),
         (r#""2999-12-31T23:59:59Z""#, "ok"),
@@ -476,13 +475,13 @@ fn a_moment_has_one_spelling(rt: HostRuntime) -> Result<(), Fail> {
         ("5", "field at"),
         ("null", "field at"),
     ];
-    answer(&rt, rt.alloc(), front, &rows, "}")
+    let front = r#"{"cmd":"run","workers":0,"at":"#;
+    answer(&rt, rt.alloc(), front, ROWS, "}")
 }
 
 #[test]
 fn a_run_has_up_to_64_workers(rt: HostRuntime) -> Result<(), Fail> {
-    let front = r#"{"cmd":"run","at":"2024-05-01T10:00:00Z","workers":"#;
-    let rows = [
+    const ROWS: &[(&str, &str)] = &[
         ("0", "ok"),
         ("64", "ok"),
         ("65", "number workers"),
@@ -491,13 +490,13 @@ fn a_run_has_up_to_64_workers(rt: HostRuntime) -> Result<(), Fail> {
         (r#""0""#, "field workers"),
         ("null", "field workers"),
     ];
-    answer(&rt, rt.alloc(), front, &rows, "}")
+    let front = r#"{"cmd":"run","at":"2024-05-01T10:00:00Z","workers":"#;
+    answer(&rt, rt.alloc(), front, ROWS, "}")
 }
 
 #[test]
 fn a_run_has_a_moment_and_workers(rt: HostRuntime) -> Result<(), Fail> {
-    let front = r#"{"cmd":"run","#;
-    let rows = [
+    const ROWS: &[(&str, &str)] = &[
         (r#""at":"2024-05-01T10:00:00Z""#, "field workers"),
         (r#""at":"2024-05-01T10:00:00Z","workers":0"#, "ok"),
         (r#""workers":0"#, "field at"),
@@ -508,13 +507,13 @@ fn a_run_has_a_moment_and_workers(rt: HostRuntime) -> Result<(), Fail> {
             "number workers",
         ),
     ];
-    answer(&rt, rt.alloc(), front, &rows, "}")
+    let front = r#"{"cmd":"run","#;
+    answer(&rt, rt.alloc(), front, ROWS, "}")
 }
 
 #[test]
 fn guests_are_objects_of_three_members(rt: HostRuntime) -> Result<(), Fail> {
-    let front = r#"{"cmd":"run","at":"2024-05-01T10:00:00Z","workers":0,"guests":"#;
-    let rows = [
+    const ROWS: &[(&str, &str)] = &[
         ("[]", "ok"),
         (r#"[{"vm":"a","seed":0,"count":0}]"#, "ok"),
         (
@@ -541,13 +540,13 @@ fn guests_are_objects_of_three_members(rt: HostRuntime) -> Result<(), Fail> {
         ("null", "field guests"),
         ("5", "field guests"),
     ];
-    answer(&rt, rt.alloc(), front, &rows, "}")
+    let front = r#"{"cmd":"run","at":"2024-05-01T10:00:00Z","workers":0,"guests":"#;
+    answer(&rt, rt.alloc(), front, ROWS, "}")
 }
 
 #[test]
 fn the_first_guest_that_is_wrong_is_told(rt: HostRuntime) -> Result<(), Fail> {
-    let front = r#"{"cmd":"run","at":"2024-05-01T10:00:00Z","workers":0,"guests":"#;
-    let rows = [
+    const ROWS: &[(&str, &str)] = &[
         (
             r#"[{"vm":"a","seed":0,"count":0},{"vm":"a","seed":0}]"#,
             "field guests",
@@ -566,13 +565,13 @@ fn the_first_guest_that_is_wrong_is_told(rt: HostRuntime) -> Result<(), Fail> {
         ),
         (r#"[{"vm":"a","seed":-1,"seed":0,"count":0}]"#, "ok"),
     ];
-    answer(&rt, rt.alloc(), front, &rows, "}")
+    let front = r#"{"cmd":"run","at":"2024-05-01T10:00:00Z","workers":0,"guests":"#;
+    answer(&rt, rt.alloc(), front, ROWS, "}")
 }
 
 #[test]
 fn disturbances_are_objects_by_their_act(rt: HostRuntime) -> Result<(), Fail> {
-    let front = r#"{"cmd":"run","at":"2024-05-01T10:00:00Z","workers":0,"disturb":"#;
-    let rows = [
+    const ROWS: &[(&str, &str)] = &[
         ("[]", "ok"),
         (r#"[{"vm":"a","act":"reset","disk":0}]"#, "ok"),
         (
@@ -606,25 +605,25 @@ fn disturbances_are_objects_by_their_act(rt: HostRuntime) -> Result<(), Fail> {
         ("{}", "field disturb"),
         ("null", "field disturb"),
     ];
-    answer(&rt, rt.alloc(), front, &rows, "}")
+    let front = r#"{"cmd":"run","at":"2024-05-01T10:00:00Z","workers":0,"disturb":"#;
+    answer(&rt, rt.alloc(), front, ROWS, "}")
 }
 
 #[test]
 fn guests_are_told_before_disturbances(rt: HostRuntime) -> Result<(), Fail> {
-    let front = r#"{"cmd":"run","at":"2024-05-01T10:00:00Z","#;
-    let rows = [
+    const ROWS: &[(&str, &str)] = &[
         (r#""workers":0,"guests":[5],"disturb":5"#, "field guests"),
         (r#""workers":0,"disturb":5,"guests":[]"#, "field disturb"),
         (r#""workers":65,"guests":[5],"disturb":5"#, "number workers"),
         (r#""workers":0,"disturb":[],"guests":[],"x":1"#, "field x"),
     ];
-    answer(&rt, rt.alloc(), front, &rows, "}")
+    let front = r#"{"cmd":"run","at":"2024-05-01T10:00:00Z","#;
+    answer(&rt, rt.alloc(), front, ROWS, "}")
 }
 
 #[test]
 fn a_cutover_has_a_plan_and_may_have_a_moment(rt: HostRuntime) -> Result<(), Fail> {
-    let front = r#"{"cmd":"cutover","#;
-    let rows = [
+    const ROWS: &[(&str, &str)] = &[
         (r#""plan":"p""#, "ok"),
         (r#""plan":"p","at":"2024-05-01T10:00:00Z""#, "ok"),
         (r#""plan":"p","at":"now""#, "number at"),
@@ -635,13 +634,13 @@ fn a_cutover_has_a_plan_and_may_have_a_moment(rt: HostRuntime) -> Result<(), Fai
         (r#""plan":"P","at":"now""#, "field plan"),
         (r#""plan":"p","vm":"a""#, "field vm"),
     ];
-    answer(&rt, rt.alloc(), front, &rows, "}")
+    let front = r#"{"cmd":"cutover","#;
+    answer(&rt, rt.alloc(), front, ROWS, "}")
 }
 
 #[test]
 fn target_has_a_text_and_sectors(rt: HostRuntime) -> Result<(), Fail> {
-    let front = r#"{"cmd":"target","#;
-    let rows = [
+    const ROWS: &[(&str, &str)] = &[
         (r#""volume":"t","first":0,"count":1"#, "ok"),
         (r#""volume":"","first":0,"count":1"#, "ok"),
         (
@@ -664,18 +663,19 @@ fn target_has_a_text_and_sectors(rt: HostRuntime) -> Result<(), Fail> {
         (r#""volume":"t","count":1"#, "field first"),
         (r#""first":0,"count":1"#, "field volume"),
     ];
-    answer(&rt, rt.alloc(), front, &rows, "}")
+    let front = r#"{"cmd":"target","#;
+    answer(&rt, rt.alloc(), front, ROWS, "}")
 }
 
 #[test]
 fn digest_has_a_text(rt: HostRuntime) -> Result<(), Fail> {
-    let front = r#"{"cmd":"digest","#;
-    let rows = [
+    const ROWS: &[(&str, &str)] = &[
         (r#""volume":"t""#, "ok"),
         (r#""volume":"""#, "ok"),
         (r#""volume":5"#, "field volume"),
         (r#""volume":["t"]"#, "field volume"),
         (r#""volume":"t","first":0"#, "field first"),
     ];
-    answer(&rt, rt.alloc(), front, &rows, "}")
+    let front = r#"{"cmd":"digest","#;
+    answer(&rt, rt.alloc(), front, ROWS, "}")
 }

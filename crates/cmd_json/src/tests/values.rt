@@ -184,25 +184,34 @@ fn guests_are_read(rt: HostRuntime) -> Result<(), Fail> {
 
 #[test]
 fn disturbances_are_read(rt: HostRuntime) -> Result<(), Fail> {
-    let members = " \
-        \"at\":\"2024-05-01T10:00:00Z\",\"workers\":0,\"disturb\":[{\"vm\":\"a\",\"act\":\"reset\",\"disk\":1},{\"act\":\"cancel\",\"vm\":\"b\"}]";
+    let members = "\"at\":\"2024-05-01T10:00:00Z\",\"workers\":0,\"disturb\":[\
+        {\"vm\":\"a\",\"act\":\"reset\",\"disk\":1},\
+        {\"act\":\"cancel\",\"vm\":\"b\"}]";
     let wanted = "Run { at: Moment(1714557600), workers: 0, guests: Sequence { items: [] }, \
         disturb: Sequence { items: [DisturbLine { vm: Name { text: \"a\" }, act: Reset { \
         disk: 1 } }, DisturbLine { vm: Name { text: \"b\" }, act: Cancel }] } }";
     shows(&rt, rt.alloc(), "run", members, wanted)
 }
 
-// Each escape, and characters of two, three and four bytes, escaped and as they are.
-const ESCAPED: &str =
-    r#"{"cmd":"digest","volume":"\"\\\/\b\f\n\r\t\u0041\u0000\u00e9\u20ac\ud83d\ude00é€😀"}"#;
-
-#[test]
-fn a_text_may_have_every_escape(rt: HostRuntime) -> Result<(), Fail> {
-    match read_command(rt.alloc(), ESCAPED.as_bytes()) {
-        Ok(Command::Digest { volume }) => {
-            assert_eq!(rt; volume.as_str(), "\"\\/\u{8}\u{c}\n\r\tA\0é€😀é€😀");
-        }
+// The text of a digest's volume is this one.
+fn has_volume(rt: &impl Abort, alloc: Global, line: &str, wanted: &str) -> Result<(), Fail> {
+    match read_command(alloc, line.as_bytes()) {
+        Ok(Command::Digest { volume }) => assert_eq!(rt; volume.as_str(), wanted, "{line}"),
         _ => return Err(Fail::from("no digest")),
     }
     Ok(())
+}
+
+#[test]
+fn a_text_may_have_every_escape(rt: HostRuntime) -> Result<(), Fail> {
+    let line =
+        r#"{"cmd":"digest","volume":"\"\\\/\b\f\n\r\t\u0041\u0000\u00e9\u20ac\ud83d\ude00"}"#;
+    let wanted = "\"\\/\u{8}\u{c}\n\r\tA\0é€😀";
+    has_volume(&rt, rt.alloc(), line, wanted)
+}
+
+#[test]
+fn a_text_may_have_every_character(rt: HostRuntime) -> Result<(), Fail> {
+    let line = r#"{"cmd":"digest","volume":"é€😀"}"#;
+    has_volume(&rt, rt.alloc(), line, "é€😀")
 }
