@@ -3,4 +3,5 @@ pub mod Disk
 pub mod Run
 pub mod Page
 pub mod VolumeContents
+pub mod LooseRuns
 pub mod Laws

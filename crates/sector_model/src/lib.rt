@@ -17,7 +17,7 @@ pub use laws::{
     volume_fillings, volumes_keep_their_size,
 };
 pub use page::{PAGE_AREAS, Page};
-pub use run::{BLOCK_SECTORS, Run, Runs};
+pub use run::{BLOCK_SECTORS, Run, Runs, next_run};
 pub use sector::{SECTOR_BYTES, Sector, SectorList};
 use std::alloc::{AllocError, AllocFailed};
 

@@ -4,6 +4,10 @@ ghost use Rattle.std.specs.List.{sum_by};
 ghost use Rattle.std.specs.List.Sorted.{IsStrictlyIncreasing};
 ghost use Rattle.sector_model.specs.Run.{end_of, with_run};
 
+mod joined;
+
+pub use joined::next_run;
+
 use crate::NoMemory;
 use std::alloc::Global;
 use std::marker::Model;
