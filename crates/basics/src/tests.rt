@@ -60,6 +60,10 @@ fn names_have_letters_digits_and_hyphens_alone(rt: HostRuntime) {
 fn a_list_of_numbers_keeps_them_in_order(rt: HostRuntime) -> Result<(), Fail> {
     let list = NumberList::of(rt.alloc(), &[3, 1, 3]).or(Err("no memory"))?;
     assert_eq!(rt; list.as_slice(), [3, 1, 3].as_slice());
+    let same = NumberList::of(rt.alloc(), &[3, 1, 3]).or(Err("no memory"))?;
+    assert!(rt; list == same);
+    let other = NumberList::of(rt.alloc(), &[3, 3, 1]).or(Err("no memory"))?;
+    assert!(rt; list != other);
     let list = NumberList::from_vec(vec![in rt.alloc(); 7]?);
     assert_eq!(rt; list.as_slice(), [7].as_slice());
     Ok(())

@@ -1,2 +1,3 @@
 pub mod ChangeId
+pub mod History
 pub mod Laws

@@ -9,7 +9,8 @@ use Rattle.change_id.specs.declared.ChangeId.{ChangeId}
 use Rattle.sector_model.proofs.ItemAt.{slice_get-front, slice_get-take}
 use Rattle.log_model.specs.declared.entry.Entry.{Entry}
 use Rattle.log_model.specs.Entry.{is_snap, is_enable, resets}
-use Rattle.log_model.specs.Marks.{mark, epoch, counted, number, in_force, is_id, mark_of_id, HasId}
+use Rattle.change_id.specs.History.{is_id}
+use Rattle.log_model.specs.Marks.{mark, epoch, counted, number, in_force, mark_of_id, HasId}
 use Rattle.log_model.specs.Laws.{MarksOfIds}
 use Rattle.log_model.proofs.Last.{at_place}
 use Rattle.log_model.proofs.FoldLemmas.{find-range_at}

@@ -10,15 +10,15 @@ use Rattle.std.proofs.lemmas.List.Elements.{recursion_from_All}
 use Rattle.std.proofs.lemmas.Option.{unwrap_or-slice_get}
 use Rattle.sector_model.specs.Sector.{zero_sector, filled}
 use Rattle.sector_model.specs.Disk.{Write, Fits, after_write, fresh_disk}
-use Rattle.sector_model.specs.Run.{block_count, touches, touched_blocks, in_blocks, areas_of}
+use Rattle.sector_model.specs.Run.{block_count, meets, touches, touched_blocks, in_blocks, areas_of}
 use Rattle.sector_model.specs.declared.sector.Sector.{Sector}
 use Rattle.sector_model.proofs.Exact.{in_runs_of}
 use Rattle.migrate_server.specs.declared.command.MoveWrite.{MoveWrite}
 use Rattle.migrate_server.specs.WrittenDisk.{disk_write, disk_writes, written_disk}
-use Rattle.migrate_server.specs.WrittenDisk.{AreFlagged, FlagsAfter, meets}
+use Rattle.migrate_server.specs.WrittenDisk.{AreFlagged, FlagsAfter}
 use Rattle.migrate_server.specs.Copy.{IsClearOutside}
 use Rattle.sector_model.proofs.Replaced.{length-after_writes, untouched}
-use Rattle.migrate_server.proofs.Lists.{filter-range_same}
+use Rattle.sector_model.proofs.Touched.{filter-range_same}
 
 -- ---- sectors
 

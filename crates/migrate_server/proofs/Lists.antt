@@ -10,11 +10,6 @@ filter-range_more p n =
     ap (filter p) (sym (map-id (range_with_len 0 (n + 1)))) ∙ filter_of_map_range_with_len_more p (λ k. k) 0 n n (omega arith)
     ∙ ap (λ xs. filter p xs ++ cond (p n) (n ∷ []) []) (map-id (range_with_len 0 n))
 
-pub filter-range_same : (p q : ℕ → Bool) (a n : ℕ) → ((b : ℕ) → a ≤ b → b < a + n → p b ≡ q b) → filter p (range_with_len a n) ≡ filter q (range_with_len a n)
-filter-range_same p q a zero same = refl
-filter-range_same p q a (suc n) same =
-    rw (same a (omega arith) (omega arith), filter-range_same p q (a + 1) n (λ b l h. same b (omega arith) (omega arith))) refl
-
 -- ascending from m on, and below n
 abbrev pub Rises : ℕ → ℕ → List ℕ → Type 0
 Rises m n [] = Unit {0}

@@ -1,10 +1,9 @@
 -- The disk of a move. It is plain: a fresh disk, to which the writes of the line are applied.
-use Rattle.std.specs.Prelude.{◌≡◌, ℕ, ◌+◌, ◌*◌, ◌<◌, List, length, map, replicate, Bool, false, ◌||◌, nat_lt, min, max, slice_index_or}
+use Rattle.std.specs.Prelude.{◌≡◌, ℕ, ◌+◌, ◌<◌, List, length, map, replicate, Bool, false, ◌||◌, slice_index_or}
 use Rattle.std.specs.List.{list_any}
 use Rattle.sector_model.specs.Sector.{filled}
 use Rattle.sector_model.specs.Disk.{Write, fold_writes}
-use Rattle.sector_model.specs.Run.{block_count, touches}
-use Rattle.sector_model.specs.declared.run.TheConstants.{BLOCK_SECTORS}
+use Rattle.sector_model.specs.Run.{block_count, meets, touches}
 use Rattle.sector_model.specs.declared.sector.Sector.{Sector}
 use Rattle.migrate_server.specs.declared.command.MoveWrite.{MoveWrite}
 
@@ -23,11 +22,6 @@ pub record AreFlagged (c : ℕ) (writes : List Write) (flags : List Bool) : Type
   pub long : length flags ≡ block_count c
   pub each : (b : ℕ) → b < block_count c
       → slice_index_or flags b false ≡ list_any (touches b) writes
-
--- a range of sectors has one of block b
-abbrev pub meets : (b first count : ℕ) → Bool
-meets b first count = nat_lt (max (BLOCK_SECTORS * b) first)
-    (min (BLOCK_SECTORS * b + BLOCK_SECTORS) (first + count))
 
 -- the blocks of the range are flagged besides
 pub record FlagsAfter (first count : ℕ) (old new : List Bool) : Type 0 where

@@ -1,12 +1,26 @@
 -- Blocks that a list of writes touches, and writes that lie within a disk.
-use Rattle.std.proofs.Common.{◌≡◌, ℕ, zero, suc, ◌+◌, ◌/◌, ◌<◌, ◌≤◌, List, [], ◌∷◌, ◌++◌, Bool, true, false, ◌||◌, ◌&&◌, nat_eq, sym, ap, refl, ◌∙◌, arith, inl, inr}
-use Rattle.std.specs.List.{list_any, range_with_len, AllByRecursion}
+use Rattle.std.proofs.Common.{◌≡◌, ℕ, zero, suc, ◌+◌, ◌/◌, ◌<◌, ◌≤◌, List, [], ◌∷◌, ◌++◌, map, Bool, true, false, ◌||◌, ◌&&◌, nat_eq, sym, ap, refl, ◌∙◌, arith, inl, inr}
+use Rattle.std.specs.List.{filter, list_any, range_with_len, AllByRecursion}
 use Rattle.std.proofs.Math.Bool.{or-true}
 use Rattle.std.proofs.lemmas.Bool.{cases_eq, eqb-true, eq-eqb}
+use Rattle.std.proofs.lemmas.List.Elements.{filter_agree}
 use Rattle.std.proofs.lemmas.Map.Views.{any-filter_same}
 use Rattle.sector_model.specs.Disk.{Write, Fits}
 use Rattle.sector_model.specs.declared.run.TheConstants.{BLOCK_SECTORS}
-use Rattle.sector_model.specs.Run.{touches, touched_blocks, block_count, in_blocks}
+use Rattle.sector_model.specs.Run.{meets, met_blocks, range_of, touches, touched_blocks, block_count, in_blocks}
+
+-- two tests that agree on the numbers of a range keep the same of them
+pub filter-range_same : (p q : ℕ → Bool) (a n : ℕ) → ((k : ℕ) → a ≤ k → k < a + n → p k ≡ q k) → filter p (range_with_len a n) ≡ filter q (range_with_len a n)
+filter-range_same p q a zero same = refl
+filter-range_same p q a (suc n) same =
+    rw (same a (omega arith) (omega arith), filter-range_same p q (a + 1) n (λ k from less. same k (omega (arith, from)) (omega (arith, less)))) refl
+
+any_met : (block : ℕ) (ws : List Write) → list_any (touches block) ws ≡ list_any (λ r. meets block r.first r.count) (map range_of ws)
+any_met block [] = refl
+any_met block (w ∷ ws) = ap (λ x. touches block w || x) (any_met block ws)
+
+pub touched_are_met : (c : ℕ) (ws : List Write) → touched_blocks c ws ≡ met_blocks c (map range_of ws)
+touched_are_met c ws = filter_agree (λ b. list_any (touches b) ws) (λ b. list_any (λ r. meets b r.first r.count) (map range_of ws)) (λ b. any_met b ws) (range_with_len 0 (block_count c))
 
 -- whether sector s is of a touched block: its block is one of the disk's, and a write touches it
 pub in_touched : (c s : ℕ) (ws : List Write) → in_blocks (touched_blocks c ws) s ≡ (list_any (touches (s / BLOCK_SECTORS)) ws && list_any (nat_eq (s / BLOCK_SECTORS)) (range_with_len 0 (block_count c)))

@@ -1,9 +1,9 @@
 -- What the definitions say together. Each is the contract of a public function of laws.rt whose
 -- body does nothing.
-use Rattle.std.specs.Prelude.{◌≡◌, ℕ, ◌+◌, ◌<◌, ◌≤◌, ◌^◌, List, ◌++◌, length, Bool, false, ◌&&◌, ◌||◌, nat_lt, nat_le}
+use Rattle.std.specs.Prelude.{◌≡◌, ℕ, ◌+◌, ◌<◌, ◌≤◌, ◌^◌, List, ◌++◌, length, map, Bool, false, ◌&&◌, ◌||◌, nat_lt, nat_le}
 use Rattle.std.specs.List.{fold, flat_map, All}
 use Rattle.sector_model.specs.Disk.{Write, after_write, fold_writes}
-use Rattle.sector_model.specs.Run.{end_of, in_runs, runs_of, AreSpaced}
+use Rattle.sector_model.specs.Run.{end_of, in_runs, runs_of, AreSpaced, met_blocks, range_of, touched_blocks}
 use Rattle.sector_model.specs.Page.{PageContents, areas_from, page_of, ArePages, LiesWithin}
 use Rattle.sector_model.specs.VolumeContents.{VolumeContents, IsSized, IsFlushed, is_loose, loose_count, volume_written, volume_zeroed, volume_flushed, IsBrokenAt, volume_filled, loose_sectors, DiffersOnlyWhereLoose}
 use Rattle.sector_model.specs.declared.run.Run.{Run}
@@ -14,6 +14,11 @@ abbrev pub FoldsJoin : Type 0
 FoldsJoin = (capacity : ℕ) (earlier later : List Write)
     → fold_writes capacity (earlier ++ later)
     ≡ fold after_write (fold_writes capacity earlier) later
+
+-- the blocks that writes touch are those that their ranges meet: what is written doesn't matter
+abbrev pub TouchedAreMet : Type 0
+TouchedAreMet = (capacity : ℕ) (writes : List Write)
+    → touched_blocks capacity writes ≡ met_blocks capacity (map range_of writes)
 
 -- the runs of a test are spaced, and have exactly the sectors below the capacity that pass it
 abbrev pub RunsAreSpaced : Type 0

@@ -11,16 +11,32 @@ use Rattle.sector_model.specs.declared.run.Run.{Run}
 abbrev pub block_count : (capacity : ℕ) → ℕ
 block_count capacity = (capacity + (BLOCK_SECTORS - 1)) / BLOCK_SECTORS
 
--- the write replaces a sector of the block: the two ranges have a sector in common
-abbrev pub touches : (block : ℕ) → Write → Bool
-touches block w =
-    nat_lt (max (BLOCK_SECTORS * block) w.first)
-    (min (BLOCK_SECTORS * block + BLOCK_SECTORS) (w.first + length w.sectors))
+-- the block and the range of `count` sectors from `first` on have a sector in common
+abbrev pub meets : (block : ℕ) (first count : ℕ) → Bool
+meets block first count =
+    nat_lt (max (BLOCK_SECTORS * block) first)
+    (min (BLOCK_SECTORS * block + BLOCK_SECTORS) (first + count))
 
--- the blocks of a disk of which a write replaces a sector, ascending
+-- the blocks of a disk that pass a test, ascending
+abbrev pub blocks_where : (capacity : ℕ) (test : ℕ → Bool) → List ℕ
+blocks_where capacity test = filter test (range_with_len 0 (block_count capacity))
+
+-- the blocks of a disk that one of the runs meets
+abbrev pub met_blocks : (capacity : ℕ) (runs : List Run) → List ℕ
+met_blocks capacity runs =
+    blocks_where capacity (λ block. list_any (λ r. meets block r.first r.count) runs)
+
+-- the write replaces a sector of the block
+abbrev pub touches : (block : ℕ) → Write → Bool
+touches block w = meets block w.first (length w.sectors)
+
+-- the blocks of a disk of which a write replaces a sector
 abbrev pub touched_blocks : (capacity : ℕ) (writes : List Write) → List ℕ
-touched_blocks capacity writes =
-    filter (λ block. list_any (touches block) writes) (range_with_len 0 (block_count capacity))
+touched_blocks capacity writes = blocks_where capacity (λ block. list_any (touches block) writes)
+
+-- the sectors that a write replaces
+abbrev pub range_of : Write → Run
+range_of w = record { first = w.first; count = length w.sectors }
 
 -- behind the last sector of a run
 abbrev pub end_of : Run → ℕ

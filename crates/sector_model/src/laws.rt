@@ -1,11 +1,16 @@
 //! Laws of the definitions. Each function's contract is the law, and its body does nothing.
 ghost use Rattle.std.specs.Prelude.{ℕ};
-ghost use Rattle.sector_model.specs.Laws.{FoldsJoin, RunsAreSpaced, RunsAreExact, RunsEndWithin, PagesJoin, PageThenRest, AreasFromAreExact, PagesAreExact, PagesLieWithin, VolumesKeepTheirSize, FillingNothing, FillingLeavesOthers, EachIsAFilling, FillingsAreRead, DiffersInARow, LooseThen, FlushedIsNoneLoose, BrokenIsWritten};
+ghost use Rattle.sector_model.specs.Laws.{FoldsJoin, TouchedAreMet, RunsAreSpaced, RunsAreExact, RunsEndWithin, PagesJoin, PageThenRest, AreasFromAreExact, PagesAreExact, PagesLieWithin, VolumesKeepTheirSize, FillingNothing, FillingLeavesOthers, EachIsAFilling, FillingsAreRead, DiffersInARow, LooseThen, FlushedIsNoneLoose, BrokenIsWritten};
 ghost use Rattle.sector_model.specs.VolumeContents.{VolumeContents, IsSized};
 
 /// What a list of writes leaves is what its later part leaves of what its earlier part left.
 pub fn folds_join()
     ensures { FoldsJoin }
+{}
+
+/// The blocks that writes touch are those that the writes' ranges meet.
+pub fn touched_blocks_are_met()
+    ensures { TouchedAreMet }
 {}
 
 /// The maximal runs of the sectors that pass a test are spaced, and have exactly these sectors.

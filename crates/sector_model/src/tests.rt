@@ -2,14 +2,14 @@ ghost use Rattle.std.specs.Prelude.{◌≡◌, ◌≤◌, ◌*◌, ◌<◌, List
 ghost use Rattle.std.specs.List.Sorted.{IsStrictlyIncreasing};
 ghost use Rattle.sector_model.specs.Sector.{filled, zero_sector};
 ghost use Rattle.sector_model.specs.Disk.{fold_writes};
-ghost use Rattle.sector_model.specs.Run.{touched_blocks, areas_of, complement_of, next_run, end_of};
+ghost use Rattle.sector_model.specs.Run.{touched_blocks, met_blocks, areas_of, complement_of, next_run, end_of};
 ghost use Rattle.sector_model.specs.Page.{page_of};
 ghost use Rattle.sector_model.specs.VolumeContents.{volume_written, volume_zeroed, volume_flushed, volume_filled};
 
 use crate::{
     Page, Run, Runs, SECTOR_BYTES, Sector, SectorList, broken_volumes, folds_join,
-    loose_sectors_after, pages_join, pages_lie_within, runs_are_exact, volume_fillings,
-    volumes_keep_their_size,
+    loose_sectors_after, pages_join, pages_lie_within, runs_are_exact,
+    touched_blocks_are_met, volume_fillings, volumes_keep_their_size,
 };
 use std::process::Abort;
 use std::test::Fail;
@@ -28,6 +28,11 @@ fn definitions_on_small_disks()
         (record { first = 128; sectors = filled 1 ∷ [] } ∷ []) ≡ 1 ∷ [] }
     ensures one { touched_blocks 1 (record { first = 0; sectors = filled 1 ∷ [] } ∷ []) ≡ 0 ∷ [] }
     ensures none { touched_blocks 128 [] ≡ [] }
+    // Blocks that runs meet: the last sector of one, the first of the next, and no sector at all.
+    ensures met { met_blocks 384 (record { first = 127; count = 2 }
+        ∷ record { first = 300; count = 0 } ∷ []) ≡ 0 ∷ 1 ∷ [] }
+    ensures met_once { met_blocks 256 (record { first = 130; count = 1 }
+        ∷ record { first = 128; count = 128 } ∷ []) ≡ 1 ∷ [] }
     // Areas at capacities around one block, and their complements.
     ensures whole { areas_of 128 (0 ∷ []) ≡ record { first = 0; count = 128 } ∷ [] }
     ensures short { areas_of 127 (0 ∷ []) ≡ record { first = 0; count = 127 } ∷ [] }
@@ -87,6 +92,7 @@ fn run(first: u64, count: u64) -> Run
 fn the_definitions_compute_on_small_disks() {
     definitions_on_small_disks();
     folds_join();
+    touched_blocks_are_met();
     runs_are_exact();
     pages_join();
     pages_lie_within();

@@ -7,8 +7,9 @@ use Rattle.std.proofs.lemmas.List.{take_all, ext_get_or, get_or-take, get_or-dro
 use Rattle.std.proofs.lemmas.List.FromFn.{length-map-range_with_len, get_or-map-range_with_len}
 use Rattle.std.proofs.lemmas.Option.{slice_get_past, slice_get-get_or, get_or_from_slice_get, unwrap_or-slice_get}
 use Rattle.sector_model.proofs.Replaced.{length-replaced, replaced-before, replaced-within, replaced-behind}
+use Rattle.sector_model.proofs.Touched.{filter-range_same}
 use Rattle.snapshot_chain.proofs.Writes.{run_before, run_from}
-use Rattle.snapshot_chain.proofs.Touching.{filter-within, among, has_more}
+use Rattle.snapshot_chain.proofs.Touching.{among, has_more}
 use Rattle.sector_model.specs.Sector.{zero_sector}
 use Rattle.sector_model.specs.Run.{block_count, touches}
 use Rattle.sector_model.specs.Disk.{replaced}
@@ -175,7 +176,7 @@ written_state c layers ids free freeze_room merge_room first sectors new long fi
     contents = map-same (sector_found (set layers (length ids) new)) (λ s. unwrap_or (run_at first sectors s) (sector_found layers s)) 0 c each ∙ sym (replaced-made (sector_found layers) first sectors c fits)
 
     blocks : blocks_in c (set layers (length ids) new) ≡ with_touched c (record { first = first; sectors = sectors }) (blocks_in c layers)
-    blocks = filter-within (has_found (set layers (length ids) new)) (λ b. list_any (nat_eq b) (blocks_in c layers) || touches b (record { first = first; sectors = sectors })) 0 (block_count c)
+    blocks = filter-range_same (has_found (set layers (length ids) new)) (λ b. list_any (nat_eq b) (blocks_in c layers) || touches b (record { first = first; sectors = sectors })) 0 (block_count c)
         (λ b from less. any-same (λ place. is_some (found (set layers (length ids) new) b place)) (λ place. is_some (option_or (run_at first sectors (128 * b + place)) (found layers b place))) 0 128
         (λ place low within. ap is_some (more b place (omega (arith, within))))
         ∙ has_more first sectors b (found layers b)

@@ -9,16 +9,11 @@ use Rattle.std.proofs.lemmas.Option.{slice_get_past}
 use Rattle.std.proofs.lemmas.List.Folds.{list_any-append}
 use Rattle.std.proofs.lemmas.Map.Views.{any-filter_same}
 use Rattle.sector_model.specs.Disk.{Write}
-use Rattle.sector_model.specs.Run.{touches, touched_blocks, block_count}
+use Rattle.sector_model.specs.Run.{meets, touches, touched_blocks, block_count}
 use Rattle.sector_model.specs.declared.sector.Sector.{Sector}
-use Rattle.sector_model.proofs.Touched.{any_below}
+use Rattle.sector_model.proofs.Touched.{any_below, filter-range_same}
 use Rattle.snapshot_chain.specs.Page128.{run_at}
 use Rattle.snapshot_chain.specs.Chain.{with_touched}
-
-pub filter-within : (p q : ℕ → Bool) (a n : ℕ) → ((k : ℕ) → a ≤ k → k < a + n → p k ≡ q k) → filter p (range_with_len a n) ≡ filter q (range_with_len a n)
-filter-within p q a zero same = refl
-filter-within p q a (suc n) same =
-    rw (same a (omega arith) (omega arith), filter-within p q (a + 1) n (λ k from less. same k (omega (arith, from)) (omega (arith, less)))) refl
 
 -- whether a number of a range is among those that pass a test
 pub among : (p : ℕ → Bool) (b n : ℕ) → b < n → list_any (nat_eq b) (filter p (range_with_len 0 n)) ≡ p b
@@ -30,7 +25,7 @@ among p b n less =
     and_true false = refl
 
 pub touched_push : (c : ℕ) (ws : List Write) (w : Write) → with_touched c w (touched_blocks c ws) ≡ touched_blocks c (ws ++ w ∷ [])
-touched_push c ws w = filter-within (λ b. list_any (nat_eq b) (touched_blocks c ws) || touches b w) (λ b. list_any (touches b) (ws ++ w ∷ [])) 0 (block_count c)
+touched_push c ws w = filter-range_same (λ b. list_any (nat_eq b) (touched_blocks c ws) || touches b w) (λ b. list_any (touches b) (ws ++ w ∷ [])) 0 (block_count c)
     (λ b from less. ap (λ x. x || touches b w) (among (λ k. list_any (touches k) ws) b (block_count c) (omega (arith, less)))
     ∙ sym (list_any-append (touches b) ws (w ∷ []) ∙ ap (λ x. list_any (touches b) ws || x) (or-false (touches b w))))
 
@@ -49,9 +44,9 @@ some_at first xs s = elim (cases_lt s first) [
     long (x ∷ xs) zero less = refl
     long (x ∷ xs) (suc k) less = long xs k (omega (arith, less))
 
-meets : (low high base a n : ℕ) → list_any (λ p. leb low (base + p) && ltb (base + p) high) (range_with_len a n) ≡ ltb (max (base + a) low) (min (base + a + n) high)
-meets low high base a zero = sym (le-ltb (max (base + a) low) (min (base + a + 0) high) (omega arith))
-meets low high base a (suc n) = ap (λ x. (leb low (base + a) && ltb (base + a) high) || x) (meets low high base (a + 1) n) ∙ grind (arith, nat_tests)
+any_between : (low high base a n : ℕ) → list_any (λ p. leb low (base + p) && ltb (base + p) high) (range_with_len a n) ≡ ltb (max (base + a) low) (min (base + a + n) high)
+any_between low high base a zero = sym (le-ltb (max (base + a) low) (min (base + a + 0) high) (omega arith))
+any_between low high base a (suc n) = ap (λ x. (leb low (base + a) && ltb (base + a) high) || x) (any_between low high base (a + 1) n) ∙ grind (arith, nat_tests)
 
 any-or : (f g h : ℕ → Bool) (xs : List ℕ) → ((k : ℕ) → h k ≡ (f k || g k)) → list_any h xs ≡ (list_any f xs || list_any g xs)
 any-or f g h [] same = refl
@@ -74,12 +69,12 @@ pub has_more : (first : ℕ) (xs : List Sector) (block : ℕ) (old : ℕ → Opt
 has_more first xs block old =
     any-or (λ p. is_some (old p)) (λ p. leb first (128 * block + p) && ltb (128 * block + p) (first + length xs)) (λ p. is_some (option_or (run_at first xs (128 * block + p)) (old p))) (range_with_len 0 128)
     (λ p. either (run_at first xs (128 * block + p)) (old p) ∙ ap (λ x. is_some (old p) || x) (some_at first xs (128 * block + p)))
-    ∙ ap (λ x. list_any (λ p. is_some (old p)) (range_with_len 0 128) || x) (meets first (first + length xs) (128 * block) 0 128 ∙ ends)
+    ∙ ap (λ x. list_any (λ p. is_some (old p)) (range_with_len 0 128) || x) (any_between first (first + length xs) (128 * block) 0 128 ∙ ends)
   where
     either : (a b : Option Sector) → is_some (option_or a b) ≡ (is_some b || is_some a)
     either None b = sym (or-false (is_some b))
     either (Some x) None = refl
     either (Some x) (Some y) = refl
 
-    ends : ltb (max (128 * block + 0) first) (min (128 * block + 0 + 128) (first + length xs)) ≡ touches block (record { first = first; sectors = xs })
+    ends : ltb (max (128 * block + 0) first) (min (128 * block + 0 + 128) (first + length xs)) ≡ meets block first (length xs)
     ends = let e : 128 * block + 0 ≡ 128 * block = omega arith in ap (λ n. ltb (max n first) (min (n + 128) (first + length xs))) e
