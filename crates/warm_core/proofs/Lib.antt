@@ -1,0 +1,5 @@
+pub mod Counting
+pub mod Numbers
+pub mod Answering
+pub mod NumbersStay
+pub mod Holding
