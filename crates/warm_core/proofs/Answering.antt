@@ -41,7 +41,7 @@ answers-between machine c d log b snap ground =
     let within = ground.snap_is.within in
     ids_answer_between machine c d b.mark snap.id b.id log (ground.base_is b refl) (omega (arith, low, is)) (omega (arith, within, is))
 
-answer-not-err : {A B : Type 0} (x : A) (y : B) → Ok x ≡ Err y → ⊥
+pub answer-not-err : {A B : Type 0} (x : A) (y : B) → Ok x ≡ Err y → ⊥
 answer-not-err x y h = cc
 
 must-be-full-at : (machine c d : ℕ) (log : List Entry) (base : Option Base) (snap : Snapped) (found : Option ChangeId) → IsGround machine c d log base snap → is_unfinished base (Some snap) ≡ true → IsSome base

@@ -3,3 +3,4 @@ pub mod Numbers
 pub mod Answering
 pub mod NumbersStay
 pub mod Holding
+pub mod Stages
