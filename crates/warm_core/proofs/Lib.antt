@@ -4,3 +4,4 @@ pub mod Answering
 pub mod NumbersStay
 pub mod Holding
 pub mod Stages
+pub mod Worlds

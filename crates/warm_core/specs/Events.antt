@@ -90,15 +90,15 @@ abbrev pub page_end_of : (capacity start : ℕ) → Result (List Run) (Option Ch
 page_end_of capacity start (Ok areas) = start + (page_of capacity areas start).covered
 page_end_of capacity start (Err in_force) = start
 
--- what the snapshot that is copied and the stage's numbers make of the world
+-- what the snapshot that is copied and the stage's numbers make of the world, where a stage runs
+abbrev pub at_stage : (Snapped → StageState → World → World) → Option Snapped → Option StageState
+    → World → World
+at_stage f (Some snap) (Some t) w = f snap t w
+at_stage f (Some snap) None w = w
+at_stage f None stage w = w
+
 abbrev pub by_stage : (Snapped → StageState → World → World) → World → World
 by_stage f w = at_stage f w.snap w.stage w
-  where
-    at_stage : (Snapped → StageState → World → World) → Option Snapped → Option StageState
-        → World → World
-    at_stage f (Some snap) (Some t) w = f snap t w
-    at_stage f (Some snap) None w = w
-    at_stage f None stage w = w
 
 -- the base that a finished stage leaves: its snapshot, where that has an identifier
 abbrev pub base_of : (mark : ℕ) → Option ChangeId → Option Base
