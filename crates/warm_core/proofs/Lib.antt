@@ -5,3 +5,7 @@ pub mod NumbersStay
 pub mod Holding
 pub mod Stages
 pub mod Worlds
+pub mod Begins
+pub mod Ends
+pub mod Entries
+pub mod Core

@@ -222,7 +222,7 @@ zeroed-stands machine c d log base snap t v run ground stands may =
 
 -- ---- a flush
 
-same_items : (xs ys : List Sector) → length xs ≡ length ys → ((s : ℕ) → s < length xs → slice_get xs s ≡ slice_get ys s) → xs ≡ ys
+pub same_items : (xs ys : List Sector) → length xs ≡ length ys → ((s : ℕ) → s < length xs → slice_get xs s ≡ slice_get ys s) → xs ≡ ys
 same_items xs ys long same =
     same_lists xs ys long (λ k x less. sym (unwrap_or-slice_get xs k x) ∙ ap (λ (o : Option Sector). unwrap_or o x) (same k less) ∙ unwrap_or-slice_get ys k x)
 

@@ -158,8 +158,8 @@ pub record MayAddAll (more : List Entry) (w : World) : Type 0 where
       → list_any (λ entry. removes snap.id entry.act) more ≡ true → MayLose w)
 
 abbrev pub EntriesKeepSound : Type 0
-EntriesKeepSound = (more : List Entry) (w : World) → IsSound w → MayAddAll more w
-    → IsSound (record w { log = w.log ++ more })
+EntriesKeepSound = (more : List Entry) (w : World) → w.capacity < 2 ^ 64 → IsSound w
+    → MayAddAll more w → IsSound (record w { log = w.log ++ more })
 
 -- a world that was complete up to a place stays so: the volume is what the log up to that place
 -- leaves, and nothing of it is loose
