@@ -9,3 +9,5 @@ pub mod Begins
 pub mod Ends
 pub mod Entries
 pub mod Core
+pub mod Pieces
+pub mod Answered

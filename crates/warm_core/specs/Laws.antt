@@ -1,11 +1,11 @@
 -- What the definitions say together. Each law is the contract of a public function of laws.rt whose
 -- body does nothing. Those on stages speak of one stage and its volume at a log, so that whoever
 -- has only these can use them; those on worlds are made of them.
-use Rattle.std.specs.Prelude.{◌≡◌, ℕ, ◌+◌, ◌<◌, ◌≤◌, ◌^◌, ◌⊎◌, List, [], ◌∷◌, ◌++◌, length, take, Bool, true, false, Option, Some, None, Ok, Err}
+use Rattle.std.specs.Prelude.{◌≡◌, ℕ, ◌+◌, ◌<◌, ◌≤◌, ◌^◌, ◌⊎◌, List, [], ◌∷◌, ◌++◌, length, take, Bool, true, false, Option, Some, None, IsSome, Ok, Err, IsErr}
 use Rattle.std.specs.Option.{ForSome}
 use Rattle.std.specs.List.{list_any}
-use Rattle.sector_model.specs.Run.{end_of}
-use Rattle.sector_model.specs.Page.{PageContents}
+use Rattle.sector_model.specs.Run.{areas_of}
+use Rattle.sector_model.specs.Page.{PageContents, page_of, LiesWithin}
 use Rattle.sector_model.specs.VolumeContents.{VolumeContents, IsSized, IsFlushed, IsBrokenAt, DiffersOnlyWhereLoose, volume_flushed, volume_zeroed}
 use Rattle.sector_model.specs.declared.run.Run.{Run}
 use Rattle.change_id.specs.declared.ChangeId.{ChangeId}
@@ -18,7 +18,7 @@ use Rattle.warm_core.specs.declared.disk_world.Base.{Base}
 use Rattle.warm_core.specs.declared.event.Event.{Event}
 use Rattle.warm_core.specs.declared.stage_state.StageState.{StageState}
 use Rattle.warm_core.specs.StageState.{begun, IsInOrder, with_page, made_full, with_piece, at_its_end, IsPiece, MayAsk, MayCopy, MayZero, MayFlush, left_to_go}
-use Rattle.warm_core.specs.Staged.{is_unfinished, disk_at, IsFullCopy, Staged, blocks_asked, answer, StageFits, StageHolds, with_copy}
+use Rattle.warm_core.specs.Staged.{is_unfinished, disk_at, IsFullCopy, Staged, blocks_asked, answer, HasToBeFull, StageFits, StageHolds, with_copy}
 use Rattle.warm_core.specs.World.{World, IsSnapOf, IsStart, IsSound, MayLose}
 use Rattle.warm_core.specs.Events.{MayHappen, after, page_end_of, Follows}
 use Rattle.warm_core.specs.Piece.{piece_of, Reaches, IsPageOf, MayBeNext}
@@ -105,6 +105,34 @@ StagesWithVolumesStay = (machine capacity disk : ℕ) (log : List Entry) (base :
     → IsGround machine capacity disk log base snap
     → StageStands capacity disk log base snap t v
     → StagesStay machine capacity disk log base snap t v
+
+-- a query answers a stage the areas of the blocks that it asks for, or that a partial one has to
+-- become a full one: exactly where the disk was reset since the base. A page of the answer lies
+-- within the disk.
+abbrev pub IsAnswered : (machine capacity disk : ℕ) → List Entry → Option Base → Snapped
+    → (full : Bool) → Type 0
+IsAnswered machine capacity disk log base snap full =
+    (answer machine capacity disk log base snap full
+    ≡ Ok (areas_of capacity (blocks_asked capacity disk log base snap full)))
+    ⊎ ((full ≡ false) × HasToBeFull disk log base snap
+    × IsErr (answer machine capacity disk log base snap full))
+
+pub record AnswersTell (machine capacity disk : ℕ) (log : List Entry) (base : Option Base)
+    (snap : Snapped) (full : Bool) : Type 0 where
+  pub answered : IsAnswered machine capacity disk log base snap full
+  -- and not both
+  pub told : (areas : List Run) → answer machine capacity disk log base snap full ≡ Ok areas
+      → areas ≡ areas_of capacity (blocks_asked capacity disk log base snap full)
+  pub strange : full ≡ false → HasToBeFull disk log base snap
+      → IsErr (answer machine capacity disk log base snap full)
+  pub pages : (start : ℕ) → start < capacity → LiesWithin capacity (page_of capacity
+      (areas_of capacity (blocks_asked capacity disk log base snap full)) start)
+
+abbrev pub StagesAreAnswered : Type 0
+StagesAreAnswered = (machine capacity disk : ℕ) (log : List Entry) (base : Option Base)
+    (snap : Snapped) (full : Bool) → IsGround machine capacity disk log base snap
+    → is_unfinished base (Some snap) ≡ true → (full ≡ false → IsSome base)
+    → AnswersTell machine capacity disk log base snap full
 
 -- a stage that begins stands, over whatever is staged, where its snapshot is unfinished
 abbrev pub StagesBegin : Type 0

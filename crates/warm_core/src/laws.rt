@@ -1,5 +1,5 @@
 //! Laws of the definitions. Each function's contract is the law, and its body does nothing.
-ghost use Rattle.warm_core.specs.Laws.{StageNumbersStay, StagesWithVolumesStay, StagesBegin, FillingsStay, PiecesMayBeNext, StagesEnd, StartsAreSound, EventsKeepSound, EntriesKeepSound, LawOfTheCore};
+ghost use Rattle.warm_core.specs.Laws.{StagesAreAnswered, StageNumbersStay, StagesWithVolumesStay, StagesBegin, FillingsStay, PiecesMayBeNext, StagesEnd, StartsAreSound, EventsKeepSound, EntriesKeepSound, LawOfTheCore};
 
 /// What is known of a stage and of its volume stays so under each of its steps and under entries of
 /// the machine's log. A finished stage leaves a base, and a piece that broke what a later stage
@@ -8,6 +8,12 @@ pub fn stages_stay()
     ensures begun { StagesBegin }
     ensures numbers { StageNumbersStay }
     ensures volumes { StagesWithVolumesStay }
+{}
+
+/// A query answers a stage the areas of the blocks that it asks for, in pages that lie within the
+/// disk; or it is refused, exactly where the disk was reset since the base of a partial one.
+pub fn stages_are_answered()
+    ensures { StagesAreAnswered }
 {}
 
 /// Whatever the loose sectors of a volume hold, what is known of it between stages stays so.

@@ -16,6 +16,7 @@ mod stage_state;
 pub use disk_world::{Base, DiskWorld};
 pub use event::{CoreRefused, Event};
 pub use laws::{
-    fillings_stay, pieces_may_be_next, stages_end, stages_stay, whatever_happens, worlds_stay_sound,
+    fillings_stay, pieces_may_be_next, stages_are_answered, stages_end, stages_stay,
+    whatever_happens, worlds_stay_sound,
 };
 pub use stage_state::{MAX_PIECE_SECTORS, Piece, StageState};
