@@ -5,7 +5,7 @@ use Rattle.std.proofs.Math.Bool.{or-false, or_assoc}
 use Rattle.std.proofs.lemmas.Bool.{ltb-true, ltb-false}
 use Rattle.std.proofs.lemmas.Bool.Decides.{nat_tests}
 use Rattle.sector_model.specs.Run.{end_of, has, in_runs, AreSpacedFrom}
-use Rattle.sector_model.specs.LooseRuns.{hull, joined}
+use Rattle.sector_model.specs.Joining.{hull, joined}
 use Rattle.sector_model.specs.declared.run.Run.{Run}
 use Rattle.sector_model.proofs.Spacing.{from_earlier}
 

@@ -1,8 +1,9 @@
 -- A volume whose loose sectors are told as runs, and what runs say of sectors.
-use Rattle.std.specs.Prelude.{◌≡◌, ℕ, ◌-◌, ◌<◌, min, max, List, [], ◌∷◌, length, map, Bool, nat_lt, if◌then◌else◌, ◌^◌, Option, Some, None, IfSome}
-use Rattle.std.specs.List.{range_with_len}
-use Rattle.sector_model.specs.Run.{end_of, in_runs, AreSpaced}
-use Rattle.sector_model.specs.VolumeContents.{VolumeContents}
+use Rattle.std.specs.Prelude.{◌≡◌, ℕ, ◌+◌, ◌≤◌, List, [], length, map, Bool, ◌||◌}
+use Rattle.std.specs.List.{range_with_len, sum_by, All}
+use Rattle.sector_model.specs.Run.{end_of, has, in_runs, AreSpaced}
+use Rattle.sector_model.specs.Disk.{replaced}
+use Rattle.sector_model.specs.VolumeContents.{VolumeContents, loose_count, volume_written, volume_flushed}
 use Rattle.sector_model.specs.declared.run.Run.{Run}
 use Rattle.sector_model.specs.declared.sector.Sector.{Sector}
 
@@ -14,29 +15,26 @@ flags_of count runs = map (in_runs runs) (range_with_len 0 count)
 abbrev pub volume_of : (sectors : List Sector) (loose : List Run) → VolumeContents
 volume_of sectors loose = record { sectors = sectors; loose = flags_of (length sectors) loose }
 
--- the shortest run that has the sectors of both
-abbrev pub hull : Run → Run → Run
-hull r q = record { first = min r.first q.first; count = max (end_of r) (end_of q) - min r.first q.first }
-
--- the runs and one more: those that end before it stay, those that meet it or are next to it are
--- one with it
-abbrev pub joined : (more : Run) → List Run → List Run
-joined more [] = more ∷ []
-joined more (r ∷ rs) =
-    if nat_lt (end_of r) more.first then r ∷ joined more rs
-    else if nat_lt (end_of more) r.first then more ∷ r ∷ rs
-    else joined (hull more r) rs
-
--- the same where no run may be left to join
-abbrev pub left_over : (left : Option Run) → List Run → List Run
-left_over None rs = rs
-left_over (Some more) rs = joined more rs
-
--- a run that is left ends at a number of 64 bits
-abbrev pub Fits64 : (left : Option Run) → Type 0
-Fits64 left = IfSome left (λ r. end_of r < 2 ^ 64)
-
 -- spaced runs are told by the sectors that they have
 abbrev pub RunsAreUnique : Type 0
 RunsAreUnique = (a b : List Run) → AreSpaced a → AreSpaced b
     → ((sector : ℕ) → in_runs a sector ≡ in_runs b sector) → a ≡ b
+
+-- as many sectors are loose as the runs have
+abbrev pub LooseRunsCount : Type 0
+LooseRunsCount = (sectors : List Sector) (loose : List Run) → AreSpaced loose
+    → All (λ r. end_of r ≤ length sectors) loose
+    → loose_count (volume_of sectors loose) ≡ sum_by (λ r. r.count) loose
+
+-- a write makes its run loose, and a flush leaves no runs
+abbrev pub LooseRunsGrow : Type 0
+LooseRunsGrow = (sectors : List Sector) (loose new : List Run) (first : ℕ) (written : List Sector)
+    → first + length written ≤ length sectors
+    → ((sector : ℕ) → in_runs new sector ≡ (in_runs loose sector
+    || has sector (record { first = first; count = length written })))
+    → volume_of (replaced sectors first written) new
+    ≡ volume_written first written (volume_of sectors loose)
+
+abbrev pub NoLooseRuns : Type 0
+NoLooseRuns = (sectors : List Sector) (loose : List Run)
+    → volume_of sectors [] ≡ volume_flushed (volume_of sectors loose)

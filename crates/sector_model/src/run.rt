@@ -143,10 +143,7 @@ impl Runs {
     pub fn next_from(&self, at: u64) -> Option<Run>
         ensures { result ≡ next_run at self.now }
     {
-        let runs = self.as_slice();
-        let index = runs.partition_point(|run| run.ends_by(at));
-        let run = runs.get(index)?;
-        Some(run.from_sector(at))
+        next_run(self.as_slice(), at)
     }
 
     /// The runs, in ascending order.

@@ -1,7 +1,7 @@
 //! Runs one by one: none of them, one more, and the next one of a list that is borrowed.
 ghost use Rattle.std.specs.Prelude.{◌≡◌, [], ◌∷◌, ◌++◌, ◌+◌, ◌<◌, ◌^◌, ℕ, List, IfOk, OnOk, ◌||◌};
 ghost use Rattle.sector_model.specs.Run.{end_of, has, in_runs, AreSpaced, next_run};
-ghost use Rattle.sector_model.specs.LooseRuns.{hull, left_over, Fits64};
+ghost use Rattle.sector_model.specs.Joining.{hull, left_over, Fits64};
 
 use crate::{NoMemory, Run, Runs};
 use std::alloc::Global;

@@ -1,7 +1,7 @@
 use Rattle.std.proofs.Common.{◌≡◌, [], ◌++◌, ◌||◌, List, drop, get_or, sym, ap, subst, ◌∙◌, arith}
 use Rattle.std.proofs.lemmas.List.{drop_all}
 use Rattle.sector_model.specs.Run.{has, in_runs, AreSpaced}
-use Rattle.sector_model.specs.LooseRuns.{joined, left_over}
+use Rattle.sector_model.specs.Joining.{joined, left_over}
 use Rattle.sector_model.specs.declared.run.Run.{Run}
 use Rattle.sector_model.proofs.Joined.{ends_fit, in_joined, joined-spaced}
 use Rattle.sector_model.proofs.run.Runs.joined.Goals as goal

@@ -1,5 +1,5 @@
 use Rattle.std.proofs.Common.{◌≡◌, ◌++◌, drop}
-use Rattle.sector_model.specs.LooseRuns.{joined, left_over, Fits64}
+use Rattle.sector_model.specs.Joining.{joined, left_over, Fits64}
 use Rattle.sector_model.proofs.run.Runs.joined.Given as goal
 
 -- what was put out and what is left are the runs and the one more

@@ -1,0 +1,24 @@
+use Rattle.std.proofs.Common.{◌≡◌, ◌≤◌, [], List, length, drop, sym, ap, subst, ◌∙◌, arith}
+use Rattle.std.specs.List.{All, sum_by}
+use Rattle.std.proofs.lemmas.List.{drop_all}
+use Rattle.std.proofs.lemmas.List.Elements.{recursion_from_All}
+use Rattle.sector_model.specs.Run.{end_of}
+use Rattle.sector_model.specs.VolumeContents.{fill_loose}
+use Rattle.sector_model.specs.LooseRuns.{flags_of}
+use Rattle.sector_model.specs.declared.run.Run.{Run}
+use Rattle.sector_model.proofs.LooseRuns.{fill_runs, fill_runs-is}
+use Rattle.sector_model.proofs.sector.SectorList.fill_loose.Goals as goal
+
+pub returns : goal.returns
+returns c =
+    let all = c.as_slice-run-items.result.now in
+    let i = c.loop-run.run-index in
+    let old = c.args.self.now in
+    let filling = c.args.filling.now in
+    let is : all ≡ c.args.loose.now = c.as_slice-run-items.ensures.same in
+    let none : drop i all ≡ [] = drop_all i all (omega arith) in
+    let ends : All (λ r. end_of r ≤ length old) all = subst (λ (rs : List Run). All (λ r. end_of r ≤ length old) rs) (sym is) c.requires.within in
+    let long : length filling ≡ sum_by (λ (r : Run). r.count) all = c.requires.long ∙ ap (λ (rs : List Run). sum_by (λ (r : Run). r.count) rs) (sym is) in
+    ap (λ (rs : List Run). fill_runs rs c.loop-run.self (drop c.loop-run.at filling)) (sym none) ∙ c.loop-run.invariant.told
+    ∙ fill_runs-is all old filling c.as_slice-run-items.ensures.spaced (recursion_from_All (λ r. end_of r ≤ length old) all ends) long
+    ∙ ap (λ (rs : List Run). fill_loose (flags_of (length old) rs) old filling) is

@@ -1,0 +1,33 @@
+//! Loose sectors of a volume, kept as runs.
+ghost use Rattle.std.specs.Prelude.{◌≡◌, ◌≤◌, length, All};
+ghost use Rattle.std.specs.List.{sum_by};
+ghost use Rattle.sector_model.specs.Run.{end_of};
+ghost use Rattle.sector_model.specs.VolumeContents.{fill_loose};
+ghost use Rattle.sector_model.specs.LooseRuns.{flags_of, RunsAreUnique, LooseRunsCount, LooseRunsGrow, NoLooseRuns};
+
+use crate::{Runs, Sector, SectorList};
+
+impl SectorList {
+    /// Puts the sectors of a filling, in order, in place of those of the runs. It takes no memory.
+    pub fn fill_loose(&mut self, loose: &Runs, filling: &[Sector])
+        requires within { All (λ run. end_of run ≤ length self.old) loose.now }
+        requires long { length filling.now ≡ sum_by (λ run. run.count) loose.now }
+        ensures { self.new ≡ fill_loose (flags_of (length self.old) loose.now) self.old filling.now }
+    {
+        let mut at = 0;
+        for run in loose.as_slice() {
+            let end = at + run.count as usize;
+            self.replace(run.first as usize, &filling[at..end]);
+            at = end;
+        }
+    }
+}
+
+/// What runs tell of loose sectors: spaced runs are told by their sectors, as many sectors are
+/// loose as they have, a write makes its run loose, and after a flush there is none.
+pub fn loose_runs_tell()
+    ensures unique { RunsAreUnique }
+    ensures count { LooseRunsCount }
+    ensures grow { LooseRunsGrow }
+    ensures none { NoLooseRuns }
+{}
