@@ -31,7 +31,7 @@ pub use link::{Facts, Link, Snapped};
 pub use may_stand::may_stand_alone;
 pub use plain_machine::PlainMachine;
 pub use query::{
-    accepts, before, between, fill_page, in_force, is_touched, read_into, sector_at, since_place,
+    accepts, before, between, entry_touches, fill_page, in_force, is_touched, read_into, sector_at, since_place,
     through,
 };
 pub use refusals::{LinkRefused, WriteRefused};

@@ -11,3 +11,4 @@ pub mod Entries
 pub mod Core
 pub mod Pieces
 pub mod Answered
+pub mod AskedLemmas

@@ -4,4 +4,5 @@ pub mod World
 pub mod Events
 pub mod Piece
 pub mod DiskWorld
+pub mod Asked
 pub mod Laws

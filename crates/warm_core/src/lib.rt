@@ -8,6 +8,7 @@
 //! entries of a log.
 #![tactic(auto)]
 
+mod asked;
 mod disk_world;
 mod event;
 mod laws;
