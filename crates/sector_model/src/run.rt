@@ -5,6 +5,7 @@ ghost use Rattle.std.specs.List.Sorted.{IsStrictlyIncreasing};
 ghost use Rattle.sector_model.specs.Run.{end_of, with_run};
 
 mod joined;
+mod loose;
 
 pub use joined::next_run;
 

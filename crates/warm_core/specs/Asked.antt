@@ -1,10 +1,13 @@
 -- Words of the functions that decide whether an event may happen: no promise of the crate.
-use Rattle.std.specs.Prelude.{◌≡◌, ℕ, ◌<◌, ◌≤◌, ◌==◌, ◌&&◌, nat_lt, nat_le, List, Bool, true, false, Option, Some, None, IsOk, IsErr}
+use Rattle.std.specs.Prelude.{◌≡◌, ℕ, ◌<◌, ◌≤◌, ◌==◌, ◌&&◌, nat_lt, nat_le, List, Bool, true, false, Option, Some, None, IfSome, IsSome, IsSomeAnd, IsOk, IsErr}
+use Rattle.std.specs.Option.{ForSome}
 use Rattle.sector_model.specs.Run.{end_of, in_blocks, touched_blocks}
 use Rattle.sector_model.specs.declared.run.Run.{Run}
 use Rattle.log_model.specs.declared.entry.Entry.{Entry}
 use Rattle.log_model.specs.declared.link.Snapped.{Snapped}
 use Rattle.log_model.specs.Entry.{writes_of, removes}
+use Rattle.log_model.specs.Marks.{mark, id_at}
+use Rattle.log_model.specs.Frozen.{off_place}
 use Rattle.log_model.specs.PlainMachine.{entry_touches, is_touched}
 use Rattle.warm_core.specs.declared.disk_world.Base.{Base}
 use Rattle.warm_core.specs.declared.event.Event.{Event}
@@ -12,7 +15,7 @@ use Rattle.warm_core.specs.declared.event.Event.TheVariants.{Machine, Begin, Pag
 use Rattle.warm_core.specs.declared.stage_state.StageState.{StageState}
 use Rattle.warm_core.specs.StageState.{has_to_write, MayAsk, MayCopy, MayZero, MayFlush}
 use Rattle.warm_core.specs.Staged.{is_unfinished, blocks_asked}
-use Rattle.warm_core.specs.World.{World}
+use Rattle.warm_core.specs.World.{World, IsLive, MayLose}
 use Rattle.warm_core.specs.Events.{answer_now}
 
 -- the blocks that the writes among the entries touch
@@ -49,6 +52,38 @@ NoneAsked blocks run = (sector : ℕ) → run.first ≤ sector → sector < end_
 abbrev pub NothingLeft : (blocks : List ℕ) → StageState → (from end : ℕ) → Type 0
 NothingLeft blocks t from end = (sector : ℕ) → from ≤ sector → sector < end
     → has_to_write blocks t sector ≡ false
+
+-- the entry removes the current snapshot while it is unfinished
+abbrev pub removes_needed : Option Base → Option Snapped → Entry → Bool
+removes_needed base None entry = false
+removes_needed base (Some snap) entry =
+    removes snap.id entry.act && is_unfinished base (Some snap)
+
+-- or that isn't needed any more
+abbrev pub IsSpared : Entry → World → Type 0
+IsSpared entry w = ForSome w.snap (λ snap. is_unfinished w.base (Some snap) ≡ true
+    → removes snap.id entry.act ≡ true → MayLose w)
+
+-- the parts of what a stage that begins asks
+pub record IsOpen (w : World) : Type 0 where
+  pub running : w.running ≡ true
+  pub not_cancelled : w.cancelled ≡ false
+  pub incomplete : w.complete ≡ None
+  pub no_stage : w.stage ≡ None
+
+pub record IsLater (base : Option Base) (snap : Option Snapped) (mark : ℕ) : Type 0 where
+  pub above_base : IfSome base (λ base. base.mark < mark)
+  pub from_current : IfSome snap (λ snap. snap.mark ≤ mark)
+
+pub record IsDue (snapshot : ℕ) (w : World) : Type 0 where
+  pub live : IsLive snapshot w.log
+  pub has_id : IsSome (id_at w.machine w.disk snapshot w.log)
+  pub later : IsLater w.base w.snap (mark snapshot w.log)
+
+pub record MayBeLast (snapshot : ℕ) (last : Bool) (w : World) : Type 0 where
+  pub stays_last : w.last ≡ true
+      → IsSomeAnd w.snap (λ snap. snap.id ≡ snapshot) × (last ≡ true)
+  pub last_is_off : last ≡ true → IsSome (off_place snapshot w.log)
 
 -- what a stage's event asks, where the stage is at hand
 abbrev pub StageMay : Event → World → Snapped → StageState → Type 0

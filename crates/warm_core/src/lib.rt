@@ -9,6 +9,7 @@
 #![tactic(auto)]
 
 mod asked;
+mod conditions;
 mod disk_world;
 mod event;
 mod laws;
