@@ -1,6 +1,6 @@
 -- Runs and one more.
 use Rattle.std.proofs.Common.{◌≡◌, ℕ, zero, suc, ◌+◌, ◌-◌, ◌<◌, ◌≤◌, ◌^◌, min, max, List, [], ◌∷◌, ◌++◌, length, drop, get_or, Bool, true, false, cond, ◌||◌, ◌&&◌, ltb, leb, Option, Some, None, refl, sym, ap, ◌∙◌, arith}
-use Rattle.std.specs.List.{list_any}
+use Rattle.std.specs.List.{list_any, AllByRecursion}
 use Rattle.std.proofs.Math.Bool.{or-false, or_assoc}
 use Rattle.std.proofs.lemmas.Bool.{ltb-true, ltb-false}
 use Rattle.std.proofs.lemmas.Bool.Decides.{nat_tests}
@@ -65,3 +65,17 @@ joined-spaced m more (r ∷ rs) spaced from some fits =
     joined-spaced-at (ltb (end_of r) more.first) (ltb (end_of more) r.first) m more r rs refl refl spaced from some fits
     (λ past. joined-spaced (end_of r + 1) more rs spaced.2 past some fits)
     (λ low wide high. joined-spaced m (hull more r) rs (from_earlier (end_of r + 1) m rs spaced.2 (omega (arith, spaced.0))) low wide high)
+
+-- joined runs end where the others do
+joined-ends-at : (a b : Bool) (e : ℕ) (more r : Run) (rs : List Run) → end_of r ≤ e → end_of more ≤ e → AllByRecursion (λ q. end_of q ≤ e) rs
+    → AllByRecursion (λ q. end_of q ≤ e) (joined more rs) → AllByRecursion (λ q. end_of q ≤ e) (joined (hull more r) rs)
+    → AllByRecursion (λ q. end_of q ≤ e) (cond a (r ∷ joined more rs) (cond b (more ∷ r ∷ rs) (joined (hull more r) rs)))
+joined-ends-at true b e more r rs here there rest behind _ = (here, behind)
+joined-ends-at false true e more r rs here there rest _ _ = (there, (here, rest))
+joined-ends-at false false e more r rs here there rest _ met = met
+
+pub joined-ends : (e : ℕ) (more : Run) (rs : List Run) → 0 < more.count → AllByRecursion (λ q. end_of q ≤ e) rs → end_of more ≤ e → AllByRecursion (λ q. end_of q ≤ e) (joined more rs)
+joined-ends e more [] some ends there = (there, tt)
+joined-ends e more (r ∷ rs) some ends there =
+    joined-ends-at (ltb (end_of r) more.first) (ltb (end_of more) r.first) e more r rs ends.0 there ends.1 (joined-ends e more rs some ends.1 there)
+    (joined-ends e (hull more r) rs (omega (arith, some)) ends.1 (omega (arith, ends.0, there, some)))

@@ -1,5 +1,5 @@
 -- What a world in memory stands for. It keeps the loose sectors of its volume as runs.
-use Rattle.std.specs.Prelude.{ℕ, ◌≤◌, All}
+use Rattle.std.specs.Prelude.{◌≡◌, ◌≤◌, All}
 use Rattle.sector_model.specs.Run.{end_of}
 use Rattle.sector_model.specs.LooseRuns.{volume_of}
 use Rattle.warm_core.specs.declared.disk_world.DiskWorld.{DiskWorld}
@@ -7,7 +7,7 @@ use Rattle.warm_core.specs.declared.event.Event.{Event}
 use Rattle.warm_core.specs.declared.event.CoreRefused.{CoreRefused}
 use Rattle.warm_core.specs.declared.event.CoreRefused.TheVariants.{NotNow, NoMemory}
 use Rattle.warm_core.specs.World.{World, IsSound}
-use Rattle.warm_core.specs.Events.{MayHappen}
+use Rattle.warm_core.specs.Events.{MayHappen, after}
 
 abbrev pub world_of : DiskWorld → World
 world_of w = record {
@@ -33,6 +33,11 @@ LooseLiesWithin w = All (λ run. end_of run ≤ w.capacity) w.loose
 pub record StandsSound (w : DiskWorld) : Type 0 where
   pub within : LooseLiesWithin w
   pub sound : IsSound (world_of w)
+
+-- what an event that was carried out leaves
+pub record Leaves (event : Event) (old new : DiskWorld) : Type 0 where
+  pub effect : world_of new ≡ after event (world_of old)
+  pub within : LooseLiesWithin new
 
 -- why a step is refused: exactly where the event may not happen, or else for want of memory
 abbrev pub IsRefusalOf : Event → World → CoreRefused → Type 0

@@ -11,9 +11,11 @@
 mod asked;
 mod conditions;
 mod disk_world;
+mod effects;
 mod event;
 mod laws;
 mod stage_state;
+mod stepping;
 
 pub use disk_world::{Base, DiskWorld};
 pub use event::{CoreRefused, Event};
@@ -22,3 +24,4 @@ pub use laws::{
     whatever_happens, worlds_stay_sound,
 };
 pub use stage_state::{MAX_PIECE_SECTORS, Piece, StageState};
+pub use stepping::step;

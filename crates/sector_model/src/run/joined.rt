@@ -1,5 +1,5 @@
 //! Runs one by one: none of them, one more, and the next one of a list that is borrowed.
-ghost use Rattle.std.specs.Prelude.{◌≡◌, [], ◌∷◌, ◌++◌, ◌+◌, ◌<◌, ◌^◌, ℕ, List, IfOk, OnOk, ◌||◌};
+ghost use Rattle.std.specs.Prelude.{◌≡◌, [], ◌∷◌, ◌++◌, ◌+◌, ◌<◌, ◌^◌, ℕ, List, IfOk, OnOk, ◌||◌, ◌≤◌, All};
 ghost use Rattle.sector_model.specs.Run.{end_of, has, in_runs, AreSpaced, next_run};
 ghost use Rattle.sector_model.specs.Joining.{hull, left_over, Fits64};
 
@@ -37,8 +37,10 @@ impl Runs {
     pub fn joined(&self, alloc: Global, more: Run) -> Result<Runs, NoMemory>
         requires some { 0 < more.count }
         requires fits { end_of more < 2 ^ 64 }
-        ensures { IfOk result (λ runs. (sector : ℕ)
+        ensures members { IfOk result (λ runs. (sector : ℕ)
             → in_runs runs sector ≡ (in_runs self.now sector || has sector more)) }
+        ensures within { IfOk result (λ runs. (end : ℕ) → All (λ run. end_of run ≤ end) self.now
+            → end_of more ≤ end → All (λ run. end_of run ≤ end) runs) }
     {
         let mut joined = Vec::new(alloc);
         let mut left = Some(more);
