@@ -8,4 +8,5 @@ pub mod Refusals
 pub mod Link
 pub mod PlainMachine
 pub mod SmallLog
+pub mod MayStand
 pub mod Laws

@@ -7,6 +7,7 @@ mod entry;
 mod folds;
 mod laws;
 mod link;
+mod may_stand;
 mod plain_machine;
 mod query;
 mod refusals;
@@ -24,8 +25,10 @@ pub use laws::{
     numbers_have_no_gap, off_is_frozen, snapshots_have_their_marks, touched_blocks_join,
 };
 pub use link::{Facts, Link, Snapped};
+pub use may_stand::may_stand_alone;
 pub use plain_machine::PlainMachine;
 pub use query::{
-    accepts, answer_page, before, between, in_force, read_into, sector_at, since_place, through,
+    accepts, answer_page, before, between, entry_touches, in_force, is_touched, read_into, sector_at,
+    since_place, through,
 };
 pub use refusals::{LinkRefused, WriteRefused};

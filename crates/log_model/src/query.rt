@@ -166,7 +166,7 @@ fn sector_after(sector: Sector, entry: &Entry, disk: u32, at: u64) -> Sector
 }
 
 /// Whether the entry touches the block of a sector of the disk.
-fn entry_touches(entry: &Entry, disk: u32, sector: u64) -> bool
+pub fn entry_touches(entry: &Entry, disk: u32, sector: u64) -> bool
     ensures { result ≡ entry_touches disk sector entry.now }
 {
     match &entry.act {
@@ -187,7 +187,7 @@ fn entry_touches(entry: &Entry, disk: u32, sector: u64) -> bool
 }
 
 /// Whether an entry of the log touches that block.
-fn is_touched(log: &[Entry], disk: u32, sector: u64) -> bool
+pub fn is_touched(log: &[Entry], disk: u32, sector: u64) -> bool
     ensures { result ≡ is_touched disk sector log.now }
 {
     log.iter().any(|entry| entry_touches(entry, disk, sector))

@@ -11,3 +11,6 @@ pub mod PageSectors
 pub mod PageMade
 pub mod Touched
 pub mod Volumes
+pub mod NextAt
+pub mod Joined
+pub mod LooseRuns

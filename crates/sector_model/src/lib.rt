@@ -6,6 +6,7 @@
 #![tactic(auto)]
 
 mod laws;
+mod loose_runs;
 mod page;
 mod run;
 mod sector;
@@ -16,8 +17,9 @@ pub use laws::{
     broken_volumes, folds_join, loose_sectors_after, pages_join, pages_lie_within, runs_are_exact,
     touched_blocks_are_met, volume_stops, volumes_keep_their_size,
 };
+pub use loose_runs::loose_runs_tell;
 pub use page::{PAGE_AREAS, Page};
-pub use run::{BLOCK_SECTORS, Run, Runs};
+pub use run::{BLOCK_SECTORS, Run, Runs, next_run};
 pub use sector::{SECTOR_BYTES, Sector, SectorList};
 use std::alloc::{AllocError, AllocFailed};
 

@@ -4,6 +4,11 @@ ghost use Rattle.std.specs.List.{sum_by};
 ghost use Rattle.std.specs.List.Sorted.{IsStrictlyIncreasing};
 ghost use Rattle.sector_model.specs.Run.{end_of, with_run};
 
+mod joined;
+mod loose;
+
+pub use joined::next_run;
+
 use crate::NoMemory;
 use std::alloc::Global;
 use std::marker::Model;
@@ -139,10 +144,7 @@ impl Runs {
     pub fn next_from(&self, at: u64) -> Option<Run>
         ensures { result ≡ next_run at self.now }
     {
-        let runs = self.as_slice();
-        let index = runs.partition_point(|run| run.ends_by(at));
-        let run = runs.get(index)?;
-        Some(run.from_sector(at))
+        next_run(self.as_slice(), at)
     }
 
     /// The runs, in ascending order.

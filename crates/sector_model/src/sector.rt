@@ -1,6 +1,8 @@
 //! Sectors, and lists of them.
 ghost use Rattle.std.specs.Prelude.{◌≡◌, IfOk, List};
 
+mod replaced;
+
 use crate::NoMemory;
 use std::alloc::Global;
 use std::marker::Model;

@@ -1,0 +1,14 @@
+pub mod Counting
+pub mod Numbers
+pub mod Answering
+pub mod NumbersStay
+pub mod Holding
+pub mod Stages
+pub mod Worlds
+pub mod Begins
+pub mod Ends
+pub mod Entries
+pub mod Core
+pub mod Pieces
+pub mod Answered
+pub mod AskedLemmas

@@ -1,0 +1,27 @@
+//! The pure core of a warm migration: the world of one disk, all that may happen to it, and what is
+//! kept of it by every list of events.
+//!
+//! A disk is copied to its volume stage after stage, each from a snapshot, while the machine writes
+//! on. The first stage is full: it copies what was ever written, and zeroes the rest. Each later one
+//! is partial: it copies what changed since the last stage that was finished. Nothing here knows
+//! devices, threads or files. All numbers count sectors, but for marks and places, which count the
+//! entries of a log.
+#![tactic(auto)]
+
+mod asked;
+mod conditions;
+mod disk_world;
+mod effects;
+mod event;
+mod laws;
+mod stage_state;
+mod stepping;
+
+pub use disk_world::{Base, DiskWorld};
+pub use event::{CoreRefused, Event};
+pub use laws::{
+    fillings_stay, pieces_may_be_next, stages_are_answered, stages_end, stages_stay,
+    whatever_happens, worlds_stay_sound,
+};
+pub use stage_state::{MAX_PIECE_SECTORS, Piece, StageState};
+pub use stepping::step;
