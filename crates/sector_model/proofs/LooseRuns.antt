@@ -133,9 +133,9 @@ replaced-part pre gap mid rest new first at long =
     let n : length front ≡ first = length-append pre gap ∙ at in
     let before : take first xs ≡ front = ap (take first) shape ∙ ap (λ k. take k (front ++ (mid ++ rest))) (sym n) ∙ take-append_seam front (mid ++ rest) in
     let behind : drop (first + length new) xs ≡ rest =
-        ap (drop (first + length new)) (shape ∙ sym (append_assoc front mid rest))
-        ∙ ap (λ k. drop k ((front ++ mid) ++ rest)) (let m : first + length new ≡ length (front ++ mid) = omega (arith, n, long, length-append front mid) in m)
-        ∙ drop-append_seam (front ++ mid) rest in
+    ap (drop (first + length new)) (shape ∙ sym (append_assoc front mid rest))
+    ∙ ap (λ k. drop k ((front ++ mid) ++ rest)) (let m : first + length new ≡ length (front ++ mid) = omega (arith, n, long, length-append front mid) in m)
+    ∙ drop-append_seam (front ++ mid) rest in
     ap (λ (ys : List Sector). ys ++ new ++ drop (first + length new) xs) before ∙ ap (λ (ys : List Sector). front ++ new ++ ys) behind
     ∙ ap (λ (ys : List Sector). ys ++ rest) (append_assoc pre gap new)
 
@@ -160,24 +160,24 @@ fill_runs-at (r ∷ rs) m pre suf filling spaced at ends long =
     let new_long : length new ≡ r.count = omega (arith, length-take r.count filling, long, sum) in
     let rest_long : length suf ≡ a + r.count + length rest = sym (ap (λ (ys : List Sector). length ys) parts.all) ∙ length-append gap (mid ++ rest) ∙ (let l = length-append mid rest in omega (arith, l, gap_long, mid_long)) in
     let made : replaced (pre ++ suf) r.first new ≡ (pre ++ (gap ++ new)) ++ rest =
-        ap (λ (ys : List Sector). replaced (pre ++ ys) r.first new) (sym parts.all)
-        ∙ replaced-part pre gap mid rest new r.first (omega (arith, at, gap_long, spaced.0)) (omega (arith, mid_long, new_long)) in
+    ap (λ (ys : List Sector). replaced (pre ++ ys) r.first new) (sym parts.all)
+    ∙ replaced-part pre gap mid rest new r.first (omega (arith, at, gap_long, spaced.0)) (omega (arith, mid_long, new_long)) in
     let front_long : length (pre ++ (gap ++ new)) ≡ end_of r = length-append pre (gap ++ new) ∙ (let l = length-append gap new in omega (arith, l, at, gap_long, new_long, spaced.0)) in
     let ends_rest : AllByRecursion (λ q. end_of q ≤ end_of r + length rest) rs =
-        subst (λ n. AllByRecursion (λ q. end_of q ≤ n) rs) (let same : m + length suf ≡ end_of r + length rest = omega (arith, rest_long, spaced.0) in same) ends.1 in
+    subst (λ n. AllByRecursion (λ q. end_of q ≤ n) rs) (let same : m + length suf ≡ end_of r + length rest = omega (arith, rest_long, spaced.0) in same) ends.1 in
     let on = fill_runs-at rs (end_of r) (pre ++ (gap ++ new)) rest more (from_earlier (end_of r + 1) (end_of r) rs spaced.2 (omega arith)) front_long ends_rest
-        (omega (arith, length-drop r.count filling, long, sum)) in
+    (omega (arith, length-drop r.count filling, long, sum)) in
     let later : map (in_runs rs) (range_with_len (end_of r) (length rest)) ≡ map (in_runs (r ∷ rs)) (range_with_len (end_of r) (length rest)) =
-        flags-same (in_runs rs) (in_runs (r ∷ rs)) (end_of r) (length rest) (λ s low less. sym (past_first r rs s low)) in
+    flags-same (in_runs rs) (in_runs (r ∷ rs)) (end_of r) (length rest) (λ s low less. sym (past_first r rs s low)) in
     let told : with_found (map (in_runs (r ∷ rs)) (range_with_len m (length suf))) suf filling
-        ≡ gap ++ (new ++ with_found (map (in_runs (r ∷ rs)) (range_with_len (end_of r) (length rest))) rest more) =
-        ap (λ (ys : List Sector). with_found (map (in_runs (r ∷ rs)) (range_with_len m (length suf))) ys filling) (sym parts.all)
-        ∙ fill-gap (in_runs (r ∷ rs)) gap (mid ++ rest) filling m (length suf) r.first (r.count + length rest) (omega (arith, gap_long, rest_long)) (omega (arith, gap_long, spaced.0))
-        (λ s low less. none_in_gap m r rs s spaced less)
-        ∙ ap (λ (ys : List Sector). gap ++ ys) (
-        ap (λ (ys : List Sector). with_found (map (in_runs (r ∷ rs)) (range_with_len r.first (r.count + length rest))) (mid ++ rest) ys) (sym (take-append-drop r.count filling))
-        ∙ fill-run (in_runs (r ∷ rs)) mid rest new more r.first (r.count + length rest) (end_of r) (length rest) (omega (arith, mid_long, new_long)) (omega (arith, mid_long)) (omega (arith, mid_long))
-        (λ s low less. in_first r rs s low less)) in
+    ≡ gap ++ (new ++ with_found (map (in_runs (r ∷ rs)) (range_with_len (end_of r) (length rest))) rest more) =
+    ap (λ (ys : List Sector). with_found (map (in_runs (r ∷ rs)) (range_with_len m (length suf))) ys filling) (sym parts.all)
+    ∙ fill-gap (in_runs (r ∷ rs)) gap (mid ++ rest) filling m (length suf) r.first (r.count + length rest) (omega (arith, gap_long, rest_long)) (omega (arith, gap_long, spaced.0))
+    (λ s low less. none_in_gap m r rs s spaced less)
+    ∙ ap (λ (ys : List Sector). gap ++ ys) (
+    ap (λ (ys : List Sector). with_found (map (in_runs (r ∷ rs)) (range_with_len r.first (r.count + length rest))) (mid ++ rest) ys) (sym (take-append-drop r.count filling))
+    ∙ fill-run (in_runs (r ∷ rs)) mid rest new more r.first (r.count + length rest) (end_of r) (length rest) (omega (arith, mid_long, new_long)) (omega (arith, mid_long)) (omega (arith, mid_long))
+    (λ s low less. in_first r rs s low less)) in
     ap (λ (ys : List Sector). fill_runs rs ys more) made ∙ on
     ∙ append_assoc pre (gap ++ new) (with_found (map (in_runs rs) (range_with_len (end_of r) (length rest))) rest more)
     ∙ ap (λ (ys : List Sector). pre ++ ys) (append_assoc gap new (with_found (map (in_runs rs) (range_with_len (end_of r) (length rest))) rest more)
@@ -236,7 +236,7 @@ counted-at (r ∷ rs) m n spaced ends =
     let start : m + a ≡ r.first = omega (arith, spaced.0) in
     let sum = sum_by-cons (λ (q : Run). q.count) r rs in
     let on = counted-at rs (end_of r) k (from_earlier (end_of r + 1) (end_of r) rs spaced.2 (omega arith))
-        (subst (λ x. AllByRecursion (λ q. end_of q ≤ x) rs) (let same : m + n ≡ end_of r + k = omega (arith, ends.0) in same) ends.1) in
+    (subst (λ x. AllByRecursion (λ q. end_of q ≤ x) rs) (let same : m + n ≡ end_of r + k = omega (arith, ends.0) in same) ends.1) in
     let later = ap (λ (l : List Bool). count_by (λ (b : Bool). b) l) (flags-same (in_runs (r ∷ rs)) (in_runs rs) (end_of r) k (λ s low less. past_first r rs s low)) in
     let run = count-run (in_runs (r ∷ rs)) r.first r.count k (λ s low less. in_first r rs s low less) in
     ap (λ x. count_by (λ (b : Bool). b) (map (in_runs (r ∷ rs)) (range_with_len m x))) split
@@ -292,9 +292,9 @@ loose_runs_grow sectors loose new first written fits grown =
     let room : first + length (replicate count true) ≤ length (flags_of n loose) = omega (arith, fits, long, length-flags n loose) in
     let kept : length (replaced sectors first written) ≡ n = length-replaced sectors written first fits in
     let same : flags_of n new ≡ replaced (flags_of n loose) first (replicate count true) =
-        same_flags (flags_of n new) (replaced (flags_of n loose) first (replicate count true))
-        (length-flags n new ∙ sym (length-replaced (flags_of n loose) (replicate count true) first room ∙ length-flags n loose))
-        (λ k less. grown-at n loose new first count k fits (omega (arith, less, length-flags n new)) grown) in
+    same_flags (flags_of n new) (replaced (flags_of n loose) first (replicate count true))
+    (length-flags n new ∙ sym (length-replaced (flags_of n loose) (replicate count true) first room ∙ length-flags n loose))
+    (λ k less. grown-at n loose new first count k fits (omega (arith, less, length-flags n new)) grown) in
     ap (λ (l : List Bool). record { sectors = replaced sectors first written; loose = l }) (ap (λ k. flags_of k new) kept ∙ same)
 
 none-flagged : (a n : ℕ) → map (in_runs []) (range_with_len a n) ≡ replicate n false
