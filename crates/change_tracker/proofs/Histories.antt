@@ -292,9 +292,11 @@ numbered_new old y n uuid was told new grown = record {
   each = λ seq low high. elim (cases_lt n seq) [
     | inl last ↦
         let is : seq ≡ n + 1 = omega (arith, last, high) in
-        let place : length old.snapshots + 1 - (n + 1 - seq) - 1 ≡ length old.snapshots = omega (arith, is) in
-        (y, ap (λ (xs : List Snapshot). slice_get xs (length old.snapshots + 1 - (n + 1 - seq) - 1)) grown ∙ ap (slice_get (old.snapshots ++ y ∷ [])) place ∙ at_end old.snapshots y,
-        told ∙ ap (λ (k : ℕ). Some (numbered uuid k)) (sym is))
+        let place : length old.snapshots + 1 - (n + 1 - seq) - 1 ≡ length old.snapshots = omega (arith, is) in (
+          y,
+          ap (λ (xs : List Snapshot). slice_get xs (length old.snapshots + 1 - (n + 1 - seq) - 1)) grown ∙ ap (slice_get (old.snapshots ++ y ∷ [])) place ∙ at_end old.snapshots y,
+          told ∙ ap (λ (k : ℕ). Some (numbered uuid k)) (sym is),
+        )
     | inr early ↦
         let e = was.each seq low early in
         let place : length old.snapshots + 1 - (n + 1 - seq) - 1 ≡ length old.snapshots - (n - seq) - 1 = omega (arith, early, low, was.enough) in

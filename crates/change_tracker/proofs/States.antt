@@ -157,8 +157,17 @@ same_state m d c r counted old new ks free room freeze_room same =
     let snaps = view_same c F new old 0 ks (omega arith) (λ n k less. (λ i. snapshot k.id k.change_id
     (blocks_same c old.first new.first (window 0 (n + 1)) (same.first (window 0 (n + 1))) i) (blocks_same c old.changes new.changes (window n (n + 1)) (same.changes (window n (n + 1))) i))) in
     (λ i. record {
-      machine = m; disk = d; capacity = c; epoch = r; counted = counted; blocks = first i; changes = changes i; snapshots = snaps i;
-      free_from = free; mark_room = room; freeze_room = freeze_room;
+      machine = m;
+      disk = d;
+      capacity = c;
+      epoch = r;
+      counted = counted;
+      blocks = first i;
+      changes = changes i;
+      snapshots = snaps i;
+      free_from = free;
+      mark_room = room;
+      freeze_room = freeze_room;
     })
 
 -- a run is marked after the last snapshot
@@ -179,8 +188,17 @@ marked_state m d c r counted old new ks free room freeze_room run is =
     (blocks_same c old.changes new.changes (window n (n + 1)) (λ b. is.changes (window n (n + 1)) b
     ∙ ap (λ x. is_touched old.changes (window n (n + 1)) b || ((leb n F && x) && meets b run.first run.count)) (le-ltb F (n + 1) (omega (arith, less))) ∙ gone (is_touched old.changes (window n (n + 1)) b) (leb n F) (meets b run.first run.count)) i))) in
     (λ i. record {
-      machine = m; disk = d; capacity = c; epoch = r; counted = counted; blocks = first i; changes = changes i; snapshots = snaps i;
-      free_from = free; mark_room = None; freeze_room = freeze_room;
+      machine = m;
+      disk = d;
+      capacity = c;
+      epoch = r;
+      counted = counted;
+      blocks = first i;
+      changes = changes i;
+      snapshots = snaps i;
+      free_from = free;
+      mark_room = None;
+      freeze_room = freeze_room;
     })
   where
     gone : (o a m : Bool) → (o || ((a && false) && m)) ≡ o
@@ -207,8 +225,17 @@ frozen_state m d c r counted maps ks free room freeze_room k first_past changes_
     (let e : 0 + F ≡ F = omega arith in ap (λ (n : ℕ). snapshot_at c maps (n, k)) e) ∙ (λ i. snapshot k.id (told i) (blocks_in c maps.first (window 0 (F + 1))) (blocks_in c maps.changes (window F (F + 1)))) in
     let snaps = view_push c maps 0 ks k ∙ ap (λ (s : Snapshot). view c maps 0 ks ++ s ∷ []) last in
     (λ i. record {
-      machine = m; disk = d; capacity = c; epoch = r; counted = option_map (λ n. n + 1) counted; blocks = first i; changes = changes i; snapshots = snaps i;
-      free_from = k.id + 1; mark_room = None; freeze_room = false;
+      machine = m;
+      disk = d;
+      capacity = c;
+      epoch = r;
+      counted = option_map (λ n. n + 1) counted;
+      blocks = first i;
+      changes = changes i;
+      snapshots = snaps i;
+      free_from = k.id + 1;
+      mark_room = None;
+      freeze_room = false;
     })
   where
     none_pass : (xs : List ℕ) → filter (λ b. false) xs ≡ []
@@ -221,9 +248,17 @@ pub reset_state : (m d c r : ℕ) (counted : Option ℕ) (old new : Maps) (ks : 
 reset_state m d c r counted old new ks free room freeze_room first empty =
     let F : ℕ = length ks in
     (λ i. record {
-      machine = m; disk = d; capacity = c; epoch = r + 1; counted = option_map (λ n. 0) counted; blocks = blocks_in c (first i) (window 0 (F + 1));
-      changes = (ap (λ (t : TouchState). blocks_in c t (window F (F + 1))) empty ∙ none_pass (range_with_len 0 (block_count c))) i; snapshots = forgotten 0 ks i;
-      free_from = free; mark_room = None; freeze_room = freeze_room;
+      machine = m;
+      disk = d;
+      capacity = c;
+      epoch = r + 1;
+      counted = option_map (λ n. 0) counted;
+      blocks = blocks_in c (first i) (window 0 (F + 1));
+      changes = (ap (λ (t : TouchState). blocks_in c t (window F (F + 1))) empty ∙ none_pass (range_with_len 0 (block_count c))) i;
+      snapshots = forgotten 0 ks i;
+      free_from = free;
+      mark_room = None;
+      freeze_room = freeze_room;
     })
   where
     none_pass : (xs : List ℕ) → filter (λ b. false) xs ≡ []
@@ -238,10 +273,17 @@ reset_state m d c r counted old new ks free room freeze_room first empty =
 pub fresh_state : (m d c : ℕ) (maps : Maps) → maps.first ≡ [] → maps.changes ≡ [] → state_of m d c 0 None maps [] 0 None false ≡ fresh m d c
 fresh_state m d c maps first changes =
     (λ i. record {
-      machine = m; disk = d; capacity = c; epoch = 0; counted = None;
+      machine = m;
+      disk = d;
+      capacity = c;
+      epoch = 0;
+      counted = None;
       blocks = (ap (λ (t : TouchState). blocks_in c t (window 0 (0 + 1))) first ∙ none_pass (range_with_len 0 (block_count c))) i;
       changes = (ap (λ (t : TouchState). blocks_in c t (window 0 (0 + 1))) changes ∙ none_pass (range_with_len 0 (block_count c))) i;
-      snapshots = []; free_from = 0; mark_room = None; freeze_room = false;
+      snapshots = [];
+      free_from = 0;
+      mark_room = None;
+      freeze_room = false;
     })
   where
     none_pass : (xs : List ℕ) → filter (λ b. false) xs ≡ []

@@ -19,13 +19,15 @@ returns-then-found-end c =
     record { from = c.in_ok-word.ensures.0; here = c.in_ok-word.ensures.1; between = c.in_ok-word.ensures.2; told = c.bits_in.ensures } in
     let low : Lowest (masked c.bits_in.result c.max-first.result) c.from.result = lowest _ _ c.if-bits-ne0.true (fits c.bits_in.result c.max-first.result c.bits_in.type_inv) c.from.ensures in
     let inside = low.within in
-    let start = from_at c.loop-at.at c.in_ok-word.word c.bits_in.result c.max-first.result c.from.result met.from c.max-first.ensures low in
-    (record {
-      from_on = omega (arith, start, c.loop-at.invariant.from);
-      passes = touched_here c.args.self.now c.args.window c.loop-at.at c.in_ok-word.word c.bits_in.result c.max-first.result c.from.result c.in_ok-word.touches.now met c.max-first.ensures low;
-      earlier = up_to c.args.self.now c.args.window c.args.block c.loop-at.at (64 * c.in_ok-word.word + c.from.result) c.loop-at.invariant.none
-          (λ b from less. none_before c.args.self.now c.args.window c.loop-at.at c.in_ok-word.word c.bits_in.result c.max-first.result c.from.result b c.in_ok-word.touches.now met c.max-first.ensures (omega arith) low.below from less);
-    }, c.if-found-end.true)
+    let start = from_at c.loop-at.at c.in_ok-word.word c.bits_in.result c.max-first.result c.from.result met.from c.max-first.ensures low in (
+      record {
+        from_on = omega (arith, start, c.loop-at.invariant.from);
+        passes = touched_here c.args.self.now c.args.window c.loop-at.at c.in_ok-word.word c.bits_in.result c.max-first.result c.from.result c.in_ok-word.touches.now met c.max-first.ensures low;
+        earlier = up_to c.args.self.now c.args.window c.args.block c.loop-at.at (64 * c.in_ok-word.word + c.from.result) c.loop-at.invariant.none
+            (λ b from less. none_before c.args.self.now c.args.window c.loop-at.at c.in_ok-word.word c.bits_in.result c.max-first.result c.from.result b c.in_ok-word.touches.now met c.max-first.ensures (omega arith) low.below from less);
+      },
+      c.if-found-end.true,
+    )
 
 pub returns-else-found-end : goal.returns-else-found-end
 returns-else-found-end c =
