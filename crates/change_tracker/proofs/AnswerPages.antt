@@ -3,7 +3,7 @@ use Rattle.std.proofs.Common.{◌≡◌, ℕ, ◌^◌, ◌<◌, ◌≤◌, List,
 use Rattle.std.proofs.lemmas.List.Elements.{All-from_recursion}
 use Rattle.sector_model.specs.Run.{end_of, in_blocks, areas_of, met_blocks}
 use Rattle.sector_model.specs.declared.run.Run.{Run}
-use Rattle.sector_model.proofs.Spacing.{Kept, runs_of-kept}
+use Rattle.sector_model.proofs.Spacing.{SpacedWithin, runs_of-spaced}
 use Rattle.sector_model.proofs.PageLaws.{pages_joined}
 use Rattle.change_id.specs.History as history
 use Rattle.change_id.specs.declared.ChangeId.{ChangeId}
@@ -29,5 +29,5 @@ of_blocks machine disk capacity snapshot (From id) steps areas found = (
 pub answer_pages_join : AnswerPagesJoin
 answer_pages_join machine disk capacity snapshot since steps areas start pages fits found are =
     let blocks = of_blocks machine disk capacity snapshot since steps areas found in
-    let k : Kept 0 capacity areas = subst (Kept 0 capacity) (sym blocks.1) (runs_of-kept (in_blocks blocks.0) capacity fits) in
+    let k : SpacedWithin 0 capacity areas = subst (SpacedWithin 0 capacity) (sym blocks.1) (runs_of-spaced (in_blocks blocks.0) capacity fits) in
     pages_joined capacity areas start pages k.spaced (All-from_recursion (λ r. end_of r ≤ capacity) areas k.ends) are

@@ -4,7 +4,7 @@ use Rattle.std.specs.List.{list_any, slice_get}
 use Rattle.std.proofs.lemmas.Bool.{lt-ltb, le-ltb, false≢true}
 use Rattle.std.proofs.lemmas.Option.{same_Some, none-some, slice_get_within}
 use Rattle.sector_model.specs.Run.{areas_of, blocks_where, block_count}
-use Rattle.sector_model.specs.Page.{PageContents, page_of}
+use Rattle.sector_model.specs.Page.{PageContents, page_from}
 use Rattle.sector_model.specs.declared.run.Run.{Run}
 use Rattle.basics.specs.Refusal.{IsRefusedBy}
 use Rattle.change_id.specs.ChangeId.{packed}
@@ -52,9 +52,9 @@ module _ (m d c r : ℕ) (counted : Option ℕ) (maps : Maps) (ks : List Kept) (
   strange_is : (from : ChangeId) → is_accepted (packed m d r) k.change_id from ≡ false → answered m d c id (From from) steps ≡ Err (in_force_of (packed m d r) counted)
   strange_is from refused = ap (λ n. answered m d c n (From from) steps) (sym same) ∙ since_strange now steps place (snapshot_at c maps (0 + place, k)) from stands here refused
 
-  pub page_told : (since : Since) (start : ℕ) (areas : List Run) (page : PageContents) → answered m d c id since steps ≡ Ok areas → page ≡ page_of c areas start
-      → IfOk (answered m d c id since steps) (λ told. page ≡ page_of c told start)
-  page_told since start areas page told is = (let P : Result (List Run) (Option ChangeId) → Type 0 = λ x. IfOk x (λ told. page ≡ page_of c told start) in subst P (sym told) is)
+  pub page_told : (since : Since) (start : ℕ) (areas : List Run) (page : PageContents) → answered m d c id since steps ≡ Ok areas → page ≡ page_from c areas start
+      → IfOk (answered m d c id since steps) (λ told. page ≡ page_from c told start)
+  page_told since start areas page told is = (let P : Result (List Run) (Option ChangeId) → Type 0 = λ x. IfOk x (λ told. page ≡ page_from c told start) in subst P (sym told) is)
 
   pub told_accepts : {T : Type 0} (since : Since) (start : ℕ) (areas : List Run) (x : Result T TrackRefused) → start < c → answered m d c id since steps ≡ Ok areas → IsOk x
       → IsRefusedBy (query_refusal m d c id since start steps) x
@@ -62,15 +62,15 @@ module _ (m d c r : ℕ) (counted : Option ℕ) (maps : Maps) (ks : List Kept) (
       query_known (list_any (freezes id) steps) _ x known (query_within _ _ x (lt-ltb start c less)
       (let P : Result (List Run) (Option ChangeId) → Type 0 = λ y. IsRefusedBy (strange_refusal y) x in subst P (sym told) ok))
 
-  pub all_page : (start : ℕ) (page : PageContents) (since : Since) → since ≡ All → page ≡ page_of c (areas_in c maps.first (window 0 (place + 1))) start
-      → IfOk (answered m d c id since steps) (λ told. page ≡ page_of c told start)
+  pub all_page : (start : ℕ) (page : PageContents) (since : Since) → since ≡ All → page ≡ page_from c (areas_in c maps.first (window 0 (place + 1))) start
+      → IfOk (answered m d c id since steps) (λ told. page ≡ page_from c told start)
   all_page start page since is told = page_told since start (areas_in c maps.first (window 0 (place + 1))) page (ap (λ (s : Since). answered m d c id s steps) is ∙ all_is) told
 
   pub all_accepts : {T : Type 0} (start : ℕ) (since : Since) (x : Result T TrackRefused) → since ≡ All → start < c → IsOk x → IsRefusedBy (query_refusal m d c id since start steps) x
   all_accepts start since x is less ok = told_accepts since start (areas_in c maps.first (window 0 (place + 1))) x less (ap (λ (s : Since). answered m d c id s steps) is ∙ all_is) ok
 
   pub since_page : (start : ℕ) (page : PageContents) (since : Since) (from : ChangeId) (w : Window) → since ≡ From from → is_accepted (packed m d r) k.change_id from ≡ true → w ≡ window_from place k.change_id from.seq
-      → page ≡ page_of c (areas_in c maps.changes w) start → IfOk (answered m d c id since steps) (λ told. page ≡ page_of c told start)
+      → page ≡ page_from c (areas_in c maps.changes w) start → IfOk (answered m d c id since steps) (λ told. page ≡ page_from c told start)
   since_page start page since from w is accepted w_is told =
       page_told since start (areas_in c maps.changes w) page (ap (λ (s : Since). answered m d c id s steps) is ∙ since_is from k.change_id refl accepted w w_is) told
 

@@ -1,7 +1,7 @@
 //! Touches of a disk's blocks, and pages of the areas that were touched.
 ghost use Rattle.std.specs.Prelude.{◌≡◌, ◌+◌, ◌*◌, ◌/◌, ◌<◌, ◌≤◌, ◌^◌, [], ℕ, true, false, Some, None, MatchOption, OnOk};
 ghost use Rattle.sector_model.specs.Run.{block_count, next_run};
-ghost use Rattle.sector_model.specs.Page.{page_of};
+ghost use Rattle.sector_model.specs.Page.{page_from};
 ghost use Rattle.change_tracker.specs.Touches.{TouchState, word_of, is_touched, touched_in, has_bit, HasSame, HasRoom, KeepsRoom, IsAdded, IsFirst, areas_in};
 
 use crate::word::{WORD_BLOCKS, Window, Word};
@@ -159,7 +159,7 @@ impl Touches {
     /// Fills the page with the areas that were touched inside the window, from sector `start` on.
     pub(crate) fn fill_page(&self, window: Window, capacity: u64, start: u64, page: &mut Page)
         requires { start < capacity }
-        ensures { page.new ≡ page_of capacity (areas_in capacity self.now window) start }
+        ensures { page.new ≡ page_from capacity (areas_in capacity self.now window) start }
     {
         page.clear(start);
         let mut at = start;

@@ -2,7 +2,7 @@
 ghost use Rattle.std.specs.Prelude.{◌≡◌, ◌+◌, ◌<◌, ◌≤◌, ◌^◌, ◌∷◌, ◌++◌, [], IsOk, OnOk, OnErr, IfOk, ℕ, List, true, Some, None, false, ◌==◌, MatchBool, MatchOption};
 ghost use Rattle.std.specs.List.{list_any};
 ghost use Rattle.basics.specs.Refusal.{IsRefusedOr, IsRefusedBy};
-ghost use Rattle.sector_model.specs.Page.{page_of};
+ghost use Rattle.sector_model.specs.Page.{page_from};
 ghost use Rattle.change_tracker.specs.Kept.{IsAscending, IsAt, is_accepted, window_from, in_force_of};
 
 use crate::TrackRefused;
@@ -205,7 +205,7 @@ impl Tracker {
         ensures areas { (steps : List TrackStep) → StandsFor self.now steps
             → OnOk result (IfOk
             (answered self.now.machine self.now.disk self.now.capacity id since steps)
-            (λ areas. page.new ≡ page_of self.now.capacity areas start)) }
+            (λ areas. page.new ≡ page_from self.now.capacity areas start)) }
         ensures err { OnErr result (page.new ≡ page.old) }
     {
         let Some(place) = place_of(self.snapshots.as_slice(), id) else {

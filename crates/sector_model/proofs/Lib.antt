@@ -8,6 +8,6 @@ pub mod NextRun
 pub mod PageLaws
 pub mod PageWithin
 pub mod PageSectors
-pub mod PageFilled
+pub mod PageMade
 pub mod Touched
 pub mod Volumes

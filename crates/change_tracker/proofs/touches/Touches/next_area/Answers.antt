@@ -3,7 +3,7 @@ use Rattle.std.specs.Int.{div_ceil}
 use Rattle.std.proofs.lemmas.Bool.{cases_lt}
 use Rattle.sector_model.specs.Run.{block_count, in_blocks, AreSpaced, next_run}
 use Rattle.sector_model.specs.declared.run.Run.{Run}
-use Rattle.sector_model.proofs.Spacing.{runs_of-kept}
+use Rattle.sector_model.proofs.Spacing.{runs_of-spaced}
 use Rattle.sector_model.proofs.NextRun.{next_some, next_none, true_false}
 use Rattle.change_tracker.specs.declared.word.Window.{Window}
 use Rattle.change_tracker.specs.Touches.{TouchState, is_touched, blocks_in, areas_in, IsFirst}
@@ -12,7 +12,7 @@ use Rattle.change_tracker.proofs.touches.Touches.next_area.Goals as goal
 use Rattle.change_tracker.proofs.touches.Touches.next_area.Goals.{then-behind-blocks, else-behind-blocks}
 
 spaced : (c : ℕ) (t : TouchState) (w : Window) → c < 2 ^ 64 → AreSpaced (areas_in c t w)
-spaced c t w fits = (runs_of-kept (in_blocks (blocks_in c t w)) c fits).spaced
+spaced c t w fits = (runs_of-spaced (in_blocks (blocks_in c t w)) c fits).spaced
 
 count : (c blocks : ℕ) → blocks ≡ div_ceil c 128 → blocks ≡ block_count c
 count c blocks is = omega (arith, is)

@@ -2,7 +2,7 @@ use Rattle.std.proofs.Common.{◌≡◌, ◌==◌, ◌+◌, ◌<◌, ℕ, List, 
 use Rattle.std.specs.List.{list_any, slice_get}
 use Rattle.std.proofs.lemmas.Option.{get_or_from_slice_get, slice_get_within}
 use Rattle.basics.specs.Refusal.{IsRefusedBy}
-use Rattle.sector_model.specs.Page.{PageContents, page_of}
+use Rattle.sector_model.specs.Page.{PageContents, page_from}
 use Rattle.change_id.specs.ChangeId.{packed}
 use Rattle.change_id.specs.declared.ChangeId.{ChangeId}
 use Rattle.change_tracker.specs.declared.kept.Kept.{Kept}
@@ -64,7 +64,7 @@ pub returns-in-All-clause-areas : goal.returns-in-All-clause-areas
 returns-in-All-clause-areas c = λ steps.
     let was = c.self.inside in
     let at = at_of c.as_slice.result.now was.snapshots.items c.in-Some.place c.in-Some.ensures.0 c.as_slice.ensures.value c.in-Some.ensures.1 in
-    let P : TrackerState → Type 0 = λ t. StandsFor t steps → IfOk (answered t.machine t.disk t.capacity c.args.id c.args.since steps) (λ areas. c.fill_page.new.page ≡ page_of t.capacity areas c.args.start) in
+    let P : TrackerState → Type 0 = λ t. StandsFor t steps → IfOk (answered t.machine t.disk t.capacity c.args.id c.args.since steps) (λ areas. c.fill_page.new.page ≡ page_from t.capacity areas c.args.start) in
     subst P c.self.view_is (λ stands. all_page was.machine was.disk was.capacity was.resets was.counted was.maps was.snapshots.items was.free_from was.mark_room was.freeze_room c.args.id c.in-Some.place c.in-Some.ensures.0 steps stands at c.in-Some.ensures.2 c.args.start c.fill_page.new.page c.args.since c.in-All.is c.fill_page.ensures)
 
 abbrev accepted_as : (uuid : ℕ) (at : Option ChangeId) (from : ChangeId) → Bool
@@ -104,6 +104,6 @@ returns-in-Some-window_since-clause-areas c = λ steps.
     let told = told_at was.snapshots.items c.in-Some.place c.in-Some.ensures.0 c.index.result.now at c.index.ensures in
     let found = some_window (is_accepted c.pack-uuid.result c.index.result.now.change_id c.in-From.from) c.window_since.result (window_from c.in-Some.place c.index.result.now.change_id c.in-From.from.seq) c.in-Some-window_since.window c.window_since.ensures c.in-Some-window_since.is in
     let accepted : is_accepted (packed was.machine was.disk was.resets) (c.in-Some.ensures.0).change_id c.in-From.from ≡ true = (λ i. is_accepted (sym c.pack-uuid.ensures i) (sym told i) c.in-From.from) ∙ found.0 in
-    let P : TrackerState → Type 0 = λ t. StandsFor t steps → IfOk (answered t.machine t.disk t.capacity c.args.id c.args.since steps) (λ areas. c.fill_page-in-From.new.page ≡ page_of t.capacity areas c.args.start) in
+    let P : TrackerState → Type 0 = λ t. StandsFor t steps → IfOk (answered t.machine t.disk t.capacity c.args.id c.args.since steps) (λ areas. c.fill_page-in-From.new.page ≡ page_from t.capacity areas c.args.start) in
     subst P c.self.view_is (λ stands. since_page was.machine was.disk was.capacity was.resets was.counted was.maps was.snapshots.items was.free_from was.mark_room was.freeze_room c.args.id c.in-Some.place c.in-Some.ensures.0 steps stands at c.in-Some.ensures.2 c.args.start c.fill_page-in-From.new.page c.args.since c.in-From.from c.in-Some-window_since.window c.in-From.is accepted
     (found.1 ∙ ap (λ (o : Option ChangeId). window_from c.in-Some.place o c.in-From.from.seq) told) c.fill_page-in-From.ensures)
