@@ -1,13 +1,16 @@
 -- The order of the names of an object.
-use Rattle.std.proofs.Common.{◌≡◌, ℕ, Bool, true, false, List, Option, Some, None, Ordering, Less, Equal, Greater, if◌then◌else◌, option_map, option_and_then, refl, ap, subst, ◌∙◌, nat_cmp}
+use Rattle.std.proofs.Common.{◌≡◌, ℕ, Bool, true, false, List, Option, Some, None, Ordering, Less, Equal, Greater, if◌then◌else◌, option_map, option_and_then, refl, sym, ap, subst, ◌∙◌, nat_cmp, is_eq}
 use Rattle.std.proofs.lemmas.Cmp.{nat_list_cmp_total}
 use Rattle.std.proofs.lemmas.Option.{option_and_then_some}
+use Rattle.std.proofs.lemmas.Map.Text.{is_eq-slice_cmp}
+use Rattle.std.proofs.lemmas.Slice.Eq.{bytes_eq-Decides}
 use Rattle.std.specs.Cmp.Lexicographic.{slice_cmp}
 use Rattle.std.specs.Ordering.{match_ordering, ordering_reverse}
 use Rattle.std.specs.Str.{is_utf8}
 use Rattle.json.specs.Json as json
 use Rattle.json.specs.Lex.{tokens}
 use Rattle.serde_json.specs.Data.{Num, Data, number, array, object, Items, Members, no_members, member, put}
+use Rattle.serde_json.specs.Find.{get_member}
 use Rattle.serde_json.specs.Read.{read, of_json, of_items, of_members, number_of, max_depth}
 use Rattle.cmd_json.specs.Laws.{IsBefore, Ascends, KeepsOrder}
 use Rattle.cmd_json.specs.Line.{value_of}
@@ -63,7 +66,8 @@ number_apart : (n : Option Num) (ms : Members) → option_map number n ≡ Some 
 number_apart None ms is = cc
 number_apart (Some n) ms is = cc
 
-array_apart : (ds : Option Items) (ms : Members) → option_map array ds ≡ Some (object ms) → Ascends ms
+array_apart : (ds : Option Items) (ms : Members) → option_map array ds ≡ Some (object ms)
+    → Ascends ms
 array_apart None ms is = cc
 array_apart (Some ds) ms is = cc
 
@@ -83,7 +87,8 @@ value_ascends (json.object js) ms is =
 
 read_ascends : (line : List ℕ) (ms : Members) → read line ≡ Some (object ms) → Ascends ms
 read_ascends line ms is =
-    let parsed = option_and_then (λ p. json.if_last p.0 p.1) (json.value max_depth (tokens line)) in
+    let parsed =
+    option_and_then (λ p. json.if_last p.0 p.1) (json.value max_depth (tokens line)) in
     option_and_then_some of_json parsed (object ms) is (λ j e rest. value_ascends j ms rest)
 
 line_ascends : (utf8 : Bool) (line : List ℕ) (ms : Members)
@@ -117,8 +122,58 @@ without_ascends k no_members h = tt
 without_ascends k (member l e ms) h =
     without_ascends_at (slice_cmp nat_cmp k l) k l e ms h (without_ascends k ms h.1)
 
+-- ---- what is found after that
+
+-- a name that stands before all isn't found
+unfound : (name : List ℕ) (ms : Members) → IsBefore name ms → get_member name ms ≡ None
+unfound name no_members h = refl
+unfound name (member k d ms) h = rw h.0 (unfound name ms h.1)
+
+skipped : (o : Ordering) (other k : List ℕ) (d : Data) (ms : Members)
+    → slice_cmp nat_cmp other k ≡ o → (other ≡ k → ⊥)
+    → get_member other ms ≡ get_member other (member k d ms)
+skipped Less other k d ms is apart = rw is refl
+skipped Equal other k d ms is apart =
+    absurd (apart ((bytes_eq-Decides other k).0 (sym (is_eq-slice_cmp other k) ∙ ap is_eq is)))
+skipped Greater other k d ms is apart = rw is refl
+
+taken_at : (o : Ordering) (name k : List ℕ) (d : Data) (ms : Members)
+    → slice_cmp nat_cmp name k ≡ o → Ascends (member k d ms)
+    → get_member name (without name ms) ≡ None
+    → get_member name (match_ordering o (member k d (without name ms)) ms
+    (member k d (without name ms))) ≡ None
+taken_at Less name k d ms is h rest = rw is rest
+taken_at Equal name k d ms is h rest =
+    let same : name ≡ k = (bytes_eq-Decides name k).0 (sym (is_eq-slice_cmp name k) ∙ ap is_eq is) in
+    unfound name ms (subst (λ (n : List ℕ). IsBefore n ms) (sym same) h.0)
+taken_at Greater name k d ms is h rest = rw is rest
+
+taken : (name : List ℕ) (ms : Members) → Ascends ms → get_member name (without name ms) ≡ None
+taken name no_members h = refl
+taken name (member k d ms) h = taken_at _ name k d ms refl h (taken name ms h.1)
+
+others_at : (o : Ordering) (name other k : List ℕ) (d : Data) (ms : Members)
+    → slice_cmp nat_cmp name k ≡ o → (other ≡ name → ⊥)
+    → get_member other (without name ms) ≡ get_member other ms
+    → get_member other (match_ordering o (member k d (without name ms)) ms
+    (member k d (without name ms))) ≡ get_member other (member k d ms)
+others_at Less name other k d ms is apart rest =
+    ap (λ found. match_ordering (slice_cmp nat_cmp other k) found (Some d) found) rest
+others_at Equal name other k d ms is apart rest = skipped _ other k d ms refl
+    (λ same. apart (same ∙ sym ((bytes_eq-Decides name k).0 (sym (is_eq-slice_cmp name k) ∙ ap is_eq is))))
+others_at Greater name other k d ms is apart rest =
+    ap (λ found. match_ordering (slice_cmp nat_cmp other k) found (Some d) found) rest
+
+others : (name other : List ℕ) (ms : Members) → (other ≡ name → ⊥)
+    → get_member other (without name ms) ≡ get_member other ms
+others name other no_members apart = refl
+others name other (member k d ms) apart =
+    others_at _ name other k d ms refl apart (others name other ms apart)
+
 pub order_is_kept : KeepsOrder
 order_is_kept = record {
   read = λ line ms is. line_ascends (is_utf8 line) line ms is;
   left = without_ascends;
+  taken = taken;
+  others = others;
 }

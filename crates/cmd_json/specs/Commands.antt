@@ -4,7 +4,7 @@ use Rattle.basics.specs.declared.limits.TheConstants.{MAX_DISK_SECTORS, MAX_WRIT
 use Rattle.cmd_json.specs.Kinds.{Kind, a_text, a_name, a_moment, a_flag, a_number, a_multiple_of, a_list, a_move_write}
 use Rattle.cmd_json.specs.Members.{Reading, required, optional, defaulted, given, ◌⊛◌, and_then, an_object, the_row}
 use Rattle.cmd_json.specs.declared.refusal.CmdRefused.TheVariants.{Field}
-use Rattle.cmd_json.specs.declared.command.TheConstants.{MAX_READ_SECTORS, MAX_HOST_LIMIT, MAX_WORKERS, SECTOR_BYTES}
+use Rattle.cmd_json.specs.declared.command.TheConstants.{MAX_READ_SECTORS, MAX_HOST_LIMIT, MAX_WORKERS, SECTOR_START_UNIT}
 use Rattle.cmd_json.specs.declared.command.GuestLine.{GuestLine}
 use Rattle.cmd_json.specs.declared.command.DisturbLine.{DisturbLine}
 use Rattle.cmd_json.specs.declared.command.ActLine.{ActLine}
@@ -108,7 +108,7 @@ commands = (
           ⊛ required (codes "snapshot") a_word
           ⊛ required (codes "disk") a_word
           ⊛ required (codes "since") a_text
-          ⊛ required (codes "start") (a_multiple_of SECTOR_BYTES),
+          ⊛ required (codes "start") (a_multiple_of SECTOR_START_UNIT),
     )
     ∷ (
       codes "read",

@@ -1,5 +1,6 @@
 -- What the value of a member may be. A kind reads a value of JSON: it gives what the value says, or
--- what is wrong with it. That is `Number` where a number isn't one of the kind, and else `Field`.
+-- what is wrong with it. That is `Number` where a number, or the text of a moment, isn't one of the
+-- kind, and else `Field`.
 use Rattle.std.specs.Prelude.{ℕ, ◌-◌, ◌%◌, ◌^◌, List, [], ◌∷◌, Bool, ◌&&◌, ◌==◌, nat_le, if◌then◌else◌, is_some, Result, Ok, Err}
 use Rattle.std.specs.Option.{ok_or}
 use Rattle.serde_json.specs.Data.{Num, Data, Items, no_items, item}

@@ -1,7 +1,9 @@
+pub mod Range
 pub mod Kinds
 pub mod Members
 pub mod Left
 pub mod Refusal
 pub mod Commands
 pub mod Line
+pub mod Known
 pub mod Laws

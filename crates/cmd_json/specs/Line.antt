@@ -15,7 +15,7 @@ use Rattle.cmd_json.specs.declared.read.TheConstants.{BUILT}
 use Rattle.cmd_json.specs.declared.refusal.CmdRefused.{CmdRefused}
 use Rattle.cmd_json.specs.declared.refusal.CmdRefused.TheVariants as refused
 
--- the members of the command of that name
+-- the reading of the row of that name
 unfoldable pub command_named : (name : List ℕ) → Reading Command
 command_named = the_row refused.Command commands
 

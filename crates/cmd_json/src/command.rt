@@ -11,11 +11,11 @@ pub const MAX_HOST_LIMIT: u32 = 1_024;
 /// The most workers of a run.
 pub const MAX_WORKERS: u32 = 64;
 
-/// The bytes of a sector.
-pub const SECTOR_BYTES: u64 = 512;
+/// A query starts at a byte whose place is a multiple of this, as a sector does.
+pub const SECTOR_START_UNIT: u64 = 512;
 
 /// A command, its members in the order in which they are tested. Disks and snapshots go by their
-/// numbers, sectors by theirs; `count` is a number of sectors but for a guest.
+/// numbers, sectors by theirs; `count` is a number of sectors.
 #[derive(Debug, Drop)]
 pub enum Command {
     /// Apply the writes to a fresh disk of so many sectors, and copy it to a volume of that name.

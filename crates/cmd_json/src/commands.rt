@@ -1,7 +1,8 @@
 //! Each command by its members, in the order of its row.
 #![tactic(auto, unfolding(crate::specs::Line::command_named))]
 
-ghost use Rattle.std.specs.Prelude.{codes};
+ghost use Rattle.std.specs.Prelude.{codes, IfOk};
+ghost use Rattle.cmd_json.specs.Known.{IsAskable};
 ghost use Rattle.cmd_json.specs.Left.{left_in};
 ghost use Rattle.cmd_json.specs.Line.{command_named};
 ghost use Rattle.cmd_json.specs.Members.{Reads};
@@ -17,8 +18,9 @@ use crate::refusal::CmdRefused;
 use basics::{MAX_DISK_SECTORS, MAX_INTERVAL, MAX_WRITE_SECTORS};
 
 pub(crate) fn read_move(members: &mut Members) -> Result<Command, CmdRefused>
-    ensures { Reads (command_named (codes "move") (left_in members.old)) (left_in members.new)
+    ensures reads { Reads (command_named (codes "move") (left_in members.old)) (left_in members.new)
         result }
+    ensures known { IfOk result IsAskable }
 {
     let name = members.required("name", NameKind)?;
     let sectors = members.required("sectors", within(1, MAX_DISK_SECTORS))?;
@@ -31,8 +33,9 @@ pub(crate) fn read_move(members: &mut Members) -> Result<Command, CmdRefused>
 }
 
 pub(crate) fn read_host(members: &mut Members) -> Result<Command, CmdRefused>
-    ensures { Reads (command_named (codes "host") (left_in members.old)) (left_in members.new)
+    ensures reads { Reads (command_named (codes "host") (left_in members.old)) (left_in members.new)
         result }
+    ensures known { IfOk result IsAskable }
 {
     let name = members.required("name", NameKind)?;
     let limit = members.optional("limit", within(1, MAX_HOST_LIMIT))?;
@@ -40,8 +43,9 @@ pub(crate) fn read_host(members: &mut Members) -> Result<Command, CmdRefused>
 }
 
 pub(crate) fn read_vm(members: &mut Members) -> Result<Command, CmdRefused>
-    ensures { Reads (command_named (codes "vm") (left_in members.old)) (left_in members.new)
+    ensures reads { Reads (command_named (codes "vm") (left_in members.old)) (left_in members.new)
         result }
+    ensures known { IfOk result IsAskable }
 {
     let name = members.required("name", NameKind)?;
     let host = members.required("host", NameKind)?;
@@ -50,16 +54,18 @@ pub(crate) fn read_vm(members: &mut Members) -> Result<Command, CmdRefused>
 }
 
 pub(crate) fn read_enable(members: &mut Members) -> Result<Command, CmdRefused>
-    ensures { Reads (command_named (codes "enable") (left_in members.old)) (left_in members.new)
+    ensures reads { Reads (command_named (codes "enable") (left_in members.old)) (left_in members.new)
         result }
+    ensures known { IfOk result IsAskable }
 {
     let vm = members.required("vm", NameKind)?;
     Ok(Command::Enable { vm })
 }
 
 pub(crate) fn read_write(members: &mut Members) -> Result<Command, CmdRefused>
-    ensures { Reads (command_named (codes "write") (left_in members.old)) (left_in members.new)
+    ensures reads { Reads (command_named (codes "write") (left_in members.old)) (left_in members.new)
         result }
+    ensures known { IfOk result IsAskable }
 {
     let vm = members.required("vm", NameKind)?;
     let disk = members.required("disk", WORD)?;
@@ -76,16 +82,18 @@ pub(crate) fn read_write(members: &mut Members) -> Result<Command, CmdRefused>
 }
 
 pub(crate) fn read_snapshot(members: &mut Members) -> Result<Command, CmdRefused>
-    ensures { Reads (command_named (codes "snapshot") (left_in members.old)) (left_in members.new)
+    ensures reads { Reads (command_named (codes "snapshot") (left_in members.old)) (left_in members.new)
         result }
+    ensures known { IfOk result IsAskable }
 {
     let vm = members.required("vm", NameKind)?;
     Ok(Command::Snapshot { vm })
 }
 
 pub(crate) fn read_remove(members: &mut Members) -> Result<Command, CmdRefused>
-    ensures { Reads (command_named (codes "remove") (left_in members.old)) (left_in members.new)
+    ensures reads { Reads (command_named (codes "remove") (left_in members.old)) (left_in members.new)
         result }
+    ensures known { IfOk result IsAskable }
 {
     let vm = members.required("vm", NameKind)?;
     let snapshot = members.required("snapshot", WORD)?;
@@ -93,8 +101,9 @@ pub(crate) fn read_remove(members: &mut Members) -> Result<Command, CmdRefused>
 }
 
 pub(crate) fn read_query(members: &mut Members) -> Result<Command, CmdRefused>
-    ensures { Reads (command_named (codes "query") (left_in members.old)) (left_in members.new)
+    ensures reads { Reads (command_named (codes "query") (left_in members.old)) (left_in members.new)
         result }
+    ensures known { IfOk result IsAskable }
 {
     let vm = members.required("vm", NameKind)?;
     let snapshot = members.required("snapshot", WORD)?;
@@ -111,8 +120,9 @@ pub(crate) fn read_query(members: &mut Members) -> Result<Command, CmdRefused>
 }
 
 pub(crate) fn read_read(members: &mut Members) -> Result<Command, CmdRefused>
-    ensures { Reads (command_named (codes "read") (left_in members.old)) (left_in members.new)
+    ensures reads { Reads (command_named (codes "read") (left_in members.old)) (left_in members.new)
         result }
+    ensures known { IfOk result IsAskable }
 {
     let vm = members.required("vm", NameKind)?;
     let disk = members.required("disk", WORD)?;
@@ -129,8 +139,9 @@ pub(crate) fn read_read(members: &mut Members) -> Result<Command, CmdRefused>
 }
 
 pub(crate) fn read_power(members: &mut Members) -> Result<Command, CmdRefused>
-    ensures { Reads (command_named (codes "power") (left_in members.old)) (left_in members.new)
+    ensures reads { Reads (command_named (codes "power") (left_in members.old)) (left_in members.new)
         result }
+    ensures known { IfOk result IsAskable }
 {
     let vm = members.required("vm", NameKind)?;
     let on = members.required("on", FlagKind)?;
@@ -138,8 +149,9 @@ pub(crate) fn read_power(members: &mut Members) -> Result<Command, CmdRefused>
 }
 
 pub(crate) fn read_reset(members: &mut Members) -> Result<Command, CmdRefused>
-    ensures { Reads (command_named (codes "reset") (left_in members.old)) (left_in members.new)
+    ensures reads { Reads (command_named (codes "reset") (left_in members.old)) (left_in members.new)
         result }
+    ensures known { IfOk result IsAskable }
 {
     let vm = members.required("vm", NameKind)?;
     let disk = members.required("disk", WORD)?;
@@ -147,8 +159,9 @@ pub(crate) fn read_reset(members: &mut Members) -> Result<Command, CmdRefused>
 }
 
 pub(crate) fn read_plan(members: &mut Members) -> Result<Command, CmdRefused>
-    ensures { Reads (command_named (codes "plan") (left_in members.old)) (left_in members.new)
+    ensures reads { Reads (command_named (codes "plan") (left_in members.old)) (left_in members.new)
         result }
+    ensures known { IfOk result IsAskable }
 {
     let name = members.required("name", NameKind)?;
     let vms = members.required("vms", ListKind(NameKind))?;
@@ -161,16 +174,18 @@ pub(crate) fn read_plan(members: &mut Members) -> Result<Command, CmdRefused>
 }
 
 pub(crate) fn read_start(members: &mut Members) -> Result<Command, CmdRefused>
-    ensures { Reads (command_named (codes "start") (left_in members.old)) (left_in members.new)
+    ensures reads { Reads (command_named (codes "start") (left_in members.old)) (left_in members.new)
         result }
+    ensures known { IfOk result IsAskable }
 {
     let plan = members.required("plan", NameKind)?;
     Ok(Command::Start { plan })
 }
 
 pub(crate) fn read_run(members: &mut Members) -> Result<Command, CmdRefused>
-    ensures { Reads (command_named (codes "run") (left_in members.old)) (left_in members.new)
+    ensures reads { Reads (command_named (codes "run") (left_in members.old)) (left_in members.new)
         result }
+    ensures known { IfOk result IsAskable }
 {
     let at = members.required("at", MomentKind)?;
     let workers = members.required("workers", within(0, MAX_WORKERS))?;
@@ -185,8 +200,9 @@ pub(crate) fn read_run(members: &mut Members) -> Result<Command, CmdRefused>
 }
 
 pub(crate) fn read_cutover(members: &mut Members) -> Result<Command, CmdRefused>
-    ensures { Reads (command_named (codes "cutover") (left_in members.old)) (left_in members.new)
+    ensures reads { Reads (command_named (codes "cutover") (left_in members.old)) (left_in members.new)
         result }
+    ensures known { IfOk result IsAskable }
 {
     let plan = members.required("plan", NameKind)?;
     let at = members.optional("at", MomentKind)?;
@@ -194,16 +210,18 @@ pub(crate) fn read_cutover(members: &mut Members) -> Result<Command, CmdRefused>
 }
 
 pub(crate) fn read_cancel(members: &mut Members) -> Result<Command, CmdRefused>
-    ensures { Reads (command_named (codes "cancel") (left_in members.old)) (left_in members.new)
+    ensures reads { Reads (command_named (codes "cancel") (left_in members.old)) (left_in members.new)
         result }
+    ensures known { IfOk result IsAskable }
 {
     let vm = members.required("vm", NameKind)?;
     Ok(Command::Cancel { vm })
 }
 
 pub(crate) fn read_target(members: &mut Members) -> Result<Command, CmdRefused>
-    ensures { Reads (command_named (codes "target") (left_in members.old)) (left_in members.new)
+    ensures reads { Reads (command_named (codes "target") (left_in members.old)) (left_in members.new)
         result }
+    ensures known { IfOk result IsAskable }
 {
     let volume = members.required("volume", TextKind)?;
     let first = members.required("first", LONG)?;
@@ -216,8 +234,9 @@ pub(crate) fn read_target(members: &mut Members) -> Result<Command, CmdRefused>
 }
 
 pub(crate) fn read_digest(members: &mut Members) -> Result<Command, CmdRefused>
-    ensures { Reads (command_named (codes "digest") (left_in members.old)) (left_in members.new)
+    ensures reads { Reads (command_named (codes "digest") (left_in members.old)) (left_in members.new)
         result }
+    ensures known { IfOk result IsAskable }
 {
     let volume = members.required("volume", TextKind)?;
     Ok(Command::Digest { volume })

@@ -8,7 +8,7 @@ use std::alloc::{AllocFailed, Global};
 pub(crate) enum Misfit {
     /// It isn't such a value.
     Field,
-    /// It is a number, and not one of the kind.
+    /// It is a number or the text of a moment, and not one of the kind.
     Number,
     /// Memory ran out.
     NoMemory,
@@ -38,7 +38,7 @@ impl<T: Drop> From<AllocFailed<T>> for Misfit {
 
 /// A kind of value that a member may have.
 pub(crate) trait Kind: Drop {
-    ghost use Rattle.std.specs.Prelude.{Result};
+    ghost use Rattle.std.specs.Prelude.{Result, IfOk};
     ghost use Rattle.serde_json.specs.Data.{Data};
     ghost use Rattle.serde_json.specs.View.{view};
     ghost use Rattle.cmd_json.specs.Members.{Gives};
@@ -50,7 +50,10 @@ pub(crate) trait Kind: Drop {
 
     ghost says: { Self → Data → Result Self.Said Misfit };
 
+    ghost known: { Self → Self.Said → Type 0 };
+
     /// What a value says, or why it isn't one of the kind.
     fn read(&self, alloc: Global, value: Value) -> Result<Self::Said, Misfit>
-        ensures { Gives misfit.NoMemory (says self.now (view value)) result };
+        ensures said { Gives misfit.NoMemory (says self.now (view value)) result }
+        ensures known { IfOk result (known self.now) };
 }

@@ -5,9 +5,10 @@ ghost use Rattle.basics.specs.declared.name.TheConstants.{MAX_NAME_BYTES};
 ghost use Rattle.plan_model.specs.Moments.{moment_of};
 ghost use Rattle.basics.specs.Spelled.{is_name};
 ghost use Rattle.cmd_json.specs.Kinds.{a_number};
+ghost use Rattle.cmd_json.specs.Range.{IsWithin};
 
 use crate::Text;
-use crate::command::SECTOR_BYTES;
+use crate::command::SECTOR_START_UNIT;
 use crate::kind::{Kind, Misfit};
 use basics::is_name;
 use plan_model::{Moment, Name};
@@ -25,6 +26,8 @@ impl Kind for TextKind {
 
     ghost says = { λ _. a_text };
 
+    ghost known = { λ _ _. Unit {0} };
+
     fn read(&self, alloc: Global, value: Value) -> Result<Text, Misfit> {
         let text = value.as_str().ok_or(Misfit::Field)?;
         Ok(Text::of(alloc, text)?)
@@ -36,11 +39,14 @@ impl Kind for TextKind {
 pub(crate) struct NameKind;
 
 impl Kind for NameKind {
+    ghost use Rattle.basics.specs.Spelled.{IsName};
     ghost use Rattle.cmd_json.specs.Kinds.{a_name};
 
     type Said = Name;
 
     ghost says = { λ _. a_name };
+
+    ghost known = { λ _. IsName };
 
     fn read(&self, alloc: Global, value: Value) -> Result<Name, Misfit> {
         let text = value.as_str().ok_or(Misfit::Field)?;
@@ -70,6 +76,8 @@ impl Kind for MomentKind {
 
     ghost says = { λ _. a_moment };
 
+    ghost known = { λ _ _. Unit {0} };
+
     fn read(&self, _alloc: Global, value: Value) -> Result<Moment, Misfit> {
         let text = value.as_str().ok_or(Misfit::Field)?;
         moment_of(text).ok_or(Misfit::Number)
@@ -93,6 +101,8 @@ impl Kind for FlagKind {
 
     ghost says = { λ _. a_flag };
 
+    ghost known = { λ _ _. Unit {0} };
+
     fn read(&self, _alloc: Global, value: Value) -> Result<bool, Misfit> {
         value.as_bool().ok_or(Misfit::Field)
     }
@@ -114,10 +124,13 @@ pub(crate) fn within<T>(low: T, high: T) -> NumberKind<T>
 
 impl Kind for NumberKind<u64> {
     ghost use Rattle.cmd_json.specs.Kinds.{a_number};
+    ghost use Rattle.cmd_json.specs.Range.{IsWithin};
 
     type Said = u64;
 
     ghost says = { λ range. a_number range.low range.high };
+
+    ghost known = { λ range. IsWithin range.low range.high };
 
     fn read(&self, _alloc: Global, value: Value) -> Result<u64, Misfit> {
         number_of(&value, self.low, self.high)
@@ -126,10 +139,13 @@ impl Kind for NumberKind<u64> {
 
 impl Kind for NumberKind<u32> {
     ghost use Rattle.cmd_json.specs.Kinds.{a_number};
+    ghost use Rattle.cmd_json.specs.Range.{IsWithin};
 
     type Said = u32;
 
     ghost says = { λ range. a_number range.low range.high };
+
+    ghost known = { λ range. IsWithin range.low range.high };
 
     fn read(&self, _alloc: Global, value: Value) -> Result<u32, Misfit> {
         let number = number_of(&value, u64::from(self.low), u64::from(self.high))?;
@@ -139,10 +155,13 @@ impl Kind for NumberKind<u32> {
 
 impl Kind for NumberKind<u8> {
     ghost use Rattle.cmd_json.specs.Kinds.{a_number};
+    ghost use Rattle.cmd_json.specs.Range.{IsWithin};
 
     type Said = u8;
 
     ghost says = { λ range. a_number range.low range.high };
+
+    ghost known = { λ range. IsWithin range.low range.high };
 
     fn read(&self, _alloc: Global, value: Value) -> Result<u8, Misfit> {
         let number = number_of(&value, u64::from(self.low), u64::from(self.high))?;
@@ -153,7 +172,7 @@ impl Kind for NumberKind<u8> {
 /// The number of a value that is a whole number of 64 bits in a range.
 pub(crate) fn number_of(value: &Value, low: u64, high: u64) -> Result<u64, Misfit>
     ensures value { result ≡ a_number low high (view value.now) }
-    ensures within { IfOk result (λ number. number ≤ high) }
+    ensures within { IfOk result (IsWithin low high) }
 {
     let number = value.as_number().ok_or(Misfit::Field)?;
     let number = number.as_u64().ok_or(Misfit::Number)?;
@@ -169,17 +188,20 @@ pub(crate) fn number_of(value: &Value, low: u64, high: u64) -> Result<u64, Misfi
 pub(crate) struct SectorStartKind;
 
 impl Kind for SectorStartKind {
+    ghost use Rattle.std.specs.Prelude.{◌≡◌, ◌%◌};
     ghost use Rattle.cmd_json.specs.Kinds.{a_multiple_of};
-    ghost use Rattle.cmd_json.specs.declared.command.TheConstants.{SECTOR_BYTES};
+    ghost use Rattle.cmd_json.specs.declared.command.TheConstants.{SECTOR_START_UNIT};
 
     type Said = u64;
 
-    ghost says = { λ _. a_multiple_of SECTOR_BYTES };
+    ghost says = { λ _. a_multiple_of SECTOR_START_UNIT };
+
+    ghost known = { λ _ number. number % SECTOR_START_UNIT ≡ 0 };
 
     fn read(&self, _alloc: Global, value: Value) -> Result<u64, Misfit> {
         let number = value.as_number().ok_or(Misfit::Field)?;
         let number = number.as_u64().ok_or(Misfit::Number)?;
-        if number % SECTOR_BYTES == 0 {
+        if number % SECTOR_START_UNIT == 0 {
             Ok(number)
         } else {
             Err(Misfit::Number)

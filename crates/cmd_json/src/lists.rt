@@ -1,7 +1,8 @@
 //! Lists, and what stands in them.
-ghost use Rattle.std.specs.Prelude.{◌≡◌};
+ghost use Rattle.std.specs.Prelude.{◌≡◌, IfOk};
 ghost use Rattle.serde_json.specs.View.{view};
 ghost use Rattle.cmd_json.specs.Kinds.{a_number, the_item, a_move_write};
+ghost use Rattle.cmd_json.specs.Range.{IsWithin};
 
 use crate::Sequence;
 use crate::command::MoveWrite;
@@ -16,11 +17,14 @@ use std::alloc::Global;
 pub(crate) struct ListKind<K>(pub(crate) K);
 
 impl<K: Kind> Kind for ListKind<K> {
+    ghost use Rattle.std.specs.Prelude.{All};
     ghost use Rattle.cmd_json.specs.Kinds.{a_list};
 
     type Said = Sequence<K::Said>;
 
     ghost says = { λ list. a_list (K.says list.0) };
+
+    ghost known = { λ list. All (K.known list.0) };
 
     fn read(&self, alloc: Global, value: Value) -> Result<Sequence<K::Said>, Misfit> {
         let Value::Array(values) = value else {
@@ -40,11 +44,15 @@ impl<K: Kind> Kind for ListKind<K> {
 pub(crate) struct MoveWriteKind;
 
 impl Kind for MoveWriteKind {
+    ghost use Rattle.basics.specs.declared.limits.TheConstants.{MAX_WRITE_SECTORS};
     ghost use Rattle.cmd_json.specs.Kinds.{a_move_write};
+    ghost use Rattle.cmd_json.specs.Range.{IsWithin};
 
     type Said = MoveWrite;
 
     ghost says = { λ _. a_move_write };
+
+    ghost known = { λ _ write. IsWithin 1 MAX_WRITE_SECTORS write.count };
 
     fn read(&self, _alloc: Global, value: Value) -> Result<MoveWrite, Misfit> {
         move_write_of(&value)
@@ -52,7 +60,8 @@ impl Kind for MoveWriteKind {
 }
 
 fn move_write_of(value: &Value) -> Result<MoveWrite, Misfit>
-    ensures { result ≡ a_move_write (view value.now) }
+    ensures value { result ≡ a_move_write (view value.now) }
+    ensures within { IfOk result (λ write. IsWithin 1 MAX_WRITE_SECTORS write.count) }
 {
     let first = number_at(value, 0, 0, u64::MAX)?;
     let count = number_at(value, 1, 1, MAX_WRITE_SECTORS)?;
@@ -69,6 +78,7 @@ fn move_write_of(value: &Value) -> Result<MoveWrite, Misfit>
 
 fn number_at(value: &Value, place: usize, low: u64, high: u64) -> Result<u64, Misfit>
     ensures value { result ≡ the_item place (a_number low high) (view value.now) }
+    ensures within { IfOk result (IsWithin low high) }
 {
     let item = value.get(place).ok_or(Misfit::Field)?;
     number_of(item, low, high)

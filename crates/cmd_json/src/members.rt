@@ -1,5 +1,5 @@
 //! The members of an object, which are taken out as they are read.
-ghost use Rattle.std.specs.Prelude.{◌≡◌, ◌≢◌, [], option_map};
+ghost use Rattle.std.specs.Prelude.{◌≡◌, ◌≢◌, [], All, IfOk, IfSome, option_map};
 ghost use Rattle.serde_json.specs.Find.{get_member};
 ghost use Rattle.serde_json.specs.View.{view, members_view};
 ghost use Rattle.cmd_json.specs.Kinds.{a_list};
@@ -39,8 +39,9 @@ impl Members {
 
     /// Reads a member that has to be there.
     pub(crate) fn required<K: Kind>(&mut self, name: &str, kind: K) -> Result<K::Said, CmdRefused>
-        ensures { Reads (required name.now (K.says kind) (left_in self.old)) (left_in self.new)
+        ensures reads { Reads (required name.now (K.says kind) (left_in self.old)) (left_in self.new)
             result }
+        ensures known { IfOk result (K.known kind) }
     {
         match self.take(name) {
             Some(value) => said(self.alloc, name, &kind, value),
@@ -54,8 +55,9 @@ impl Members {
         name: &str,
         kind: K,
     ) -> Result<Option<K::Said>, CmdRefused>
-        ensures { Reads (optional name.now (K.says kind) (left_in self.old)) (left_in self.new)
+        ensures reads { Reads (optional name.now (K.says kind) (left_in self.old)) (left_in self.new)
             result }
+        ensures known { IfOk result (λ said. IfSome said (K.known kind)) }
     {
         match self.take(name) {
             Some(value) => Ok(Some(said(self.alloc, name, &kind, value)?)),
@@ -69,8 +71,9 @@ impl Members {
         name: &str,
         kind: K,
     ) -> Result<Sequence<K::Said>, CmdRefused>
-        ensures { Reads (defaulted [] name.now (a_list (K.says kind)) (left_in self.old))
+        ensures reads { Reads (defaulted [] name.now (a_list (K.says kind)) (left_in self.old))
             (left_in self.new) result }
+        ensures known { IfOk result (All (K.known kind)) }
     {
         match self.take(name) {
             Some(value) => said(self.alloc, name, &ListKind(kind), value),
@@ -87,7 +90,8 @@ impl Members {
 
     /// What was read, if no member is left. Else the least of those that are left is told.
     pub(crate) fn finish<T: Drop>(self, read: T) -> Result<T, CmdRefused>
-        ensures { Gives refused.NoMemory (if_none_left read (left_in self)) result }
+        ensures read { Gives refused.NoMemory (if_none_left read (left_in self)) result }
+        ensures same { IfOk result (λ given. given ≡ read) }
     {
         match self.map.first_key_value() {
             Some((name, _)) => Err(self.refusal_of(name.as_str())),
@@ -98,7 +102,8 @@ impl Members {
 
 // What the value of a member says.
 fn said<K: Kind>(alloc: Global, name: &str, kind: &K, value: Value) -> Result<K::Said, CmdRefused>
-    ensures { Gives refused.NoMemory (said name.now (K.says kind.now) (view value)) result }
+    ensures said { Gives refused.NoMemory (said name.now (K.says kind.now) (view value)) result }
+    ensures known { IfOk result (K.known kind.now) }
 {
     match kind.read(alloc, value) {
         Ok(said) => Ok(said),

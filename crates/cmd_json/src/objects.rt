@@ -1,5 +1,6 @@
 //! The objects within a list, by their members.
-ghost use Rattle.std.specs.Prelude.{codes};
+ghost use Rattle.std.specs.Prelude.{codes, IfOk};
+ghost use Rattle.basics.specs.Spelled.{IsName};
 ghost use Rattle.cmd_json.specs.Commands.{guest, disturbance, act_named};
 ghost use Rattle.cmd_json.specs.Kinds.{a_text};
 ghost use Rattle.cmd_json.specs.Left.{left_in};
@@ -33,12 +34,15 @@ impl From<CmdRefused> for Misfit {
 pub(crate) struct GuestKind;
 
 impl Kind for GuestKind {
+    ghost use Rattle.basics.specs.Spelled.{IsName};
     ghost use Rattle.cmd_json.specs.Commands.{guest};
     ghost use Rattle.cmd_json.specs.Members.{an_object};
 
     type Said = GuestLine;
 
     ghost says = { λ _. an_object guest };
+
+    ghost known = { λ _ line. IsName line.vm };
 
     fn read(&self, alloc: Global, value: Value) -> Result<GuestLine, Misfit> {
         let Value::Object(map) = value else {
@@ -51,7 +55,8 @@ impl Kind for GuestKind {
 }
 
 fn read_guest(members: &mut Members) -> Result<GuestLine, CmdRefused>
-    ensures { Reads (guest (left_in members.old)) (left_in members.new) result }
+    ensures reads { Reads (guest (left_in members.old)) (left_in members.new) result }
+    ensures known { IfOk result (λ line. IsName line.vm) }
 {
     let vm = members.required("vm", NameKind)?;
     let seed = members.required("seed", LONG)?;
@@ -64,12 +69,15 @@ fn read_guest(members: &mut Members) -> Result<GuestLine, CmdRefused>
 pub(crate) struct DisturbKind;
 
 impl Kind for DisturbKind {
+    ghost use Rattle.basics.specs.Spelled.{IsName};
     ghost use Rattle.cmd_json.specs.Commands.{disturbance};
     ghost use Rattle.cmd_json.specs.Members.{an_object};
 
     type Said = DisturbLine;
 
     ghost says = { λ _. an_object disturbance };
+
+    ghost known = { λ _ line. IsName line.vm };
 
     fn read(&self, alloc: Global, value: Value) -> Result<DisturbLine, Misfit> {
         let Value::Object(map) = value else {
@@ -82,7 +90,8 @@ impl Kind for DisturbKind {
 }
 
 fn read_disturbance(members: &mut Members) -> Result<DisturbLine, CmdRefused>
-    ensures { Reads (disturbance (left_in members.old)) (left_in members.new) result }
+    ensures reads { Reads (disturbance (left_in members.old)) (left_in members.new) result }
+    ensures known { IfOk result (λ line. IsName line.vm) }
 {
     let vm = members.required("vm", NameKind)?;
     let act = read_act(members)?;

@@ -1,7 +1,8 @@
 //! The command of a line, by its name.
-ghost use Rattle.std.specs.Prelude.{◌≡◌};
+ghost use Rattle.std.specs.Prelude.{◌≡◌, IfOk};
+ghost use Rattle.cmd_json.specs.Known.{IsAskable};
 ghost use Rattle.serde_json.specs.View.{view};
-ghost use Rattle.cmd_json.specs.Laws.{KeepsOrder};
+ghost use Rattle.cmd_json.specs.Laws.{BuiltAreRows, KeepsOrder};
 ghost use Rattle.cmd_json.specs.Left.{left_in};
 ghost use Rattle.cmd_json.specs.Line.{command_of, command_among, command_of_data, command_of_members, command_named, contains, names_of};
 ghost use Rattle.cmd_json.specs.Members.{Gives, Reads};
@@ -18,32 +19,9 @@ use crate::refusal::CmdRefused;
 use serde_json::Value;
 use std::alloc::Global;
 
-/// The names of the commands that are built. One that isn't built is refused before its members
-/// are tested.
-pub const BUILT: [&str; 22] = [
-    "move",
-    "host",
-    "vm",
-    "enable",
-    "write",
-    "snapshot",
-    "remove",
-    "query",
-    "read",
-    "power",
-    "reset",
-    "inventory",
-    "plan",
-    "start",
-    "run",
-    "cutover",
-    "cancel",
-    "status",
-    "target",
-    "digest",
-    "restart",
-    "quit",
-];
+/// The names of the commands that the program carries out by now. A command whose name isn't among
+/// them is refused before its members are tested.
+pub const BUILT: [&str; 1] = ["move"];
 
 /// The command that a line asks for, or why it asks for none. The line comes without its line feed.
 /// In this order: [`CmdRefused::Json`] where it isn't JSON in UTF-8 or nests deeper than 127;
@@ -57,14 +35,16 @@ pub const BUILT: [&str; 22] = [
 /// Blank lines and lines that are too long are told apart by the caller: here a blank one isn't
 /// JSON, and no length is too much. Want of memory may stand in place of every answer.
 pub fn read_command(alloc: Global, line: &[u8]) -> Result<Command, CmdRefused>
-    ensures { Gives refused.NoMemory (command_of line.now) result }
+    ensures read { Gives refused.NoMemory (command_of line.now) result }
+    ensures known { IfOk result IsAskable }
 {
     read_among(alloc, &BUILT, line)
 }
 
 /// The same, where the commands of these names are built.
 pub(crate) fn read_among(alloc: Global, built: &[&str], line: &[u8]) -> Result<Command, CmdRefused>
-    ensures { Gives refused.NoMemory (command_among (names_of built.now) line.now) result }
+    ensures read { Gives refused.NoMemory (command_among (names_of built.now) line.now) result }
+    ensures known { IfOk result IsAskable }
 {
     match Value::from_slice(alloc, line) {
         Ok(value) => read_value(alloc, built, value),
@@ -74,7 +54,8 @@ pub(crate) fn read_among(alloc: Global, built: &[&str], line: &[u8]) -> Result<C
 }
 
 fn read_value(alloc: Global, built: &[&str], value: Value) -> Result<Command, CmdRefused>
-    ensures { Gives refused.NoMemory (command_of_data (names_of built.now) (view value)) result }
+    ensures read { Gives refused.NoMemory (command_of_data (names_of built.now) (view value)) result }
+    ensures known { IfOk result IsAskable }
 {
     match value {
         Value::Object(map) => read_object(built, Members::of(alloc, map)),
@@ -83,8 +64,9 @@ fn read_value(alloc: Global, built: &[&str], value: Value) -> Result<Command, Cm
 }
 
 fn read_object(built: &[&str], mut members: Members) -> Result<Command, CmdRefused>
-    ensures { Gives refused.NoMemory
+    ensures read { Gives refused.NoMemory
         (command_of_members (names_of built.now) (left_in members)) result }
+    ensures known { IfOk result IsAskable }
 {
     let Some(Value::String(name)) = members.take("cmd") else {
         return Err(CmdRefused::Command);
@@ -104,7 +86,9 @@ fn is_among(name: &str, names: &[&str]) -> bool
 
 // Reads the members of the command of that name.
 fn read_named(name: &str, members: &mut Members) -> Result<Command, CmdRefused>
-    ensures { Reads (command_named name.now (left_in members.old)) (left_in members.new) result }
+    ensures reads { Reads (command_named name.now (left_in members.old)) (left_in members.new)
+        result }
+    ensures known { IfOk result IsAskable }
 {
     match name {
         "move" => read_move(members),
@@ -135,7 +119,12 @@ fn read_named(name: &str, members: &mut Members) -> Result<Command, CmdRefused>
 
 /// The object that a line is has each name once, in ascending order of its bytes, and so have the
 /// members that are left when one was taken out. So the first that is left, which is told, is the
-/// least.
+/// least. Taking one out leaves the others as they are.
 pub fn order_is_kept()
     ensures { KeepsOrder }
+{}
+
+/// Each command that is built has a row of its own.
+pub fn built_are_rows()
+    ensures { BuiltAreRows }
 {}

@@ -14,9 +14,10 @@ pub enum CmdRefused {
     Json,
     /// It isn't an object whose member `cmd` is the name of a command that is built.
     Command,
-    /// The member of this name is missing, is of the wrong kind, or isn't one that the command has.
+    /// The member of this name is missing, of the wrong kind or no name, has such a fault within its
+    /// list, or isn't one that the command has.
     Field(Text),
-    /// The member of this name has a number that isn't one that it may have.
+    /// The member of this name has a number or a moment that it may not have, in its list too.
     Number(Text),
     /// Memory ran out.
     NoMemory,
@@ -38,18 +39,17 @@ impl CmdRefused {
 }
 
 impl fmt::Display for CmdRefused {
+    ghost use Rattle.std.specs.Prelude.{Some};
+    ghost use Rattle.cmd_json.specs.Refusal.{refusal_text};
+
+    ghost output = { λ refusal. Some (refusal_text refusal) };
+
     fn fmt<W: fmt::Write>(&self, f: &mut fmt::Formatter<W>) -> fmt::Result {
         match self {
             CmdRefused::Json => write!(f, "the line isn't JSON"),
             CmdRefused::Command => write!(f, "there is no such command"),
-            CmdRefused::Field(name) => write!(
-                f,
-                "the member {} isn't as it should be",
-                name.as_str()
-            ),
-            CmdRefused::Number(name) => {
-                write!(f, "the number of {} isn't in its range", name.as_str())
-            }
+            CmdRefused::Field(name) => write!(f, "missing, wrong or unknown: {}", name.as_str()),
+            CmdRefused::Number(name) => write!(f, "not in its range: {}", name.as_str()),
             CmdRefused::NoMemory => write!(f, "memory ran out"),
         }
     }

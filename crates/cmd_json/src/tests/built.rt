@@ -1,7 +1,7 @@
 //! Which commands are built, and how a refusal is numbered and shown.
 use super::told;
 use crate::read::read_among;
-use crate::{BUILT, CmdRefused, Text};
+use crate::{BUILT, CmdRefused, Text, read_command};
 use std::alloc::Global;
 use std::test::Fail;
 
@@ -45,8 +45,20 @@ fn a_name_that_no_row_has_is_no_command(rt: HostRuntime) -> Result<(), Fail> {
 }
 
 #[test]
-fn all_commands_are_built(rt: HostRuntime) {
-    assert_eq!(rt; BUILT.len(), 22);
+fn what_is_built_is_a_command(rt: HostRuntime) -> Result<(), Fail> {
+    for name in BUILT {
+        let line = format!(in rt.alloc(); r#"{{"cmd":"{name}"}}"#)?;
+        let answer = told(rt.alloc(), read_command(rt.alloc(), line.as_bytes()))?;
+        assert_ne!(rt; answer.as_str(), "command", "{name}");
+    }
+    Ok(())
+}
+
+#[test]
+fn what_is_not_built_yet_is_no_command(rt: HostRuntime) -> Result<(), Fail> {
+    let answer = told(rt.alloc(), read_command(rt.alloc(), br#"{"cmd":"host"}"#))?;
+    assert_eq!(rt; answer.as_str(), "command");
+    Ok(())
 }
 
 #[test]
@@ -54,7 +66,7 @@ fn refusals_have_numbers_and_texts(rt: HostRuntime) -> Result<(), Fail> {
     let refused = CmdRefused::Number(Text::of(rt.alloc(), "limit")?);
     assert_eq!(rt; refused.number(), Some(4));
     let text = refused.to_string(rt.alloc())?;
-    assert_eq!(rt; text.as_str(), "the number of limit isn't in its range");
+    assert_eq!(rt; text.as_str(), "not in its range: limit");
     assert_eq!(rt; CmdRefused::Json.number(), Some(1));
     assert_eq!(rt; CmdRefused::NoMemory.number(), None);
     Ok(())

@@ -1,7 +1,7 @@
 //! What holds of all lines: what is JSON, what names a command, which members count, and which of
 //! several things wrong is told.
-use super::{answer, told};
-use crate::{Command, read_command};
+use super::{answer, read, told};
+use crate::Command;
 use std::alloc::Global;
 use std::test::Fail;
 
@@ -282,7 +282,7 @@ fn a_member_too_many_is_told_last_and_the_least_one(rt: HostRuntime) -> Result<(
 }
 
 fn answer_to(alloc: Global, line: &[u8]) -> Result<String, Fail> {
-    told(alloc, read_command(alloc, line))
+    told(alloc, read(alloc, line))
 }
 
 #[test]
@@ -343,7 +343,7 @@ fn repeated(
 fn a_line_may_have_a_hundred_thousand_writes(rt: HostRuntime) -> Result<(), Fail> {
     let front = r#"{"cmd":"move","name":"a","sectors":1,"writes":["#;
     let line = repeated(rt.alloc(), front, "[0,1,2]", 100_000, "]}")?;
-    match read_command(rt.alloc(), line.as_bytes()) {
+    match read(rt.alloc(), line.as_bytes()) {
         Ok(Command::Move { writes, .. }) => {
             assert_eq!(rt; writes.as_slice().len(), 100_000);
         }
@@ -352,10 +352,10 @@ fn a_line_may_have_a_hundred_thousand_writes(rt: HostRuntime) -> Result<(), Fail
     Ok(())
 }
 
-// An object of a hundred thousand members, whose names are the numbers of six digits.
+// An object of 95,000 members and its command, whose names are numbers of six digits.
 fn many_members(alloc: Global) -> Result<String, Fail> {
     let mut line = String::from_str(alloc, "{")?;
-    for number in 0u32..100_000 {
+    for number in 0u32..95_000 {
         let name = 199_999 - number;
         let member = format!(in alloc; r#""{name}":0,"#)?;
         line.push_str(member.as_str())?;
@@ -365,9 +365,9 @@ fn many_members(alloc: Global) -> Result<String, Fail> {
 }
 
 #[test]
-fn a_line_may_have_a_hundred_thousand_members(rt: HostRuntime) -> Result<(), Fail> {
+fn a_line_may_have_95_000_members(rt: HostRuntime) -> Result<(), Fail> {
     let line = many_members(rt.alloc())?;
     let answer = answer_to(rt.alloc(), line.as_bytes())?;
-    assert_eq!(rt; answer.as_str(), "field 100000");
+    assert_eq!(rt; answer.as_str(), "field 105000");
     Ok(())
 }

@@ -1,5 +1,6 @@
 //! What is read from a line that is accepted, as its type shows itself.
-use crate::{Command, read_command};
+use super::read;
+use crate::Command;
 use std::alloc::Global;
 use std::process::Abort;
 use std::test::Fail;
@@ -12,7 +13,7 @@ fn shows(
     wanted: &str,
 ) -> Result<(), Fail> {
     let line = format!(in alloc; r#"{{"cmd":"{name}",{members}}}"#)?;
-    let command = read_command(alloc, line.as_bytes())?;
+    let command = read(alloc, line.as_bytes())?;
     let shown = format!(in alloc; "{command:?}")?;
     assert_eq!(rt; shown.as_str(), wanted, "{line}");
     Ok(())
@@ -195,7 +196,7 @@ fn disturbances_are_read(rt: HostRuntime) -> Result<(), Fail> {
 
 // The text of a digest's volume is this one.
 fn has_volume(rt: &impl Abort, alloc: Global, line: &str, wanted: &str) -> Result<(), Fail> {
-    match read_command(alloc, line.as_bytes()) {
+    match read(alloc, line.as_bytes()) {
         Ok(Command::Digest { volume }) => assert_eq!(rt; volume.as_str(), wanted, "{line}"),
         _ => return Err(Fail::from("no digest")),
     }

@@ -8,29 +8,29 @@ use Rattle.cmd_json.specs.declared.refusal.CmdRefused.TheVariants.{Command}
 use Rattle.cmd_json.proofs.LineLemmas.{named-Misses}
 use Rattle.cmd_json.proofs.read.read_named.Goals as goal
 
-pub returns-in-inventory : goal.returns-in-inventory
+pub returns-in-inventory-clause-reads : goal.returns-in-inventory-clause-reads
 unfolding command_named
-returns-in-inventory c =
+returns-in-inventory-clause-reads c =
     ap (λ name. command_named name (left_in c.args.members.now)) c.in-inventory.is
 
-pub returns-in-status : goal.returns-in-status
+pub returns-in-status-clause-reads : goal.returns-in-status-clause-reads
 unfolding command_named
-returns-in-status c =
+returns-in-status-clause-reads c =
     ap (λ name. command_named name (left_in c.args.members.now)) c.in-status.is
 
-pub returns-in-restart : goal.returns-in-restart
+pub returns-in-restart-clause-reads : goal.returns-in-restart-clause-reads
 unfolding command_named
-returns-in-restart c =
+returns-in-restart-clause-reads c =
     ap (λ name. command_named name (left_in c.args.members.now)) c.in-restart.is
 
-pub returns-in-quit : goal.returns-in-quit
+pub returns-in-quit-clause-reads : goal.returns-in-quit-clause-reads
 unfolding command_named
-returns-in-quit c =
+returns-in-quit-clause-reads c =
     ap (λ name. command_named name (left_in c.args.members.now)) c.in-quit.is
 
-pub returns-in_default : goal.returns-in_default
+pub returns-in_default-clause-reads : goal.returns-in_default-clause-reads
 unfolding command_named
-returns-in_default c = λ paid.
+returns-in_default-clause-reads c = λ paid.
     let other = c.in_default in
     ap (λ found. result_and_then (λ reading. reading (left_in c.args.members.now))
     (ok_or found Command))

@@ -1,0 +1,5 @@
+-- A number in a range.
+use Rattle.std.specs.Prelude.{ℕ, ◌≤◌}
+
+abbrev pub IsWithin : (low high number : ℕ) → Type 0
+IsWithin low high number = (low ≤ number) × (number ≤ high)
