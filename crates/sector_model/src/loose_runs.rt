@@ -1,9 +1,8 @@
 //! Loose sectors of a volume, kept as runs.
 ghost use Rattle.std.specs.Prelude.{◌≡◌, ◌≤◌, length, All};
-ghost use Rattle.std.specs.List.{sum_by};
 ghost use Rattle.sector_model.specs.Run.{end_of};
-ghost use Rattle.sector_model.specs.VolumeContents.{fill_loose};
-ghost use Rattle.sector_model.specs.LooseRuns.{flags_of, RunsAreUnique, LooseRunsCount, LooseRunsGrow, NoLooseRuns};
+ghost use Rattle.sector_model.specs.VolumeContents.{fill_loose, loose_count};
+ghost use Rattle.sector_model.specs.LooseRuns.{flags_of, volume_of, RunsAreUnique, LooseRunsCount, LooseRunsGrow, NoLooseRuns};
 
 use crate::{Runs, Sector, SectorList};
 
@@ -11,7 +10,7 @@ impl SectorList {
     /// Puts the sectors of a filling, in order, in place of those of the runs. It takes no memory.
     pub fn fill_loose(&mut self, loose: &Runs, filling: &[Sector])
         requires within { All (λ run. end_of run ≤ length self.old) loose.now }
-        requires long { length filling.now ≡ sum_by (λ run. run.count) loose.now }
+        requires long { length filling.now ≡ loose_count (volume_of self.old loose.now) }
         ensures { self.new ≡ fill_loose (flags_of (length self.old) loose.now) self.old filling.now }
     {
         let mut at = 0;

@@ -43,7 +43,7 @@ pub some-parts : {A : Type 0} (o : Option A) → IsSome o → (x : A) × (o ≡ 
 some-parts None h = absurd (false≢true h)
 some-parts (Some x) h = (x, refl)
 
-ok-parts : {A B : Type 0} (r : Result A B) → IsOk r → (x : A) × (r ≡ Ok x)
+pub ok-parts : {A B : Type 0} (r : Result A B) → IsOk r → (x : A) × (r ≡ Ok x)
 ok-parts (Ok x) h = (x, refl)
 ok-parts (Err y) h = absurd (false≢true h)
 
@@ -119,7 +119,7 @@ stage-sound w s t next v sound has stands =
       staged = subst (λ (o : Option Snapped). Staged w.capacity w.disk w.log w.base o v) (sym has.snap) stands.staged;
     }
 
-by_stage-is : (f : Snapped → StageState → World → World) (w : World) (s : Snapped) (t : StageState) → HasStage w s t → by_stage f w ≡ f s t w
+pub by_stage-is : (f : Snapped → StageState → World → World) (w : World) (s : Snapped) (t : StageState) → HasStage w s t → by_stage f w ≡ f s t w
 by_stage-is f w s t has =
     ap (λ (o : Option Snapped). at_stage f o w.stage w) has.snap ∙ ap (λ (o : Option StageState). at_stage f (Some s) o w) has.stage
 

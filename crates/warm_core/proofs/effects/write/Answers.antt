@@ -1,4 +1,4 @@
-use Rattle.std.proofs.Common.{◌≡◌, ◌+◌, ◌≤◌, List, length, tt, ap, ◌∙◌, arith}
+use Rattle.std.proofs.Common.{◌≡◌, ◌+◌, ◌≤◌, List, length, ap, ◌∙◌, arith}
 use Rattle.sector_model.specs.LooseRuns.{volume_of}
 use Rattle.sector_model.specs.VolumeContents.{VolumeContents, volume_written}
 use Rattle.sector_model.specs.declared.run.Run.{Run}
