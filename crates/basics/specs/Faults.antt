@@ -18,6 +18,10 @@ RoseBy n before now = counted_by n before ≤ now
 abbrev pub Rose : (before now : ℕ) → Type 0
 Rose before now = RoseBy 1 before now
 
+-- the count rose, and never falls: what a failure leaves of it
+abbrev pub HasRisen : (before now : ℕ) → Type 0
+HasRisen before now = (before ≤ now) × Rose before now
+
 -- the count stays where the call did what it was asked, and rose where it failed
 pub record HasCause {T E : Type 0} (before now : ℕ) (result : Result T E) : Type 0 where
   pub later : before ≤ now

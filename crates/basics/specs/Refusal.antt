@@ -1,5 +1,5 @@
--- How the result of a call tells its refusal. A crate has one function a call that gives the refusal
--- which stands, its reasons in order, or none; these words tie it to the result.
+-- How the result of a call tells its refusal. A crate has one function a call that gives the
+-- refusal which stands, its reasons in order, or none; these words tie it to the result.
 use Rattle.std.specs.Prelude.{◌≡◌, ◌⊎◌, Bool, true, Option, Some, None, Result, Err, IsOk, IfErr, IsErrAnd}
 
 -- the call answers the refusal that stands, and is accepted where none does
@@ -8,7 +8,8 @@ IsRefusedBy None result = IsOk result
 IsRefusedBy (Some refusal) result = result ≡ Err refusal
 
 -- the same, but that one refusal, which is free, may come where none stands: want of memory
-abbrev pub IsRefusedOr : {T E : Type 0} → (refusal : Option E) (free : E) (result : Result T E) → Type 0
+abbrev pub IsRefusedOr : {T E : Type 0} → (refusal : Option E) (free : E) (result : Result T E)
+    → Type 0
 IsRefusedOr None free result = IfErr result (λ answer. answer ≡ free)
 IsRefusedOr (Some refusal) free result = result ≡ Err refusal
 

@@ -2,7 +2,7 @@
 //! to fail. A test makes such an object fail where it likes, and nowhere else.
 ghost use Rattle.std.specs.Prelude.{◌≡◌, ◌≤◌, ◌↔◌, IsErr, is_ok, false};
 ghost use Rattle.basics.specs.Calls.{no_calls, never_fails, FailsNext, after_call};
-ghost use Rattle.basics.specs.Faults.{HasCause, counted_by, Rose};
+ghost use Rattle.basics.specs.Faults.{HasCause, HasRisen, counted_by};
 
 use crate::Failed;
 use std::marker::Model;
@@ -68,8 +68,7 @@ impl Calls {
     /// Counts a call that fails whatever its number is.
     pub fn fail(&mut self) -> Failed
         ensures log { self.new ≡ after_call self.old false }
-        ensures later { self.old.faults ≤ self.new.faults }
-        ensures rose { Rose self.old.faults self.new.faults }
+        ensures rises { HasRisen self.old.faults self.new.faults }
     {
         self.made = self.made.saturating_add(1);
         self.faults = self.faults.saturating_add(1);

@@ -1,9 +1,10 @@
 //! A list of numbers of machines, as plans and records have it. It keeps its memory to itself, so
 //! that callers see the numbers and nothing else.
-ghost use Rattle.std.specs.Prelude.{◌≡◌, IfOk};
+ghost use Rattle.std.specs.Prelude.{◌≡◌, ◌<◌, ◌^◌, IfOk};
+ghost use Rattle.std.specs.List.{AllByRecursion};
 
 use crate::NoMemory;
-use std::alloc::Global;
+use std::alloc::{AllocError, Global};
 use std::marker::Model;
 
 /// Numbers of 32 bits, in order.
@@ -36,11 +37,30 @@ impl NumberList {
         NumberList { numbers }
     }
 
-    /// The numbers, in order.
+    /// The numbers, in order. Each has 32 bits, which callers learn here.
     pub fn as_slice(&self) -> &[u32]
-        ensures { result.now ≡ self.now }
+        ensures numbers { result.now ≡ self.now }
+        ensures fit { AllByRecursion (λ number. number < 2 ^ 32) self.now }
     {
-        self.numbers.as_slice()
+        let numbers = self.numbers.as_slice();
+        each_fits(numbers);
+        numbers
+    }
+}
+
+/// Numbers of 32 bits are below 2^32. The fact is the contract; there is nothing to do.
+fn each_fits(numbers: &[u32])
+    ensures { AllByRecursion (λ number. number < 2 ^ 32) numbers.now }
+{}
+
+impl Clone for NumberList {
+    ghost use Rattle.std.specs.Prelude.{◌≡◌};
+
+    ghost is_clone = { λ list copy. copy ≡ list };
+
+    fn clone(&self) -> Result<NumberList, AllocError> {
+        let numbers = self.numbers.clone()?;
+        Ok(NumberList { numbers })
     }
 }
 

@@ -1,4 +1,4 @@
-use crate::{Calls, Failed, Name, NumberList, is_name};
+use crate::{Calls, Failed, Name, NumberList, Sequence, Text, is_name};
 use std::test::Fail;
 
 #[test]
@@ -65,7 +65,18 @@ fn a_list_of_numbers_keeps_them_in_order(rt: HostRuntime) -> Result<(), Fail> {
     let other = NumberList::of(rt.alloc(), &[3, 3, 1]).or(Err("no memory"))?;
     assert!(rt; list != other);
     let list = NumberList::from_vec(vec![in rt.alloc(); 7]?);
-    assert_eq!(rt; list.as_slice(), [7].as_slice());
+    assert_eq!(rt; list.clone()?.as_slice(), [7].as_slice());
+    Ok(())
+}
+
+#[test]
+fn texts_and_sequences_are_what_they_were_made_of(rt: HostRuntime) -> Result<(), Fail> {
+    let text = Text::of(rt.alloc(), "")?;
+    assert_eq!(rt; text.as_str(), "");
+    let text = Text::of(rt.alloc(), "a \"name\" that is none")?;
+    assert_eq!(rt; text.as_str(), "a \"name\" that is none");
+    let sequence = Sequence::from_vec(vec![in rt.alloc(); 2, 1, 2]?);
+    assert_eq!(rt; sequence.as_slice(), [2, 1, 2].as_slice());
     Ok(())
 }
 

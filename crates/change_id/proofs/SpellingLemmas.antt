@@ -2,11 +2,14 @@
 use Rattle.std.proofs.Common.{◌≡◌, ◌≢◌, ℕ, ◌+◌, ◌-◌, ◌/◌, ◌%◌, ◌^◌, ◌<◌, ◌==◌, Bool, true, false, List, ◌∷◌, [], ◌++◌, All, Contains, Some, None, Result, Ok, Err, IsOk, ◌↔◌, position, length, get_or, set, map, take, drop, if◌then◌else◌, decimal, inl, inr, true≢false, arith, refl, sym, ap, ◌∙◌}
 use Rattle.std.proofs.lemmas.Bool.{cases_lt}
 use Rattle.std.proofs.lemmas.Bool.Decides.{nat_tests}
-use Rattle.std.proofs.lemmas.Fmt.{decimal_injective}
+use Rattle.std.proofs.lemmas.Fmt.{decimal_injective, IsAscii-decimal}
 use Rattle.std.proofs.lemmas.List.{length-append, length-drop, length-set, length-map, get_or-map, get_or_past, append_assoc, take_more_set, drop-set-lt, get_or_at, get_or_append_left, take_at, drop_at, drop-drop, take_rest}
 use Rattle.std.proofs.lemmas.List.Quantifiers.{position-Some}
 use Rattle.std.proofs.lemmas.List.Sums.{position_or_len_is, split_at_first, fails_before_first, passes_at_first}
 use Rattle.std.proofs.lemmas.Slice.{take-put_mid, drop-put_mid}
+use Rattle.std.proofs.lemmas.Str.{IsAscii-append}
+use Rattle.std.proofs.lemmas.Str.Ascii.{IsAscii-cons}
+use Rattle.std.specs.Str.{IsAscii}
 use Rattle.std.specs.Int.{w128, to_be_bytes, from_be_bytes}
 use Rattle.std.specs.List.{position_or_len}
 use Rattle.std.specs.Result.{result_ok}
@@ -58,6 +61,27 @@ fails_test b other = grind (arith, nat_tests)
 
 passes_test : (b : ℕ) → b ≡ slash → (b == slash) ≡ true
 passes_test b same = grind (arith, nat_tests)
+
+ascii_digit : (b : Bool) (d : ℕ) → d < 16 → (if b then 45 else hex_digit lower d) < 128
+ascii_digit true d small = omega arith
+ascii_digit false d small = grind (arith, nat_tests)
+
+-- the text of a UUID is ASCII
+ascii_uuid_text : (uuid : ℕ) → IsAscii (uuid_text uuid)
+unfolding uuid_text
+ascii_uuid_text uuid k =
+    let bytes = to_be_bytes w128 uuid in
+    elim (cases_lt k 36) [
+      | inl within ↦ rw (by_index_at 36 (λ j. if is_hyphen_place j then 45 else hex_digit lower (nibble bytes (digit_place j))) k 0 within)
+          (ascii_digit (is_hyphen_place k) (nibble bytes (digit_place k)) (nibble_small bytes (digit_place k)))
+      | inr past ↦ rw (get_or_past (hyphenated_text lower bytes) k 0 (omega (arith, length-uuid_text uuid))) (omega arith)
+    ]
+
+-- so is a spelling
+pub ascii_spelling : (uuid seq : ℕ) → seq < 2 ^ 64 → IsAscii (spelling uuid seq)
+ascii_spelling uuid seq fits =
+    IsAscii-append (uuid_text uuid) (slash ∷ decimal seq) (ascii_uuid_text uuid)
+    (IsAscii-cons slash (decimal seq) (omega arith) (IsAscii-decimal seq fits))
 
 -- the first slash of a spelling stands after its UUID
 pub first_slash-spelling : (uuid seq : ℕ) → position_or_len (λ b. b == slash) (spelling uuid seq) ≡ 36
@@ -199,6 +223,6 @@ pub same_identifier : (a b : ChangeId) → IsIdentifier a → IsIdentifier b →
 same_identifier a b of_a of_b same =
     let fronts : uuid_text a.uuid ≡ uuid_text b.uuid = sym (uuid_part-spelling a.uuid a.seq) ∙ ap uuid_part same ∙ uuid_part-spelling b.uuid b.seq in
     let backs : decimal a.seq ≡ decimal b.seq = sym (number_part-spelling a.uuid a.seq) ∙ ap number_part same ∙ number_part-spelling b.uuid b.seq in
-    let uuids = uuid_text_injective a.uuid b.uuid of_a.uuid_fits of_b.uuid_fits fronts in
-    let seqs = decimal_injective a.seq b.seq of_a.seq_fits of_b.seq_fits backs in
+    let uuids = uuid_text_injective a.uuid b.uuid of_a.ranges.uuid_fits of_b.ranges.uuid_fits fronts in
+    let seqs = decimal_injective a.seq b.seq of_a.ranges.seq_fits of_b.ranges.seq_fits backs in
     λ i. record { uuid = uuids i; seq = seqs i }

@@ -24,11 +24,15 @@ uuid_text uuid = hyphenated_text lower (to_be_bytes w128 uuid)
 abbrev pub spelling : (uuid seq : ℕ) → List ℕ
 spelling uuid seq = uuid_text uuid ++ slash ∷ decimal seq
 
--- a UUID of 128 bits, and a number from 1 to 2 ^ 64 - 1
-pub record IsIdentifier (id : ChangeId) : Type 0 where
+-- the numbers have 128 and 64 bits, as those of every value of the program have
+pub record IdHasRange (id : ChangeId) : Type 0 where
   pub uuid_fits : id.uuid < 2 ^ 128
-  pub counted : 1 ≤ id.seq
   pub seq_fits : id.seq < 2 ^ 64
+
+-- besides, the snapshot is counted, from 1 on
+pub record IsIdentifier (id : ChangeId) : Type 0 where
+  pub ranges : IdHasRange id
+  pub counted : 1 ≤ id.seq
 
 -- the text is the spelling of the identifier
 pub record Spells (text : List ℕ) (id : ChangeId) : Type 0 where

@@ -1,6 +1,6 @@
 -- What a list of happenings says of the tracking of one disk: the places of its snapshots, their
--- identifiers, and what a query answers. A machine's log is such a list, and so is what a tracker of
--- one disk was told. So the words stand once, for any list, over what each of its entries is.
+-- identifiers, and what a query answers. A machine's log is such a list, and so is what a tracker
+-- of one disk was told. So the words stand once, for any list, over what each of its entries is.
 use Rattle.std.specs.Prelude.{ℕ, ◌+◌, ◌==◌, nat_le, List, length, take, Bool, false, ◌&&◌, Option, Some, None, unwrap_or, Result, Ok, Err, if◌then◌else◌}
 use Rattle.std.specs.List.{fold, count_by, find, position_or_len, range_with_len}
 use Rattle.change_id.specs.ChangeId.{packed}
@@ -70,8 +70,8 @@ mark_of_id reading machine disk id log =
     find (λ place. is_id id (in_force reading machine disk (take (place + 1) log)))
     (range_with_len 0 (length log))
 
--- a query of the snapshot accepts the identifier: its UUID is that of the epoch both at the snapshot
--- and now, and its number is one from 1 to that of the snapshot
+-- a query of the snapshot accepts the identifier: its UUID is that of the epoch both at the
+-- snapshot and now, and its number is one from 1 to that of the snapshot
 abbrev pub accepts : {E : Type 0} → Reading E → (machine disk snapshot : ℕ) → ChangeId → List E
     → Bool
 accepts reading machine disk snapshot id log =

@@ -19,6 +19,11 @@ abbrev pub SpellingsDiffer : Type 0
 SpellingsDiffer = (a b : ChangeId) → IsIdentifier a → IsIdentifier b
     → spelling a.uuid a.seq ≡ spelling b.uuid b.seq → a ≡ b
 
+-- a packing has 128 bits
+abbrev pub PackingsFit : Type 0
+PackingsFit = (machine disk resets : ℕ) → machine < 2 ^ 32 → disk < 2 ^ 32 → resets < 2 ^ 64
+    → packed machine disk resets < 2 ^ 128
+
 -- no two triples share a packing
 abbrev pub PackingsDiffer : Type 0
 PackingsDiffer = (machine disk resets machine' disk' resets' : ℕ)

@@ -1,26 +1,35 @@
 //! Change identifiers of the form `<UUID>/<number>`, as VMware's changed block tracking has them.
 //! Here the UUID packs the machine, the disk and how often the disk's tracking was reset, and the
-//! number counts the disk's snapshots since the last reset.
+//! number counts the disk's snapshots since tracking was enabled and, where it was reset, since the
+//! last reset.
 #![tactic(auto)]
 
 ghost use Rattle.std.specs.Prelude.{◌≡◌, ◌≤◌, ◌<◌, ◌↔◌, ◌==◌, Contains, IfNone, IfSome, IsTrue, MatchOption, position, slice_index, decimal, drop, length, take};
+ghost use Rattle.std.specs.Str.{IsAscii};
 ghost use Rattle.change_id.specs.declared.ChangeId.{ChangeId};
 ghost use Rattle.change_id.specs.ChangeId.{refusal_number, packed, spelling, uuid_text, uuid_part, number_part, IsUuidText, IsNumberText, IsAnswer, Spells, LacksSlash, LacksUuid, LacksNumber, slash};
-ghost use Rattle.change_id.specs.Laws.{OneAnswer, WrittenParses, SpellingsDiffer, PackingsDiffer};
+ghost use Rattle.change_id.specs.Laws.{OneAnswer, WrittenParses, SpellingsDiffer, PackingsFit, PackingsDiffer};
 
 use std::error::Error;
 use std::fmt;
 use uuid::Uuid;
 
+/// The bytes of a hyphenated UUID.
+pub const UUID_BYTES: usize = 36;
+
 /// The most decimal digits that a `u64` has.
 const MAX_DIGITS: usize = 20;
+
+/// The most bytes of an identifier's spelling: a UUID, a slash and the digits of a number.
+pub const MAX_ID_BYTES: usize = UUID_BYTES + 1 + MAX_DIGITS;
 
 /// A disk's state at one of its snapshots.
 #[derive(Clone, Copy, Debug, PartialEq, Eq)]
 pub struct ChangeId {
     /// What [`pack`] gives for the machine, the disk and its resets.
     pub uuid: u128,
-    /// The number of the snapshot since the last reset, from 1 on.
+    /// The number of the snapshot, from 1 on, since tracking was enabled and, where it was reset,
+    /// since the last reset.
     pub seq: u64,
 }
 
@@ -93,23 +102,25 @@ pub fn parse(text: &[u8]) -> Result<ChangeId, IdRefused>
     Ok(ChangeId { uuid, seq })
 }
 
-/// Writes the one spelling of `id` to the front of `out`, and gives its length in bytes. The rest
-/// of `out` stays as it was.
-pub fn write_to(id: &ChangeId, out: &mut [u8; 57]) -> usize
-    requires { 1 ≤ id.now.seq }
+/// Writes the one spelling of `id` to the front of `out`, and gives its length in bytes. It is
+/// ASCII, and the rest of `out` stays as it was. An identifier with the number 0 is written too,
+/// but [`parse`] reads none such.
+pub fn write_to(id: &ChangeId, out: &mut [u8; MAX_ID_BYTES]) -> usize
     ensures text { take result out.new ≡ spelling id.now.uuid id.now.seq }
+    ensures spells { 1 ≤ id.now.seq → Spells (take result out.new) id.now }
+    ensures ascii { IsAscii (take result out.new) }
     ensures rest { drop result out.new ≡ drop result out.old }
-    ensures fits { result ≤ 57 }
+    ensures fits { result ≤ MAX_ID_BYTES }
 {
-    let mut buffer = [0; 36];
+    let mut buffer = [0; UUID_BYTES];
     let uuid = Uuid::from_u128(id.uuid)
         .hyphenated()
         .encode_lower(&mut buffer);
-    out[..36].copy_from_slice(uuid.as_bytes());
-    out[36] = b'/';
+    out[..UUID_BYTES].copy_from_slice(uuid.as_bytes());
+    out[UUID_BYTES] = b'/';
     let (digits, start) = decimal_digits(id.seq);
-    let end = 37 + MAX_DIGITS - start;
-    out[37..end].copy_from_slice(&digits[start..]);
+    let end = MAX_ID_BYTES - start;
+    out[UUID_BYTES + 1..end].copy_from_slice(&digits[start..]);
     end
 }
 
@@ -136,7 +147,7 @@ fn parse_uuid(text: &[u8]) -> Option<u128>
     ensures { MatchOption result (¬ (IsUuidText text.now)) (λ uuid. text.now ≡ uuid_text uuid) }
 {
     let uuid = Uuid::try_parse_ascii(text).ok()?;
-    let mut buffer = [0; 36];
+    let mut buffer = [0; UUID_BYTES];
     let lower = uuid.hyphenated().encode_lower(&mut buffer);
     if lower.as_bytes() == text {
         Some(uuid.as_u128())
@@ -195,6 +206,11 @@ pub fn spellings_differ()
     ensures { SpellingsDiffer }
 {}
 
+/// A packing of numbers that fit has 128 bits, as the UUID of an identifier.
+pub fn packings_fit()
+    ensures { PackingsFit }
+{}
+
 /// No two triples of machine, disk and resets share a packing.
 pub fn packings_differ()
     ensures { PackingsDiffer }
@@ -220,7 +236,7 @@ mod tests {
                 uuid: pack(machine, disk, resets),
                 seq: 1,
             };
-            let mut out = [b'#'; 57];
+            let mut out = [b'#'; MAX_ID_BYTES];
             let len = write_to(&id, &mut out);
             assert_eq!(rt; &out[..len], text.as_bytes(), "{text}");
             assert!(rt; out[len..].iter().all(|b| *b == b'#'), "after {text}");
@@ -268,15 +284,14 @@ mod tests {
 
     #[test]
     fn the_longest_spelling_fills_the_buffer(rt: HostRuntime) {
-        let mut out = [0; 57];
+        let mut out = [0; MAX_ID_BYTES];
         let id = ChangeId {
             uuid: u128::MAX,
             seq: u64::MAX,
         };
         let text = b"ffffffff-ffff-ffff-ffff-ffffffffffff/18446744073709551615";
-        assert_eq!(rt; write_to(&id, &mut out), 57);
+        assert_eq!(rt; write_to(&id, &mut out), MAX_ID_BYTES);
         assert_eq!(rt; &out, text);
-        assert_ne!(rt; Since::From(id), Since::All);
     }
 
     #[test]

@@ -1,13 +1,13 @@
 -- A write to the last checkpoint.
-use Rattle.std.proofs.Common.{◌≡◌, ℕ, suc, zero, true, List, [], ◌∷◌, length, slice_index_or, slice_set, ap, arith}
+use Rattle.std.proofs.Common.{◌≡◌, ℕ, suc, zero, List, [], ◌∷◌, length, slice_index_or, slice_set, ap, arith}
 use Rattle.checkpoints.specs.declared.checkpoint.Checkpoint.{Checkpoint}
-use Rattle.checkpoints.specs.DataVolume.{with_last_done}
+use Rattle.checkpoints.specs.DataVolume.{finished_checkpoint, with_last_done}
 
-pub set_last : (xs : List Checkpoint) (c : Checkpoint) (k : ℕ) → suc k ≡ length xs → c ≡ slice_index_or xs k c
-    → slice_set xs k (record { previous = c.previous; current = c.current; done = true }) ≡ with_last_done xs
+pub set_last : (xs : List Checkpoint) (c : Checkpoint) (k : ℕ) → suc k ≡ length xs
+    → c ≡ slice_index_or xs k c → slice_set xs k (finished_checkpoint c) ≡ with_last_done xs
 set_last [] c k h e = absurd (omega arith)
 set_last (x ∷ []) c zero h e =
-    ap (λ (y : Checkpoint). record { previous = y.previous; current = y.current; done = true } ∷ []) e
+    ap (λ (y : Checkpoint). finished_checkpoint y ∷ []) e
 set_last (x ∷ []) c (suc k) h e = absurd (omega arith)
 set_last (x ∷ y ∷ rest) c zero h e = absurd (omega arith)
 set_last (x ∷ y ∷ rest) c (suc k) h e =

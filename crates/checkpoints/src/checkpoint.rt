@@ -7,7 +7,7 @@ use std::alloc::AllocFailed;
 use std::error::Error;
 use std::fmt;
 
-/// What is copied from one snapshot to the next.
+/// What is copied from one snapshot to a later one.
 #[derive(Clone, Copy, Debug, PartialEq, Eq)]
 pub struct Checkpoint {
     /// The snapshot that the copy before it stands on. 0 where there is none.
@@ -73,6 +73,11 @@ impl CheckRefused {
 }
 
 impl fmt::Display for CheckRefused {
+    ghost use Rattle.std.specs.Prelude.{Some};
+    ghost use Rattle.checkpoints.specs.Checkpoint.{refusal_text};
+
+    ghost output = { λ refusal. Some (refusal_text refusal) };
+
     fn fmt<W: fmt::Write>(&self, f: &mut fmt::Formatter<W>) -> fmt::Result {
         match self {
             CheckRefused::Order => write!(f, "the checkpoint is out of order"),

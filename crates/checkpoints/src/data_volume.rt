@@ -1,15 +1,15 @@
 //! The checkpoints of one data volume, in the order in which they were added. An import can't be
 //! carried on from a copy that isn't whole, so only what goes on from a finished one is added.
-ghost use Rattle.std.specs.Prelude.{◌≡◌, OnOk, OnErr, Some, None, if◌then◌else◌};
+ghost use Rattle.std.specs.Prelude.{◌≡◌, OnOk, OnErr};
 ghost use Rattle.basics.specs.Refusal.{IsRefusedBy, IsRefusedOr};
-ghost use Rattle.checkpoints.specs.DataVolume.{no_checkpoints, goes_on, add_refusal, after_add, is_unfinished, last_checkpoint, with_last_done, done_refusal, after_done, phase_of};
+ghost use Rattle.checkpoints.specs.DataVolume.{no_checkpoints, goes_on, add_refusal, after_add, with_last_done, done_refusal, after_done, phase_of, IsSound};
 
 use crate::{CheckRefused, Checkpoint, DvPhase};
 use std::alloc::Global;
 use std::marker::Model;
 
-/// A data volume that is imported in stages. Callers see it as the list of its checkpoints, and
-/// whether the final one is among them.
+/// A data volume that is imported checkpoint by checkpoint. Callers see it as the list of its
+/// checkpoints, and whether the last of them is the final one.
 #[derive(Debug, Drop)]
 pub struct DataVolume {
     checkpoints: Vec<Checkpoint>,
@@ -17,11 +17,14 @@ pub struct DataVolume {
 }
 
 impl Model for DataVolume {
-    ghost use Rattle.checkpoints.specs.DataVolume.{DataVolumeState};
+    ghost use Rattle.checkpoints.specs.DataVolume.{DataVolumeState, IsSound};
 
     ghost Value = { DataVolumeState };
 
     ghost view = { λ v. record { checkpoints = v.checkpoints.items; has_final = v.has_final } };
+
+    ghost invariant = { λ v.
+        IsSound (record { checkpoints = v.checkpoints.items; has_final = v.has_final }) };
 }
 
 impl DataVolume {
@@ -35,10 +38,11 @@ impl DataVolume {
         }
     }
 
-    /// Adds the checkpoint from snapshot `previous`, or 0 for none, to snapshot `current`; it is
-    /// the final one where `last`. [`CheckRefused::Final`] where the final one was added before;
-    /// [`CheckRefused::Order`] where the last checkpoint isn't done, `previous` isn't the snapshot
-    /// that it copied (0 where there is none), or `current` isn't above `previous`.
+    /// Adds a checkpoint that brings the volume from `previous`, the snapshot that it holds by now
+    /// (0 while it holds none), to the later snapshot `current`. After one with `last` no other is
+    /// taken: [`CheckRefused::Final`]. [`CheckRefused::Order`] for one that can't be copied onto
+    /// what the volume holds: the checkpoint before is still being copied, or it reached another
+    /// snapshot than `previous`, or `current` isn't later.
     pub fn add(&mut self, previous: u32, current: u32, last: bool) -> Result<(), CheckRefused>
         ensures refused { IsRefusedOr (add_refusal self.old previous current)
             CheckRefused.NoMemory result }
@@ -63,7 +67,7 @@ impl DataVolume {
     /// The last checkpoint is copied. [`CheckRefused::Order`] where there is none, or it was done
     /// before.
     pub fn done(&mut self) -> Result<(), CheckRefused>
-        ensures refused { IsRefusedBy (done_refusal self.old) result }
+        ensures refused { IsRefusedBy (done_refusal self.old.checkpoints) result }
         ensures finished { OnOk result (self.new ≡ after_done self.old) }
         ensures kept { OnErr result (self.new ≡ self.old) }
     {
@@ -72,7 +76,8 @@ impl DataVolume {
 
     /// The checkpoints, in the order in which they were added.
     pub fn checkpoints(&self) -> &[Checkpoint]
-        ensures { result.now ≡ self.now.checkpoints }
+        ensures list { result.now ≡ self.now.checkpoints }
+        ensures sound { IsSound self.now }
     {
         self.checkpoints.as_slice()
     }
@@ -109,8 +114,7 @@ impl DataVolume {
 }
 
 fn finish_last(checkpoints: &mut Vec<Checkpoint>) -> Result<(), CheckRefused>
-    ensures refused { IsRefusedBy (if is_unfinished (last_checkpoint checkpoints.old.items)
-        then None else Some CheckRefused.Order) result }
+    ensures refused { IsRefusedBy (done_refusal checkpoints.old.items) result }
     ensures finished { OnOk result (checkpoints.new.items ≡ with_last_done checkpoints.old.items) }
     ensures kept { OnErr result (checkpoints.new.items ≡ checkpoints.old.items) }
 {

@@ -1,5 +1,5 @@
-//! The checkpoints of a data volume, as the multi-stage import of the Containerized Data Importer
-//! has them: each goes on from the snapshot of the one before it, and one is the final one.
+//! The checkpoints of a data volume, as the Containerized Data Importer imports one checkpoint by
+//! checkpoint: each goes on from the snapshot of the one before it, and one is the final one.
 #![tactic(auto)]
 
 mod checkpoint;
@@ -10,4 +10,7 @@ mod tests;
 
 pub use checkpoint::{CheckRefused, Checkpoint, DvPhase};
 pub use data_volume::DataVolume;
-pub use laws::{calls_keep_order, calls_move_the_phase, finishing_turns_the_last};
+pub use laws::{
+    calls_keep_it_sound, calls_move_the_phase, finishing_counts_one, finishing_turns_the_last,
+    neighbours_join,
+};

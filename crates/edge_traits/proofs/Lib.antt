@@ -1,1 +1,4 @@
 mod Pieces
+pub mod Overwritten
+mod Spans
+pub mod Images

@@ -6,15 +6,19 @@ mod disk;
 mod mem_disk;
 mod mem_sink;
 mod mem_source;
+mod overlay;
 mod sink;
 mod source;
+mod span;
+mod stop_disk;
 #[cfg(test)]
 mod tests;
 
 pub use basics::{Failed, NoMemory};
 pub use disk::Disk;
-pub use mem_disk::MemDisk;
+pub use mem_disk::{CALL_USE, MemDisk, Pick};
 pub use mem_sink::MemSink;
 pub use mem_source::MemSource;
 pub use sink::Sink;
 pub use source::Source;
+pub use stop_disk::StopDisk;

@@ -6,4 +6,4 @@ mod script;
 #[cfg(test)]
 mod tests;
 
-pub use script::{GuestScript, GuestWrite, MOST_DISKS, MOST_SECTORS, NoMemory};
+pub use script::{GuestScript, GuestWrite};

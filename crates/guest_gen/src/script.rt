@@ -2,24 +2,10 @@
 ghost use Rattle.std.specs.Prelude.{◌≡◌, ◌≤◌, ◌+◌, ◌*◌, ◌%◌, ◌/◌, ◌^◌, ◌<◌, [], ◌∷◌, length, slice_index, min, All, IfOk, MatchOption};
 ghost use Rattle.guest_gen.specs.Script.{advance, offered, write_from, Lies};
 
-use std::alloc::{AllocError, Global};
+use basics::{MAX_DISK_SECTORS, MAX_DISKS};
+use sector_model::NoMemory;
+use std::alloc::Global;
 use std::marker::Model;
-
-/// The most disks that a machine has.
-pub const MOST_DISKS: usize = 16;
-
-/// The most sectors that a disk has: 256 GiB of 512 bytes.
-pub const MOST_SECTORS: u64 = 1 << 29;
-
-/// Memory ran out. A call that answers it has changed nothing.
-#[derive(Clone, Copy, Debug, PartialEq, Eq)]
-pub struct NoMemory;
-
-impl From<AllocError> for NoMemory {
-    fn from(_refused: AllocError) -> Self {
-        NoMemory
-    }
-}
 
 /// A write of a guest. Each of its sectors is the stamp, big-endian, 64 times.
 #[derive(Clone, Copy, Debug, PartialEq, Eq)]
@@ -55,24 +41,24 @@ impl Model for GuestScript {
 
     ghost view = { λ s. offered s.state s.left s.capacities.items };
 
-    ghost use Rattle.guest_gen.specs.declared.script.TheConstants.{MOST_DISKS};
+    ghost use Rattle.basics.specs.declared.limits.TheConstants.{MAX_DISKS};
 
     ghost invariant = { λ s. (1 ≤ length s.capacities.items)
-        × (length s.capacities.items ≤ MOST_DISKS)
+        × (length s.capacities.items ≤ MAX_DISKS)
         × All (λ c. 1 ≤ c) s.capacities.items };
 }
 
 impl GuestScript {
     /// The writes of a guest of this seed: `count` of them, on disks of these capacities, in
-    /// sectors. There are 1 to [`MOST_DISKS`] disks of 1 to [`MOST_SECTORS`] sectors each.
+    /// sectors. There are 1 to [`MAX_DISKS`] disks of 1 to [`MAX_DISK_SECTORS`] sectors each.
     pub fn new(
         alloc: Global,
         seed: u64,
         count: u64,
         capacities: &[u64],
     ) -> Result<GuestScript, NoMemory>
-        requires disks { (1 ≤ length capacities.now) × (length capacities.now ≤ MOST_DISKS) }
-        requires sizes { All (λ c. (1 ≤ c) × (c ≤ MOST_SECTORS)) capacities.now }
+        requires disks { (1 ≤ length capacities.now) × (length capacities.now ≤ MAX_DISKS) }
+        requires sizes { All (λ c. (1 ≤ c) × (c ≤ MAX_DISK_SECTORS)) capacities.now }
         ensures script { IfOk result (λ script. script ≡ offered seed count capacities.now) }
         ensures lie { IfOk result (λ script. All (Lies capacities.now) script) }
     {
@@ -102,7 +88,7 @@ impl GuestScript {
 
 // The write that the next three numbers make. Its stamp is the third of them.
 fn write_after(state: u64, capacities: &[u64]) -> GuestWrite
-    requires disks { (1 ≤ length capacities.now) × (length capacities.now ≤ MOST_DISKS) }
+    requires disks { (1 ≤ length capacities.now) × (length capacities.now ≤ MAX_DISKS) }
     requires sizes { All (λ c. 1 ≤ c) capacities.now }
     ensures { result ≡ write_from state capacities.now }
 {

@@ -1,13 +1,14 @@
 -- What isn't refused may stand, and what a call of a plain machine leaves.
 use Rattle.std.proofs.Common.{◌≡◌, ℕ, ◌+◌, ◌-◌, ◌<◌, ◌≤◌, List, [], ◌∷◌, ◌++◌, length, take, Bool, true, false, cond, not, ◌&&◌, ◌||◌, eqb, ltb, leb, Option, Some, None, Result, Ok, Err, refl, sym, ap, subst, ◌∙◌, arith, length-append}
 use Rattle.std.specs.List.{filter}
-use Rattle.std.proofs.lemmas.Bool.{leb-true, leb-false, ltb-true, ltb-false, eqb-true, eq-eqb, false≢true}
+use Rattle.std.proofs.lemmas.Bool.{and_parts, or_parts, not-false, leb-true, leb-false, ltb-true, ltb-false, eqb-true, eq-eqb, false≢true}
 use Rattle.std.proofs.lemmas.List.Sums.{sum_by-append}
 use Rattle.std.proofs.lemmas.List.{append-nil, take_all, drop_all}
 use Rattle.std.proofs.lemmas.List.Elements.{filter-append}
 use Rattle.std.proofs.Math.Seq.{take-append_seam}
 use Rattle.sector_model.specs.declared.sector.Sector.{Sector}
-use Rattle.log_model.specs.declared.entry.TheConstants.{MAX_LOG_ENTRIES, MAX_WRITE_SECTORS, MAX_LOGGED_SECTORS}
+use Rattle.basics.specs.declared.limits.TheConstants.{MAX_WRITE_SECTORS, MAX_LOGGED_SECTORS}
+use Rattle.log_model.specs.declared.entry.TheConstants.{MAX_LOG_ENTRIES}
 use Rattle.log_model.specs.declared.entry.Owner.{Owner}
 use Rattle.log_model.specs.declared.entry.Owner.TheVariants.{Operator, Migration}
 use Rattle.log_model.specs.declared.entry.Act.{Act}
@@ -37,10 +38,6 @@ other_none : (b : Bool) (r : LinkRefused) (o : Option LinkRefused) → cond b o 
 other_none true r o h = (refl, h)
 other_none false r o h = absurd (cc)
 
-not_false : (b : Bool) → not b ≡ false → b ≡ true
-not_false true h = refl
-not_false false h = absurd (cc)
-
 room : (log : List Entry) → spent_refusal log ≡ None → length log < MAX_LOG_ENTRIES
 room log h = leb-false MAX_LOG_ENTRIES (length log) (chosen_none (is_spent log) Spent None h).0
 
@@ -48,15 +45,11 @@ pub snap_stands : (capacities : List ℕ) (log : List Entry) (who : ℕ) (must_b
     → FitsBehind (all_of capacities) log who (Snap (taken log + 1) owner)
 snap_stands capacities log who must_be_off owner lets h = ((refl, lets), room log (chosen_none (must_be_off && machine_on log) Running (spent_refusal log) h).1)
 
-and_second : (a b : Bool) → (a && b) ≡ true → b ≡ true
-and_second true b h = h
-and_second false b h = absurd (false≢true h)
-
 lets : (who : ℕ) (owner has : Owner) → may_remove who owner has ≡ true → OwnerLets who (Some has)
 lets who Operator Operator h = tt
 lets who (Migration m) Operator h = tt
 lets who Operator (Migration n) h = absurd (false≢true h)
-lets who (Migration m) (Migration n) h = eqb-true who 1 (and_second (eqb m n) (eqb who 1) h)
+lets who (Migration m) (Migration n) h = eqb-true who 1 ((and_parts (eqb m n) (eqb who 1) h).1)
 
 owner_stands : (who : ℕ) (owner : Owner) (o : Option Owner) (log : List Entry) → owner_refusal who owner o log ≡ None → OwnerLets who o × (length log < MAX_LOG_ENTRIES)
 owner_stands who owner None log h = absurd (cc)
@@ -76,18 +69,10 @@ on_stands capacities log who h = let both = chosen_none (machine_on log) Already
 pub reset_stands : (capacities : List ℕ) (log : List Entry) (who disk : ℕ) → reset_refusal capacities disk log ≡ None → FitsBehind (all_of capacities) log who (Reset disk)
 reset_stands capacities log who disk h =
     let both = chosen_none (not (is_known capacities disk)) Range (spent_refusal log) h in
-    (ltb-true disk (length capacities) (not_false (is_known capacities disk) both.0), room log both.1)
+    (ltb-true disk (length capacities) (not-false (is_known capacities disk) both.0), room log both.1)
 
 pub enable_stands : (capacities : List ℕ) (log : List Entry) (who : ℕ) → enable_refusal log ≡ None → FitsBehind (all_of capacities) log who Enable
 enable_stands capacities log who h = let both = chosen_none (is_enabled log) AlreadyEnabled (spent_refusal log) h in (both.0, room log both.1)
-
-or_false : (a b : Bool) → (a || b) ≡ false → (a ≡ false) × (b ≡ false)
-or_false true b h = absurd (cc)
-or_false false b h = (refl, h)
-
-and_true : (a b : Bool) → (a && b) ≡ true → (a ≡ true) × (b ≡ true)
-and_true true b h = (refl, h)
-and_true false b h = absurd (cc)
 
 pub write_stands : (capacities : List ℕ) (log : List Entry) (who disk first : ℕ) (sectors : List Sector) → write_refusal capacities disk first (length sectors) log ≡ None → FitsBehind (all_of capacities) log who (Write disk first sectors)
 write_stands capacities log who disk first sectors h =
@@ -95,12 +80,12 @@ write_stands capacities log who disk first sectors h =
     let last : Option WriteRefused = cond (ltb MAX_LOGGED_SECTORS (written log + count) || is_spent log) (Some LogFull) None in
     let running = chosen_none (not (machine_on log)) Off_refused (cond (not (is_within capacities disk first count && leb count MAX_WRITE_SECTORS)) (Some OutOfRange) last) h in
     let ranged = chosen_none (not (is_within capacities disk first count && leb count MAX_WRITE_SECTORS)) OutOfRange last running.1 in
-    let full = or_false (ltb MAX_LOGGED_SECTORS (written log + count)) (is_spent log) (chosen_none (ltb MAX_LOGGED_SECTORS (written log + count) || is_spent log) LogFull None ranged.1).0 in
-    let range = and_true (is_within capacities disk first count) (leb count MAX_WRITE_SECTORS) (not_false (is_within capacities disk first count && leb count MAX_WRITE_SECTORS) ranged.0) in
-    let within = and_true (is_known capacities disk && leb 1 count) (leb (first + count) (capacity_of capacities disk)) range.0 in
-    let known = and_true (is_known capacities disk) (leb 1 count) within.0 in (
+    let full = or_parts (ltb MAX_LOGGED_SECTORS (written log + count)) (is_spent log) (chosen_none (ltb MAX_LOGGED_SECTORS (written log + count) || is_spent log) LogFull None ranged.1).0 in
+    let range = and_parts (is_within capacities disk first count) (leb count MAX_WRITE_SECTORS) (not-false (is_within capacities disk first count && leb count MAX_WRITE_SECTORS) ranged.0) in
+    let within = and_parts (is_known capacities disk && leb 1 count) (leb (first + count) (capacity_of capacities disk)) range.0 in
+    let known = and_parts (is_known capacities disk) (leb 1 count) within.0 in (
       record {
-        running = not_false (machine_on log) running.0;
+        running = not-false (machine_on log) running.0;
         some_sectors = leb-true 1 count known.1;
         few_sectors = leb-true count MAX_WRITE_SECTORS range.1;
         within = (ltb-true disk (length capacities) known.0, leb-true (first + count) (capacity_of capacities disk) within.1);

@@ -71,8 +71,7 @@ numbered_place_is_mark machine d s id log accepted =
     let given = numbered_place_gives d id.seq log low high in
     let numbered = given.numbered in
     found-has machine d id log place (record {
-      within = given.within;
-      by_snap = given.by_snap;
+      snapshot = given.snapshot;
       identified = in_force-made machine d id (take (place + 1) log) (record {
         counted = omega (arith, low, numbered);
         uuid = eqb-true id.uuid (packed machine d (epoch d log)) parts.one ∙ ap (packed machine d) (sym given.same_epoch);
@@ -129,10 +128,10 @@ answers_stay machine c d s (From id) log more areas less found =
 -- the entry there resets nothing
 pub epoch-there : (machine d : ℕ) (id : ChangeId) (log : List Entry) (place : ℕ) → HasId machine d id log place → epoch d (take (place + 1) log) ≡ epoch d (take place log)
 epoch-there machine d id log place has =
-    let here = at_place log place has.within in
+    let here = at_place log place has.snapshot.within in
     let e : Entry = here.0 in
     let upto : take (place + 1) log ≡ take place log ++ e ∷ [] = ap (λ m. take m log) (add-one place) ∙ here.2 in
-    ap (epoch d) upto ∙ epoch-last d (take place log) e (snap-resets_none d e.act (has.by_snap e here.1))
+    ap (epoch d) upto ∙ epoch-last d (take place log) e (snap-resets_none d e.act (has.snapshot.by_snap e here.1))
 
 accepted-between : (machine c d place s : ℕ) (id : ChangeId) (log : List Entry) → HasId machine d id log place → place ≤ mark s log → mark s log < length log
     → epoch d (take place log) ≡ epoch d log → changed_areas machine c d s (From id) log ≡ Ok (touched_areas c d place (mark s log) log)

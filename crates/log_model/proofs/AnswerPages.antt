@@ -5,7 +5,7 @@ use Rattle.std.proofs.lemmas.List.Elements.{All-from_recursion}
 use Rattle.sector_model.specs.Run.{end_of, in_blocks, areas_of, AreSpacedFrom}
 use Rattle.sector_model.specs.Page.{areas_from}
 use Rattle.sector_model.specs.declared.run.Run.{Run}
-use Rattle.sector_model.proofs.Spacing.{Kept, runs_of-kept}
+use Rattle.sector_model.proofs.Spacing.{SpacedWithin, runs_of-spaced}
 use Rattle.sector_model.proofs.PageLaws.{pages_joined}
 use Rattle.sector_model.proofs.PageWithin.{page_lies_within}
 use Rattle.change_id.specs.declared.ChangeId.{ChangeId}
@@ -34,10 +34,10 @@ answered machine c d s Everything log areas found = (touched c d 0 (mark s log) 
 answered machine c d s (From id) log areas found =
     (touched c d (unwrap_or (mark_of_id machine d id log) 0) (mark s log) log, sym (ok_part (accepts machine d s id log) (touched_areas c d (unwrap_or (mark_of_id machine d id log) 0) (mark s log) log) areas (in_force machine d log) found))
 
-kept : (machine c d s : ℕ) (since : Since) (log : List Entry) (areas : List Run) → c < 2 ^ 64 → changed_areas machine c d s since log ≡ Ok areas → Kept 0 c areas
+kept : (machine c d s : ℕ) (since : Since) (log : List Entry) (areas : List Run) → c < 2 ^ 64 → changed_areas machine c d s since log ≡ Ok areas → SpacedWithin 0 c areas
 kept machine c d s since log areas fits found =
     let blocks = answered machine c d s since log areas found in
-    subst (Kept 0 c) (sym blocks.1) (runs_of-kept (in_blocks blocks.0) c fits)
+    subst (SpacedWithin 0 c) (sym blocks.1) (runs_of-spaced (in_blocks blocks.0) c fits)
 
 pub answer_pages_join : AnswerPagesJoin
 answer_pages_join machine c d s since log areas start pages fits found are =

@@ -67,14 +67,16 @@ number-le d m log same =
 -- what was given stays given while the epoch lasts
 pub still-given : (d n : ℕ) (log more : List Entry) (place : ℕ) → epoch d more ≡ 0 → GivesNumber d n log place → GivesNumber d n (log ++ more) place
 still-given d n log more place none given =
-    let within = given.within in
+    let within = given.snapshot.within in
     let le : place + 1 ≤ length log = omega (arith, within) in
     let same : take (place + 1) (log ++ more) ≡ take (place + 1) log = take-append-le (place + 1) log more le in
     let longer = epoch-append d log more in
     let stays : epoch d log ≡ epoch d (log ++ more) = omega (arith, longer, none) in
     record {
-      within = omega (arith, within, length-append log more);
-      by_snap = λ x read. given.by_snap x (sym (slice_get-front log more place within) ∙ read);
+      snapshot = record {
+        within = omega (arith, within, length-append log more);
+        by_snap = λ x read. given.snapshot.by_snap x (sym (slice_get-front log more place within) ∙ read);
+      };
       same_epoch = ap (epoch d) same ∙ given.same_epoch ∙ stays;
       numbered = ap (number d) same ∙ given.numbered;
     }

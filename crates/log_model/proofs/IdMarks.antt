@@ -1,7 +1,7 @@
 -- From an identifier to the mark of the snapshot that has it.
 use Rattle.std.proofs.Common.{◌≡◌, ℕ, zero, suc, ◌+◌, ◌<◌, ◌≤◌, List, [], ◌∷◌, ◌++◌, length, take, Bool, true, false, cond, ◌&&◌, ◌==◌, eqb, Some, None, subst, sym, ap, refl, ◌∙◌, arith, inl, inr, add-one, length-append, length-take}
 use Rattle.std.specs.List.{find, range_with_len}
-use Rattle.std.proofs.lemmas.Bool.{cases_eq, eqb-true, eqb-false, eq-eqb, false≢true}
+use Rattle.std.proofs.lemmas.Bool.{and_parts, cases_eq, eqb-true, eqb-false, eq-eqb, false≢true}
 use Rattle.std.proofs.lemmas.Option.{same_Some, none-some}
 use Rattle.std.proofs.lemmas.List.{take-append-le, take-take}
 use Rattle.change_id.specs.ChangeId.{packed}
@@ -20,14 +20,10 @@ use Rattle.log_model.proofs.Epochs.{takes-at_mark, snap-takes, InForce, in_force
 
 -- ---- the test
 
-two-parts : (a b : Bool) → (a && b) ≡ true → (a ≡ true) × (b ≡ true)
-two-parts true b h = (refl, h)
-two-parts false b h = absurd (false≢true h)
-
 passed-at : (b : Bool) (u n : ℕ) (id : ChangeId) → eqb n 0 ≡ b → is_id id (cond b None (Some (record { uuid = u; seq = n }))) ≡ true → (1 ≤ n) × (id.uuid ≡ u) × (id.seq ≡ n)
 passed-at true u n id zero_number h = absurd (false≢true h)
 passed-at false u n id some_number h =
-    let parts = two-parts (u == id.uuid) (n == id.seq) h in
+    let parts = and_parts (u == id.uuid) (n == id.seq) h in
     let not_zero = eqb-false n 0 some_number in
     (omega (arith, not_zero), sym (eqb-true u id.uuid parts.0), sym (eqb-true n id.seq parts.1))
 
@@ -85,7 +81,7 @@ found-in test a (suc n) k h = found-step test a n k (test a) refl h (found-in te
 -- before the place whose entry takes the snapshot, the identifier isn't in force
 not-before : (machine d : ℕ) (id : ChangeId) (log : List Entry) (place k : ℕ) → HasId machine d id log place → k < place → is_id id (in_force machine d (take (k + 1) log)) ≡ true → ⊥
 not-before machine d id log place k has less here =
-    let within = has.within in
+    let within = has.snapshot.within in
     let whole : List Entry = take (place + 1) log in
     let there = in_force-parts machine d id whole has.identified in
     let early = passed machine d id (take (k + 1) log) here in
@@ -95,8 +91,10 @@ not-before machine d id log place k has less here =
     let low : 1 ≤ id.seq = let l = there.counted in let q = there.seq in omega (arith, l, q) in
     once d id.seq k place whole low less (ap (epoch d) short ∙ epochs) (ap (number d) short ∙ sym early.seq)
     (record {
-      within = omega (arith, within, length-take (place + 1) log);
-      by_snap = λ e read. has.by_snap e (sym (slice_get-take log (place + 1) place (omega arith)) ∙ read);
+      snapshot = record {
+        within = omega (arith, within, length-take (place + 1) log);
+        by_snap = λ e read. has.snapshot.by_snap e (sym (slice_get-take log (place + 1) place (omega arith)) ∙ read);
+      };
       same_epoch = ap (epoch d) all;
       numbered = ap (number d) all ∙ sym there.seq;
     })
@@ -109,7 +107,7 @@ pub found-has : (machine d : ℕ) (id : ChangeId) (log : List Entry) (place : �
 found-has machine d id log place has =
     let test : ℕ → Bool = λ k. is_id id (in_force machine d (take (k + 1) log)) in
     let at : 0 + place ≡ place = omega arith in
-    let within = has.within in
+    let within = has.snapshot.within in
     find-range_at test 0 (length log) place within
     (λ k less. let same : 0 + k ≡ k = omega arith in ap test same ∙ fails-before machine d id log place k (test k) has less refl)
     (ap test at ∙ passes machine d id (take (place + 1) log) (in_force-parts machine d id (take (place + 1) log) has.identified))
@@ -147,17 +145,21 @@ has-found machine d id log place h =
     let taken : is_snap (entry.0).act ≡ true =
     snap-there machine d place id log entry.0 (is_snap (entry.0).act) entry.2 refl (subst (InForce machine d id) (sym next) here) found.none_before in
     record {
-      within = within;
-      by_snap = λ x read. subst (λ (y : Entry). is_snap y.act ≡ true) (same_Some entry.0 x (sym entry.1 ∙ read)) taken;
+      snapshot = record {
+        within = within;
+        by_snap = λ x read. subst (λ (y : Entry). is_snap y.act ≡ true) (same_Some entry.0 x (sym entry.1 ∙ read)) taken;
+      };
       identified = in_force-made machine d id (take (place + 1) log) here;
     }
 
 stays-has : (machine d : ℕ) (id : ChangeId) (log more : List Entry) (place : ℕ) → HasId machine d id log place → HasId machine d id (log ++ more) place
 stays-has machine d id log more place has =
-    let within = has.within in
+    let within = has.snapshot.within in
     record {
-      within = omega (arith, within, length-append log more);
-      by_snap = λ e read. has.by_snap e (sym (slice_get-front log more place within) ∙ read);
+      snapshot = record {
+        within = omega (arith, within, length-append log more);
+        by_snap = λ e read. has.snapshot.by_snap e (sym (slice_get-front log more place within) ∙ read);
+      };
       identified = ap (in_force machine d) (take-append-le (place + 1) log more (omega (arith, within))) ∙ has.identified;
     }
 
@@ -166,8 +168,10 @@ marks_of_ids machine d id log = record {
   found = found-has machine d id log;
   has = has-found machine d id log;
   of_snapshot = λ s within own. found-has machine d id log (mark s log) (record {
-    within = within;
-    by_snap = λ e read. snap-takes s e.act (takes-at_mark s log e read);
+    snapshot = record {
+      within = within;
+      by_snap = λ e read. snap-takes s e.act (takes-at_mark s log e read);
+    };
     identified = own;
   });
   stays = λ place more h. found-has machine d id (log ++ more) place (stays-has machine d id log more place (has-found machine d id log place h));

@@ -1,7 +1,7 @@
 -- What later entries leave, and which place gave a number.
 use Rattle.std.proofs.Common.{◌≡◌, ℕ, zero, suc, ◌+◌, ◌<◌, ◌≤◌, List, [], ◌∷◌, ◌++◌, length, take, Bool, true, false, cond, not, ◌==◌, ◌&&◌, Option, Some, None, unwrap_or, subst, sym, ap, refl, ◌∙◌, arith, add-one}
 use Rattle.std.specs.List.{prefix_len, find, range_with_len}
-use Rattle.std.proofs.lemmas.Bool.{eqb-true, eq-eqb, false≢true}
+use Rattle.std.proofs.lemmas.Bool.{and_from, and_parts, eqb-true, eq-eqb, false≢true}
 use Rattle.std.proofs.lemmas.List.{take-append-le}
 use Rattle.std.proofs.lemmas.Option.{same_Some}
 use Rattle.log_model.specs.declared.entry.Entry.{Entry}
@@ -81,13 +81,6 @@ first_passing test a (suc n) i less here = first_at test a n i (test a) refl les
 
 -- ---- the first place with the number is that of a Snap entry
 
-both_parts : (a b : Bool) → (a && b) ≡ true → (a ≡ true) × (b ≡ true)
-both_parts true b h = (refl, h)
-both_parts false b h = absurd (false≢true h)
-
-both : (a b : Bool) → a ≡ true → b ≡ true → (a && b) ≡ true
-both a b h k = ap (λ x. x && b) h ∙ k
-
 -- an entry that takes no snapshot gives no new number
 pub no_new_number : (d n : ℕ) (log : List Entry) (e : Entry) (o : Option ℕ) (r : Bool) → counted d log ≡ o → resets d e.act ≡ r → is_snap e.act ≡ false → 1 ≤ n → number d (log ++ e ∷ []) ≡ n
     → (number d log ≡ n) × (resets d e.act ≡ false)
@@ -114,7 +107,7 @@ no_snap d n (suc j) log e low upto none epochs numbered first =
     let same_place : take (j + 1) log ≡ short = ap (λ m. take m log) (add-one j) in
     let epoch_here : epoch d (take (j + 1) log) ≡ epoch d log = ap (epoch d) same_place ∙ sym (ap (epoch d) upto ∙ epoch-last d short e old.1) ∙ epochs in
     let number_here : number d (take (j + 1) log) ≡ n = ap (number d) same_place ∙ old.0 in
-    false≢true (sym (first j (omega arith)) ∙ both (epoch d (take (j + 1) log) == epoch d log) (number d (take (j + 1) log) == n)
+    false≢true (sym (first j (omega arith)) ∙ and_from (epoch d (take (j + 1) log) == epoch d log) (number d (take (j + 1) log) == n)
     (eq-eqb (epoch d (take (j + 1) log)) (epoch d log) epoch_here) (eq-eqb (number d (take (j + 1) log)) n number_here))
 
 is_taken : (d n k : ℕ) (log : List Entry) (e : Entry) (s : Bool) → 1 ≤ n → take (suc k) log ≡ take k log ++ e ∷ [] → is_snap e.act ≡ s → epoch d (take (suc k) log) ≡ epoch d log
@@ -128,23 +121,25 @@ numbered_place_gives d n log low high =
     let place : ℕ = some.0 in
     let at : 0 + place ≡ place = omega arith in
     let passes : gives d n log (0 + place) ≡ true =
-    ap (gives d n log) at ∙ both (epoch d (take (place + 1) log) == epoch d log) (number d (take (place + 1) log) == n)
+    ap (gives d n log) at ∙ and_from (epoch d (take (place + 1) log) == epoch d log) (number d (take (place + 1) log) == n)
     (eq-eqb (epoch d (take (place + 1) log)) (epoch d log) some.1.same_epoch) (eq-eqb (number d (take (place + 1) log)) n some.1.numbered) in
-    let first : First (gives d n log) 0 (length log) place = first_passing (gives d n log) 0 (length log) place some.1.within passes in
+    let first : First (gives d n log) 0 (length log) place = first_passing (gives d n log) 0 (length log) place some.1.snapshot.within passes in
     let k : ℕ = first.k in
     let start : 0 + k ≡ k = omega arith in
     let here : numbered_place d n log ≡ k = ap (λ (o : Option ℕ). unwrap_or o (length log)) first.found ∙ start in
-    let parts = both_parts (epoch d (take (k + 1) log) == epoch d log) (number d (take (k + 1) log) == n) (ap (gives d n log) (sym start) ∙ first.passes) in
+    let parts = and_parts (epoch d (take (k + 1) log) == epoch d log) (number d (take (k + 1) log) == n) (ap (gives d n log) (sym start) ∙ first.passes) in
     let epochs : epoch d (take (k + 1) log) ≡ epoch d log = eqb-true (epoch d (take (k + 1) log)) (epoch d log) parts.0 in
     let numbered : number d (take (k + 1) log) ≡ n = eqb-true (number d (take (k + 1) log)) n parts.1 in
-    let inside : k < length log = omega (arith, first.early, some.1.within) in
+    let inside : k < length log = omega (arith, first.early, some.1.snapshot.within) in
     let entry = at_place log k inside in
     let next : take (suc k) log ≡ take (k + 1) log = ap (λ m. take m log) (sym (add-one k)) in
     let taken : is_snap (entry.0).act ≡ true =
     is_taken d n k log entry.0 (is_snap (entry.0).act) low entry.2 refl (ap (epoch d) next ∙ epochs) (ap (number d) next ∙ numbered) (λ j less. let same : 0 + j ≡ j = omega arith in ap (gives d n log) (sym same) ∙ first.none j less) in
     subst (GivesNumber d n log) (sym here) (record {
-      within = inside;
-      by_snap = λ x read. subst (λ (y : Entry). is_snap y.act ≡ true) (same_Some entry.0 x (sym entry.1 ∙ read)) taken;
+      snapshot = record {
+        within = inside;
+        by_snap = λ x read. subst (λ (y : Entry). is_snap y.act ≡ true) (same_Some entry.0 x (sym entry.1 ∙ read)) taken;
+      };
       same_epoch = epochs;
       numbered = numbered;
     })

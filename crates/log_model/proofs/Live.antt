@@ -1,7 +1,7 @@
 -- A live snapshot was taken, and one of a migration stays live while nothing under the number 1 follows.
 use Rattle.std.proofs.Common.{◌≡◌, ℕ, ◌+◌, ◌<◌, ◌≤◌, List, [], ◌∷◌, ◌++◌, length, Bool, true, false, cond, not, ◌&&◌, ◌||◌, eqb, Option, Some, None, subst, sym, ap, refl, ◌∙◌, arith, append_assoc, length-append}
 use Rattle.std.specs.List.{filter, list_any}
-use Rattle.std.proofs.lemmas.Bool.{eqb-true, eq-eqb, false≢true}
+use Rattle.std.proofs.lemmas.Bool.{or_parts, eqb-true, eq-eqb, false≢true}
 use Rattle.std.proofs.lemmas.Option.{none-some, same_Some}
 use Rattle.std.proofs.lemmas.List.{append-nil}
 use Rattle.std.proofs.lemmas.List.Folds.{position_or_len_push, list_any-append}
@@ -78,15 +78,11 @@ live_taken =
 
 -- ---- a migration's snapshots
 
-or-parts : (a b : Bool) → (a || b) ≡ false → (a ≡ false) × (b ≡ false)
-or-parts true b h = absurd (cc)
-or-parts false b h = (refl, h)
-
 -- a test of more entries and one, that none passes
 none-passes : (p : Entry → Bool) (more : List Entry) (e : Entry) → list_any p (more ++ e ∷ []) ≡ false → (list_any p more ≡ false) × (p e ≡ false)
 none-passes p more e none =
-    let parts = or-parts (list_any p more) (p e || false) (sym (list_any-append p more (e ∷ [])) ∙ none) in
-    (parts.0, (or-parts (p e) false parts.1).0)
+    let parts = or_parts (list_any p more) (p e || false) (sym (list_any-append p more (e ∷ [])) ∙ none) in
+    (parts.0, (or_parts (p e) false parts.1).0)
 
 other-snap : (s id n : ℕ) (by owner : Owner) (b : Bool) → eqb id s ≡ b → id ≡ n + 1 → s ≤ n → cond b (Some by) (Some owner) ≡ Some owner
 other-snap s id n by owner true same next le = let e = eqb-true id s same in absurd (omega (arith, e))

@@ -10,7 +10,8 @@ use Rattle.log_model.specs.Entry.{is_snap, is_enable, resets}
 use Rattle.log_model.specs.Marks.{epoch, counted, counted_after, number}
 use Rattle.log_model.specs.Laws.{GivesNumber, NumbersHaveNoGap, NumbersDiffer}
 use Rattle.sector_model.proofs.ItemAt.{slice_get-front}
-use Rattle.log_model.proofs.Last.{by_last, slice_get-last, at_place}
+use Rattle.log_model.proofs.Last.{by_last, at_place}
+use Rattle.sector_model.proofs.ItemAt.{slice_get-last}
 
 pub counted-last : (d : ℕ) (log : List Entry) (e : Entry) → counted d (log ++ e ∷ []) ≡ counted_after d (counted d log) e
 counted-last d log e = fold-append (counted_after d) None log (e ∷ [])
@@ -34,11 +35,13 @@ not_started false = refl
 -- what was given stays given while the epoch lasts
 still_given : (d n : ℕ) (log : List Entry) (e : Entry) (place : ℕ) → resets d e.act ≡ false → GivesNumber d n log place → GivesNumber d n (log ++ e ∷ []) place
 still_given d n log e place keeps given =
-    let le : place + 1 ≤ length log = omega (arith, given.within) in
+    let le : place + 1 ≤ length log = omega (arith, given.snapshot.within) in
     let same : take (place + 1) (log ++ e ∷ []) ≡ take (place + 1) log = take-append-le (place + 1) log (e ∷ []) le in
     record {
-      within = omega (arith, given.within, length-append log (e ∷ []));
-      by_snap = λ x read. given.by_snap x (sym (slice_get-front log (e ∷ []) place given.within) ∙ read);
+      snapshot = record {
+        within = omega (arith, given.snapshot.within, length-append log (e ∷ []));
+        by_snap = λ x read. given.snapshot.by_snap x (sym (slice_get-front log (e ∷ []) place given.snapshot.within) ∙ read);
+      };
       same_epoch = ap (epoch d) same ∙ given.same_epoch ∙ sym (epoch-last d log e keeps);
       numbered = ap (number d) same ∙ given.numbered;
     }
@@ -48,8 +51,10 @@ gives_next : (d n : ℕ) (log : List Entry) (e : Entry) → is_snap e.act ≡ tr
 gives_next d n log e snap next =
     let all : take (length log + 1) (log ++ e ∷ []) ≡ log ++ e ∷ [] = take_all (length log + 1) (log ++ e ∷ []) (omega (arith, length-append log (e ∷ []))) in
     record {
-      within = omega (arith, length-append log (e ∷ []));
-      by_snap = λ x read. subst (λ (y : Entry). is_snap y.act ≡ true) (same_Some e x (sym (slice_get-last log e) ∙ read)) snap;
+      snapshot = record {
+        within = omega (arith, length-append log (e ∷ []));
+        by_snap = λ x read. subst (λ (y : Entry). is_snap y.act ≡ true) (same_Some e x (sym (slice_get-last log e) ∙ read)) snap;
+      };
       same_epoch = ap (epoch d) all;
       numbered = ap (number d) all ∙ next;
     }
@@ -117,11 +122,11 @@ one_less d n log e (Some m) false same is_r snap low now =
 -- no earlier place had the number that a Snap entry gives
 pub once : (d n i k : ℕ) (log : List Entry) → 1 ≤ n → i < k → epoch d (take (i + 1) log) ≡ epoch d log → number d (take (i + 1) log) ≡ n → GivesNumber d n log k → ⊥
 once d n i k log low less first_epoch first_number second =
-    let here = at_place log k second.within in
+    let here = at_place log k second.snapshot.within in
     let e : Entry = here.0 in
     let short : List Entry = take k log in
     let upto : take (k + 1) log ≡ short ++ e ∷ [] = ap (λ m. take m log) (add-one k) ∙ here.2 in
-    let last : number d short + 1 ≡ n = one_less d n short e (counted d short) (resets d e.act) refl refl (second.by_snap e here.1) low (ap (number d) (sym upto) ∙ second.numbered) in
+    let last : number d short + 1 ≡ n = one_less d n short e (counted d short) (resets d e.act) refl refl (second.snapshot.by_snap e here.1) low (ap (number d) (sym upto) ∙ second.numbered) in
     let le : i + 1 ≤ k = omega arith in
     let front : take (i + 1) short ≡ take (i + 1) log = take-take (i + 1) k log le in
     let rest : List Entry = drop (i + 1) short in

@@ -10,7 +10,8 @@ use Rattle.log_model.specs.Entry.{is_off}
 use Rattle.log_model.specs.Legal.{machine_on, on_after}
 use Rattle.log_model.specs.Frozen.{last_off, off_after}
 use Rattle.log_model.specs.Laws.{HasOffPlace, OffHasPlace}
-use Rattle.log_model.proofs.Last.{by_last, slice_get-last}
+use Rattle.log_model.proofs.Last.{by_last}
+use Rattle.sector_model.proofs.ItemAt.{slice_get-last}
 use Rattle.log_model.proofs.OffLaws.{last_off-last, machine_on-last}
 
 -- an entry that powers nothing leaves it

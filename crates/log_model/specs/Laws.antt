@@ -3,7 +3,7 @@
 use Rattle.std.specs.Prelude.{◌≡◌, ℕ, ◌+◌, ◌<◌, ◌≤◌, ◌^◌, List, Bool, [], ◌∷◌, ◌++◌, length, take, slice_get, true, false, ◌||◌, ◌&&◌, ◌⊎◌, ◌↔◌, Option, Some, None, Ok, Err}
 use Rattle.std.specs.List.{flat_map, filter, list_any, All}
 use Rattle.sector_model.specs.Run.{in_blocks, end_of, AreSpaced}
-use Rattle.sector_model.specs.Page.{PageContents, areas_from, page_of, ArePages, LiesWithin}
+use Rattle.sector_model.specs.Page.{PageContents, areas_from, page_from, ArePages, LiesWithin}
 use Rattle.sector_model.specs.declared.run.Run.{Run}
 use Rattle.sector_model.specs.declared.sector.Sector.{Sector}
 use Rattle.change_id.specs.declared.ChangeId.{ChangeId}
@@ -18,7 +18,7 @@ use Rattle.log_model.specs.declared.entry.Entry.{Entry}
 use Rattle.log_model.specs.declared.folds.Tracking.TheVariants.{Active}
 use Rattle.log_model.specs.Entry.{writes_of, contents, is_snap, is_off, takes, removes}
 use Rattle.log_model.specs.Legal.{Disks, all_of, only, HasDisk, Legal, MayStand, ActsFor, machine_on, is_enabled, taken, owner_of}
-use Rattle.log_model.specs.Marks.{mark, before, epoch, number, tracking, in_force, id_at, mark_of_id, HasId}
+use Rattle.log_model.specs.Marks.{mark, before, epoch, number, tracking, in_force, id_at, mark_of_id, TakesSnapshot, HasId}
 use Rattle.log_model.specs.Frozen.{frozen, last_off, off_place}
 use Rattle.log_model.specs.Touched.{between, touched, touched_areas}
 use Rattle.log_model.specs.Query.{changed_areas, accepts}
@@ -82,8 +82,7 @@ OffIsFrozen = (disks : Disks) (log : List Entry) (c d s place : ℕ)
 
 -- the number n has been given in the epoch that disk d has now, at this place, by a Snap entry
 pub record GivesNumber (d n : ℕ) (log : List Entry) (place : ℕ) : Type 0 where
-  pub within : place < length log
-  pub by_snap : (e : Entry) → slice_get log place ≡ Some e → is_snap e.act ≡ true
+  pub snapshot : TakesSnapshot log place
   pub same_epoch : epoch d (take (place + 1) log) ≡ epoch d log
   pub numbered : number d (take (place + 1) log) ≡ n
 
@@ -272,7 +271,7 @@ ContentsAreSized = (disks : Disks) (c d : ℕ) (log : List Entry)
 pub record AreAreas (c : ℕ) (areas : List Run) : Type 0 where
   pub spaced : AreSpaced areas
   pub within : All (λ r. end_of r ≤ c) areas
-  pub pages : (start : ℕ) → start < c → LiesWithin c (page_of c areas start)
+  pub pages : (start : ℕ) → start < c → LiesWithin c (page_from c areas start)
 
 abbrev pub AnswersAreAreas : Type 0
 AnswersAreAreas = (machine c d s : ℕ) (since : Since) (log : List Entry) (areas : List Run)

@@ -3,7 +3,8 @@
 -- whoever copies that disk sees it: then nothing is asked of entries for other disks.
 use Rattle.std.specs.Prelude.{◌≡◌, ℕ, ◌+◌, ◌<◌, ◌≤◌, ◌==◌, List, length, take, slice_get, slice_index, Bool, true, false, Option, Some, None, if◌then◌else◌}
 use Rattle.std.specs.List.{fold, count_by, sum_by}
-use Rattle.log_model.specs.declared.entry.TheConstants.{MAX_LOG_ENTRIES, MAX_WRITE_SECTORS, MAX_LOGGED_SECTORS, MIGRATION_CALLER}
+use Rattle.basics.specs.declared.limits.TheConstants.{MAX_WRITE_SECTORS, MAX_LOGGED_SECTORS}
+use Rattle.log_model.specs.declared.entry.TheConstants.{MAX_LOG_ENTRIES, MIGRATION_CALLER}
 use Rattle.log_model.specs.declared.entry.Owner.{Owner}
 use Rattle.log_model.specs.declared.entry.Owner.TheVariants.{Operator, Migration}
 use Rattle.log_model.specs.declared.entry.Act.{Act}

@@ -74,8 +74,12 @@ id_at machine disk snapshot log = history.id_at (reading_of disk) machine disk s
 abbrev pub mark_of_id : (machine disk : ℕ) → ChangeId → List Entry → Option ℕ
 mark_of_id machine disk id log = history.mark_of_id (reading_of disk) machine disk id log
 
--- the entry at this place takes a snapshot, which has the identifier for the disk
-pub record HasId (machine disk : ℕ) (id : ChangeId) (log : List Entry) (place : ℕ) : Type 0 where
+-- the entry at this place takes a snapshot
+pub record TakesSnapshot (log : List Entry) (place : ℕ) : Type 0 where
   pub within : place < length log
   pub by_snap : (e : Entry) → slice_get log place ≡ Some e → is_snap e.act ≡ true
+
+-- the entry at this place takes a snapshot, which has the identifier for the disk
+pub record HasId (machine disk : ℕ) (id : ChangeId) (log : List Entry) (place : ℕ) : Type 0 where
+  pub snapshot : TakesSnapshot log place
   pub identified : in_force machine disk (take (place + 1) log) ≡ Some id

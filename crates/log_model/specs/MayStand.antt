@@ -1,6 +1,6 @@
 -- What is asked of a write wherever it lies: a word of the step that decides it.
 use Rattle.std.specs.Prelude.{◌≡◌, ℕ, ◌+◌, ◌≤◌, List, true}
-use Rattle.log_model.specs.declared.entry.TheConstants.{MAX_WRITE_SECTORS, MAX_LOGGED_SECTORS}
+use Rattle.basics.specs.declared.limits.TheConstants.{MAX_WRITE_SECTORS, MAX_LOGGED_SECTORS}
 use Rattle.log_model.specs.declared.entry.Entry.{Entry}
 use Rattle.log_model.specs.Legal.{machine_on, written}
 

@@ -4,7 +4,8 @@ use Rattle.std.specs.Prelude.{ℕ, ◌+◌, ◌==◌, List, length, Bool, true, 
 use Rattle.sector_model.specs.declared.run.Run.{Run}
 use Rattle.change_id.specs.declared.ChangeId.{ChangeId}
 use Rattle.change_id.specs.declared.Since.{Since}
-use Rattle.log_model.specs.declared.entry.TheConstants.{MAX_LOG_ENTRIES, MAX_WRITE_SECTORS, MAX_LOGGED_SECTORS, MIGRATION_CALLER}
+use Rattle.basics.specs.declared.limits.TheConstants.{MAX_WRITE_SECTORS, MAX_LOGGED_SECTORS}
+use Rattle.log_model.specs.declared.entry.TheConstants.{MAX_LOG_ENTRIES, MIGRATION_CALLER}
 use Rattle.log_model.specs.declared.entry.Owner.{Owner}
 use Rattle.log_model.specs.declared.entry.Owner.TheVariants.{Operator, Migration}
 use Rattle.log_model.specs.declared.entry.Entry.{Entry}

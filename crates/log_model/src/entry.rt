@@ -9,12 +9,6 @@ use std::marker::Model;
 /// The most entries that a log holds.
 pub const MAX_LOG_ENTRIES: usize = 1 << 18;
 
-/// The most sectors of one write.
-pub const MAX_WRITE_SECTORS: u64 = 128;
-
-/// The most sectors that all writes of a log have together: a log keeps what was written.
-pub const MAX_LOGGED_SECTORS: u64 = 1 << 16;
-
 /// The number of the caller that carries out migrations: snapshots in a migration's name are taken
 /// and removed by it alone.
 pub const MIGRATION_CALLER: u32 = 1;

@@ -2,7 +2,7 @@
 //! snapshots and change identifiers, and the calls by which one caller reaches it.
 #![tactic(auto)]
 
-mod calls;
+mod acts;
 mod entry;
 mod folds;
 mod laws;
@@ -14,10 +14,7 @@ mod refusals;
 #[cfg(test)]
 mod tests;
 
-pub use entry::{
-    Act, Entry, EntryList, MAX_LOG_ENTRIES, MAX_LOGGED_SECTORS, MAX_WRITE_SECTORS,
-    MIGRATION_CALLER, Owner,
-};
+pub use entry::{Act, Entry, EntryList, MAX_LOG_ENTRIES, MIGRATION_CALLER, Owner};
 pub use folds::{
     Tracking, epoch, facts_of, is_enabled, last_off, machine_on, mark, number, owner_of, taken,
     tracking_of, written,
@@ -31,7 +28,7 @@ pub use link::{Facts, Link, Snapped};
 pub use may_stand::may_stand_alone;
 pub use plain_machine::PlainMachine;
 pub use query::{
-    accepts, before, between, entry_touches, fill_page, in_force, is_touched, read_into, sector_at, since_place,
-    through,
+    accepts, answer_page, before, between, entry_touches, in_force, is_touched, read_into,
+    sector_at, since_place, through,
 };
 pub use refusals::{LinkRefused, WriteRefused};

@@ -1,6 +1,6 @@
 //! A machine as one caller reaches it.
 ghost use Rattle.std.specs.Prelude.{◌≡◌, ◌+◌, IfOk, OnOk, OnErr, length, slice_range};
-ghost use Rattle.sector_model.specs.Page.{page_of};
+ghost use Rattle.sector_model.specs.Page.{page_from};
 ghost use Rattle.log_model.specs.Legal.{capacity_of, taken, ActsFor};
 ghost use Rattle.log_model.specs.Marks.{id_at};
 ghost use Rattle.log_model.specs.Frozen.{frozen};
@@ -103,7 +103,7 @@ pub trait Link {
             (changed_areas (state self.old).machine
             (capacity_of (state self.old).capacities disk) disk id since (state self.new).seen)
             (λ areas. page.new
-            ≡ page_of (capacity_of (state self.old).capacities disk) areas start)) }
+            ≡ page_from (capacity_of (state self.old).capacities disk) areas start)) }
         ensures kept { OnErr result (page.new ≡ page.old) };
 
     /// Reads the sectors of a disk from `first` on as a live snapshot froze them.

@@ -4,7 +4,8 @@ ghost use Rattle.log_model.specs.Legal.{Legal, only, MayStand, ActsFor, OwnerLet
 ghost use Rattle.log_model.specs.MayStand.{MayWrite};
 
 use crate::folds::{is_enabled, machine_on, owner_of, taken, written};
-use crate::{Act, Entry, MAX_LOGGED_SECTORS, MAX_WRITE_SECTORS, MIGRATION_CALLER, Owner};
+use crate::{Act, Entry, MIGRATION_CALLER, Owner};
+use basics::{MAX_LOGGED_SECTORS, MAX_WRITE_SECTORS};
 
 /// Whether the entry may stand after the log, where of all disks only this one is known: of entries
 /// for others neither number nor range is asked.

@@ -10,9 +10,10 @@ ghost use Rattle.log_model.specs.PlainMachine.{plain_state, with_entry};
 
 use crate::folds::{facts_of, least_owned, mark, owner_of};
 use crate::query::{
-    before, between, capacity_past, fill_page, in_force, is_within, read_into, since_place, through,
+    answer_page, before, between, capacity_past, in_force, is_within, read_into, since_place,
+    through,
 };
-use crate::{Entry, Facts, Link, LinkRefused, Owner, Snapped, WriteRefused, calls};
+use crate::{Entry, Facts, Link, LinkRefused, Owner, Snapped, WriteRefused, acts};
 use change_id::{ChangeId, Since};
 use sector_model::{NoMemory, Page, Sector};
 use std::alloc::Global;
@@ -77,7 +78,7 @@ impl PlainMachine {
             (write_refusal self.old.capacities disk first (length sectors.now) self.old.seen)
             WriteRefused.NoMemory result }
     {
-        calls::write(
+        acts::write(
             &mut self.entries,
             self.capacities.as_slice(),
             self.alloc,
@@ -100,11 +101,11 @@ impl Link for PlainMachine {
     ghost state = { λ machine. machine };
 
     fn snap(&mut self, owner: Owner, must_be_off: bool) -> Result<Snapped, LinkRefused> {
-        calls::snap(&mut self.entries, self.caller, owner, must_be_off)
+        acts::snap(&mut self.entries, self.caller, owner, must_be_off)
     }
 
     fn remove(&mut self, owner: Owner, id: u32) -> Result<(), LinkRefused> {
-        calls::remove(&mut self.entries, self.caller, owner, id)
+        acts::remove(&mut self.entries, self.caller, owner, id)
     }
 
     fn change_id(&mut self, id: u32, disk: u32) -> Result<Option<ChangeId>, LinkRefused> {
@@ -132,7 +133,7 @@ impl Link for PlainMachine {
         }
         let capacity = capacity_past(self.capacities.as_slice(), disk, start)?;
         let from = since_place(self.machine, log, disk, id, since)?;
-        fill_page(
+        answer_page(
             between(log, from, mark(log, id)),
             disk,
             capacity,
@@ -161,15 +162,15 @@ impl Link for PlainMachine {
     }
 
     fn power_off(&mut self) -> Result<u64, LinkRefused> {
-        calls::power_off(&mut self.entries, self.caller)
+        acts::power_off(&mut self.entries, self.caller)
     }
 
     fn power_on(&mut self) -> Result<u64, LinkRefused> {
-        calls::power_on(&mut self.entries, self.caller)
+        acts::power_on(&mut self.entries, self.caller)
     }
 
     fn reset(&mut self, disk: u32) -> Result<(), LinkRefused> {
-        calls::reset(
+        acts::reset(
             &mut self.entries,
             self.caller,
             self.capacities.as_slice(),
@@ -178,7 +179,7 @@ impl Link for PlainMachine {
     }
 
     fn enable(&mut self) -> Result<(), LinkRefused> {
-        calls::enable(&mut self.entries, self.caller)
+        acts::enable(&mut self.entries, self.caller)
     }
 
     fn facts(&mut self) -> Facts {

@@ -2,7 +2,7 @@
 ghost use Rattle.std.specs.Prelude.{◌≡◌, ◌<◌, ◌≤◌, ◌+◌, ◌^◌, ◌&&◌, ℕ, nat_lt, not, length, map, MatchResult, MatchBool, IsTrue};
 ghost use Rattle.std.specs.List.{range_with_len};
 ghost use Rattle.sector_model.specs.Run.{next_run, areas_of, touched_blocks};
-ghost use Rattle.sector_model.specs.Page.{page_of};
+ghost use Rattle.sector_model.specs.Page.{page_from};
 ghost use Rattle.log_model.specs.Entry.{writes_of};
 ghost use Rattle.log_model.specs.Legal.{capacity_of};
 ghost use Rattle.log_model.specs.Marks.{mark, before, through, in_force};
@@ -227,10 +227,10 @@ fn next_touched(log: &[Entry], disk: u32, at: u64, capacity: u64) -> Option<Run>
     })
 }
 
-/// Fills the page with the areas that the log touches, from sector `start` on.
-pub fn fill_page(log: &[Entry], disk: u32, capacity: u64, start: u64, page: &mut Page)
+/// Makes the page the one of the areas that the log touches, from sector `start` on.
+pub fn answer_page(log: &[Entry], disk: u32, capacity: u64, start: u64, page: &mut Page)
     requires { start < capacity }
-    ensures { page.new ≡ page_of capacity
+    ensures { page.new ≡ page_from capacity
         (areas_of capacity (touched_blocks capacity (writes_of disk log.now))) start }
 {
     page.clear(start);

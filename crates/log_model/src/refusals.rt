@@ -79,10 +79,11 @@ pub enum WriteRefused {
     /// The machine is off.
     Off,
     /// The disk is unknown, the sectors are none or more than one write may have
-    /// ([`MAX_WRITE_SECTORS`](crate::MAX_WRITE_SECTORS)), or the range passes the capacity.
+    /// ([`MAX_WRITE_SECTORS`](basics::MAX_WRITE_SECTORS)), or the range passes the capacity.
     Range,
-    /// The sectors of all writes would pass [`MAX_LOGGED_SECTORS`](crate::MAX_LOGGED_SECTORS), or
-    /// the log holds [`MAX_LOG_ENTRIES`](crate::MAX_LOG_ENTRIES) entries.
+    /// The sectors of all writes would pass
+    /// [`MAX_LOGGED_SECTORS`](basics::MAX_LOGGED_SECTORS), or the log holds
+    /// [`MAX_LOG_ENTRIES`](crate::MAX_LOG_ENTRIES) entries.
     LogFull,
     /// Memory ran out.
     NoMemory,

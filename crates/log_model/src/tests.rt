@@ -15,7 +15,7 @@ ghost use Rattle.log_model.specs.declared.folds.Tracking.{Tracking};
 
 use crate::{
     Act, Entry, EntryList, Link, LinkRefused, MAX_LOG_ENTRIES, Owner, PlainMachine, WriteRefused,
-    accepted_may_stand, answer_pages_join, answers_stay, calls, calls_follow, ids_answer_between,
+    accepted_may_stand, acts, answer_pages_join, answers_stay, calls_follow, ids_answer_between,
     ids_exist, later_entries_keep, legal_logs, marks_of_ids, migrations_keep_theirs,
     numbers_have_no_gap, off_is_frozen, snapshots_have_their_marks, touched_blocks_join,
 };
@@ -206,12 +206,12 @@ fn a_migration_s_snapshot_isn_t_the_operator_s(rt: HostRuntime) -> Result<(), Fa
 fn a_migration_s_snapshot_is_removed_under_the_number_1_alone(rt: HostRuntime) -> Result<(), Fail> {
     let owner = Owner::Migration(7);
     let mut log = Vec::new(rt.alloc());
-    let snapped = calls::snap(&mut log, 1, owner, false)?;
+    let snapped = acts::snap(&mut log, 1, owner, false)?;
     assert_eq!(rt;
-        calls::remove(&mut log, 2, owner, snapped.id),
+        acts::remove(&mut log, 2, owner, snapped.id),
         Err(LinkRefused::Owned)
     );
-    calls::remove(&mut log, 1, owner, snapped.id)?;
+    acts::remove(&mut log, 1, owner, snapped.id)?;
     assert_eq!(rt; log.len(), 2);
     Ok(())
 }
@@ -268,4 +268,49 @@ fn the_laws_hold() {
     definitions_on_small_logs();
     touched_blocks_join();
     answer_pages_join();
+}
+
+#[test]
+fn refusals_of_a_link_say_what_is_wrong(rt: HostRuntime) -> Result<(), Fail> {
+    let texts = [
+        (LinkRefused::UnknownSnap, "the snapshot isn't live"),
+        (LinkRefused::Running, "the machine is on"),
+        (
+            LinkRefused::Strange(None),
+            "the identifier isn't one to ask this snapshot",
+        ),
+        (LinkRefused::Range, "no such disk or sectors"),
+        (LinkRefused::AlreadyOff, "the machine is off already"),
+        (LinkRefused::AlreadyOn, "the machine is on already"),
+        (LinkRefused::Spent, "the log is full"),
+        (
+            LinkRefused::Owned,
+            "the snapshot isn't the caller's to remove",
+        ),
+        (
+            LinkRefused::AlreadyEnabled,
+            "change tracking is enabled already",
+        ),
+        (LinkRefused::NoMemory, "out of memory"),
+    ];
+    for (refusal, text) in texts {
+        let printed = format!(in rt.alloc(); "{refusal}")?;
+        assert_eq!(rt; printed.as_str(), text);
+    }
+    Ok(())
+}
+
+#[test]
+fn refusals_of_a_write_say_what_is_wrong(rt: HostRuntime) -> Result<(), Fail> {
+    let texts = [
+        (WriteRefused::Off, "the machine is off"),
+        (WriteRefused::Range, "no such disk or sectors"),
+        (WriteRefused::LogFull, "the log is full"),
+        (WriteRefused::NoMemory, "out of memory"),
+    ];
+    for (refusal, text) in texts {
+        let printed = format!(in rt.alloc(); "{refusal}")?;
+        assert_eq!(rt; printed.as_str(), text);
+    }
+    Ok(())
 }

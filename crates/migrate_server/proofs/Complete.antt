@@ -1,5 +1,5 @@
 -- A volume that was complete once is so at the end, and over a sound store no command is refused as `volume`.
-use Rattle.std.proofs.Common.{◌≡◌, ◌≢◌, ◌⊎◌, ℕ, Bool, true, false, List, [], ◌∷◌, Option, Some, None, option_map, if◌then◌else◌, inl, inr, refl, sym, ap, subst, ◌∙◌, arith}
+use Rattle.std.proofs.Common.{◌≡◌, ◌≢◌, ℕ, true, List, [], ◌∷◌, Option, Some, None, option_map, if◌then◌else◌, inl, inr, refl, sym, ap, subst, ◌∙◌, arith}
 use Rattle.std.specs.Prelude.{IfSome, IsSome, IsSomeAnd, IsTrue, All, is_some}
 use Rattle.std.proofs.lemmas.Bool.{false≢true, true≢false}
 use Rattle.std.proofs.lemmas.List.Elements.{All-cons}
@@ -8,7 +8,6 @@ use Rattle.target_volume.specs.VolumeStore.{StoreState, StoredVolume}
 use Rattle.target_volume.specs.declared.volume_name.VolumeName.{VolumeName}
 use Rattle.target_volume.specs.declared.volume_name.VolumeName.TheVariants.{Given}
 use Rattle.target_volume.proofs.NameLemmas.{find-with_same, find-with_other}
-use Rattle.migrate_server.specs.declared.command.MoveWrite.{MoveWrite}
 use Rattle.migrate_server.specs.declared.command.Command.{Command}
 use Rattle.migrate_server.specs.declared.command.Command.TheVariants.{Move}
 use Rattle.migrate_server.specs.declared.line.Line.{Line}
@@ -20,7 +19,7 @@ use Rattle.migrate_server.specs.declared.reply.Reply.TheVariants.{Moved, Refused
 use Rattle.migrate_server.specs.Line.{Means, Spells}
 use Rattle.migrate_server.specs.Moves.{MoveRefusal, name_refusal, moved_volume}
 use Rattle.migrate_server.specs.NewVolume.{IsFree, FailsInCopy, with_new_volume}
-use Rattle.migrate_server.specs.Session.{State, Answers, LineAnswers, Step, Session, Stands, IsComplete, AllComplete}
+use Rattle.migrate_server.specs.Session.{State, Answers, LineAnswers, Session, Stands, IsComplete, AllComplete}
 
 abbrev Volumes : Type 0
 Volumes = List (VolumeName × StoredVolume)
@@ -155,9 +154,7 @@ answers_sound (Move name sectors writes) (Refused why) old new sound h =
     ]
 
 not_refused : (line : List ℕ) (why : Refusal) (reply : Reply) → Means line (Refuses why) → reply ≡ Refused why → reply ≢ Refused Volume
-not_refused line NotBuilt reply means is = λ same. cc
-not_refused line NameTaken reply means is = absurd means
-not_refused line Volume reply means is = absurd means
+not_refused line why reply means is = let not_built = means.1 in λ same. cc
 
 line_sound : (line : List ℕ) (what : Line) (reply : Reply) (old new : State) → IsTrue old.store.sound → Means line what → LineAnswers what reply old new → Sound reply old new
 line_sound line Blank reply old new sound means h = absurd h

@@ -9,8 +9,8 @@ use Rattle.sector_model.specs.Disk.{replaced}
 use Rattle.sector_model.specs.Sector.{zero_sector}
 use Rattle.sector_model.specs.VolumeContents.{VolumeContents, IsSized, volume_written, volume_flushed}
 use Rattle.sector_model.specs.declared.sector.Sector.{Sector}
-use Rattle.target_volume.specs.Volume.{VolumeState, after_write, after_zero, after_flush, Breaks, Fails}
-use Rattle.migrate_server.specs.Counts.{HasRisen}
+use Rattle.target_volume.specs.Volume.{VolumeState, after_write, after_zero, after_flush, Breaks, VolumeFails}
+use Rattle.basics.specs.Faults.{HasRisen}
 use Rattle.migrate_server.specs.Copy.{after_copy, contents_copied_to, copied_contents, copied_to, CopyFails}
 
 -- items behind a front of n
@@ -115,7 +115,7 @@ pub write_fails : {T E : Type 0} (disk : List Sector) (at first count : ℕ) (ol
     → (IsTrue now.sound → IsOk result) → Breaks first count now after → CopyFails old after
 write_fails disk at first count old now after result e is err ok breaks = record {
   unsound = sym (ap (λ (v : VolumeState). v.sound) is) ∙ not_sound now.sound result e err ok;
-  rises = subst (λ (n : ℕ). HasRisen n after.faults) (ap (λ (v : VolumeState). v.faults) is) (breaks.later, breaks.rose);
+  rises = subst (λ (n : ℕ). HasRisen n after.faults) (ap (λ (v : VolumeState). v.faults) is) breaks.rises;
   kept = breaks.kept ∙ ap (λ (v : VolumeState). with_open v after) is;
 }
 
@@ -125,9 +125,9 @@ fails_with now after kept =
     ∙ ap (λ (x : ℕ). record { name = now.name; capacity = now.capacity; contents = after.contents; written = x; faults = after.faults; sound = now.sound }) (sym (ap (λ (v : VolumeState). v.written) kept))
 
 pub flush_fails : {T E : Type 0} (disk : List Sector) (at : ℕ) (old now after : VolumeState) (result : Result T E) (e : E) → now ≡ copied_to disk at old → result ≡ Err e
-    → (IsTrue now.sound → IsOk result) → Fails now after → CopyFails old after
+    → (IsTrue now.sound → IsOk result) → VolumeFails now after → CopyFails old after
 flush_fails disk at old now after result e is err ok fails = record {
   unsound = sym (ap (λ (v : VolumeState). v.sound) is) ∙ not_sound now.sound result e err ok;
-  rises = subst (λ (n : ℕ). HasRisen n after.faults) (ap (λ (v : VolumeState). v.faults) is) (fails.later, fails.rose);
+  rises = subst (λ (n : ℕ). HasRisen n after.faults) (ap (λ (v : VolumeState). v.faults) is) fails.rises;
   kept = fails_with now after fails.kept ∙ ap (λ (v : VolumeState). with_open v after) is;
 }

@@ -1,15 +1,16 @@
 -- The source disk of a move, write by write.
-use Rattle.std.proofs.Common.{◌≡◌, ℕ, zero, suc, ◌+◌, ◌*◌, ◌/◌, ◌<◌, ◌≤◌, min, max, Bool, true, false, cond, ltb, eqb, ◌||◌, ◌&&◌, List, [], ◌∷◌, length, get_or, take, inl, inr, refl, sym, ap, subst, ◌∙◌, arith}
+use Rattle.std.proofs.Common.{◌≡◌, ℕ, ◌+◌, ◌*◌, ◌/◌, ◌<◌, ◌≤◌, min, max, Bool, false, ltb, ◌||◌, ◌&&◌, List, [], ◌∷◌, length, get_or, take, sym, ap, ◌∙◌, arith}
 use Rattle.std.specs.Prelude.{replicate, All, unwrap_or}
 use Rattle.std.specs.List.{list_any, fold, filter, range_with_len, AllByRecursion}
-use Rattle.std.proofs.lemmas.Bool.{or_parts, cases_lt, cases_eq, ltb-false, lt-ltb, eq-eqb}
+use Rattle.std.proofs.Math.Bool.{or-false}
+use Rattle.std.proofs.lemmas.Bool.{lt-ltb}
 use Rattle.std.proofs.lemmas.Grind.{fold-append}
 use Rattle.std.proofs.lemmas.List.{map_more, length-replicate, get_or-replicate}
 use Rattle.std.proofs.lemmas.List.Folds.{list_any-append}
 use Rattle.std.proofs.lemmas.List.Elements.{recursion_from_All}
 use Rattle.std.proofs.lemmas.Option.{unwrap_or-slice_get}
 use Rattle.sector_model.specs.Sector.{zero_sector, filled}
-use Rattle.sector_model.specs.Disk.{Write, Fits, after_write, fresh_disk}
+use Rattle.sector_model.specs.Disk.{Fits, after_write, fresh_disk}
 use Rattle.sector_model.specs.Run.{block_count, meets, touches, touched_blocks, in_blocks, areas_of}
 use Rattle.sector_model.specs.declared.sector.Sector.{Sector}
 use Rattle.sector_model.proofs.Exact.{in_runs_of}
@@ -18,7 +19,7 @@ use Rattle.migrate_server.specs.WrittenDisk.{disk_write, disk_writes, written_di
 use Rattle.migrate_server.specs.WrittenDisk.{AreFlagged, FlagsAfter}
 use Rattle.migrate_server.specs.Copy.{IsClearOutside}
 use Rattle.sector_model.proofs.Replaced.{length-after_writes, untouched}
-use Rattle.sector_model.proofs.Touched.{filter-range_same}
+use Rattle.sector_model.proofs.Touched.{filter-range_same, not_touched}
 
 -- ---- sectors
 
@@ -44,30 +45,6 @@ same_sector ws disk s c long within none =
     ∙ ap (λ o. unwrap_or o zero_sector) (untouched c disk (disk_writes ws) s long (all_fit c ws within) none)
     ∙ unwrap_or-slice_get disk s zero_sector
 
-or_false : (b : Bool) → (b || false) ≡ b
-or_false true = refl
-or_false false = refl
-
-at_head : (b : Bool) (a : ℕ) (xs : List ℕ) → b ≡ b → list_any (eqb a) (cond b (a ∷ xs) xs) ≡ false → b ≡ false
-at_head false a xs same none = refl
-at_head true a xs same none = sym (ap (λ x. x || list_any (eqb a) xs) (eq-eqb a a refl)) ∙ none
-
-none_in_tail : (b : Bool) (x a : ℕ) (xs : List ℕ) → list_any (eqb x) (cond b (a ∷ xs) xs) ≡ false → list_any (eqb x) xs ≡ false
-none_in_tail true x a xs none = (or_parts (eqb x a) (list_any (eqb x) xs) none).1
-none_in_tail false x a xs none = none
-
-true_then_none : (p : ℕ → Bool) (x a n : ℕ) → a ≤ x → x < a + n → list_any (eqb x) (filter p (range_with_len a n)) ≡ false → p x ≡ false
-true_then_none p x a zero from below none = absurd (omega arith)
-true_then_none p x a (suc n) from below none =
-    elim (cases_eq x a) [
-      | inl same ↦ subst (λ (y : ℕ). p y ≡ false) (sym same) (at_head (p a) a (filter p (range_with_len (a + 1) n)) refl (subst (λ (y : ℕ). list_any (eqb y) (filter p (range_with_len a (suc n))) ≡ false) same none))
-      | inr other ↦ true_then_none p x (a + 1) n (omega (arith, other)) (omega arith) (none_in_tail (p a) x a (filter p (range_with_len (a + 1) n)) none)
-    ]
-
--- no write touches the block of a sector that is of no touched block
-none_touches : (c : ℕ) (writes : List Write) (s : ℕ) → s < c → in_blocks (touched_blocks c writes) s ≡ false → list_any (touches (s / 128)) writes ≡ false
-none_touches c writes s inside none = true_then_none (λ b. list_any (touches b) writes) (s / 128) 0 (block_count c) (omega arith) (omega arith) none
-
 pub disk_clear : (c : ℕ) (ws : List MoveWrite) → All (λ w. w.first + w.count ≤ c) ws → IsClearOutside (areas_of c (touched_blocks c (disk_writes ws))) (written_disk c ws)
 disk_clear c ws within s below outside =
     let long : length (fresh_disk c) ≡ c = length-replicate c zero_sector in
@@ -75,7 +52,7 @@ disk_clear c ws within s below outside =
     let inside : s < c = let e = length-fold ws (fresh_disk c) c long each in omega arith in
     let blocks = touched_blocks c (disk_writes ws) in
     let not_in : in_blocks blocks s ≡ false = sym (ap (λ b. b && in_blocks blocks s) (lt-ltb s c inside)) ∙ sym (in_runs_of (in_blocks blocks) c s) ∙ outside in
-    same_sector ws (fresh_disk c) s c long each (none_touches c (disk_writes ws) s inside not_in)
+    same_sector ws (fresh_disk c) s c long each (not_touched c s (disk_writes ws) inside not_in)
     ∙ get_or-replicate c s zero_sector zero_sector inside
 
 -- ---- flags
@@ -98,7 +75,7 @@ flags-more c ws i d old new within flagged after =
           after.each b (let e = flagged.long in omega arith)
           ∙ ap (λ x. x || meets b w.first w.count) (flagged.each b below)
           ∙ sym (ap (list_any (touches b)) split ∙ list_any-append (touches b) (disk_writes (take i ws)) (disk_write w ∷ [])
-          ∙ ap (λ x. list_any (touches b) (disk_writes (take i ws)) || x) (or_false (touches b (disk_write w)) ∙ ap (λ k. ltb (max (128 * b) w.first) (min (128 * b + 128) (w.first + k))) size));
+          ∙ ap (λ x. list_any (touches b) (disk_writes (take i ws)) || x) (or-false (touches b (disk_write w)) ∙ ap (λ k. ltb (max (128 * b) w.first) (min (128 * b + 128) (w.first + k))) size));
     }
 
 pub flagged_areas : (c : ℕ) (ws : List MoveWrite) (flags : List Bool) → AreFlagged c (disk_writes ws) flags

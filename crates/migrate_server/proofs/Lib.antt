@@ -1,5 +1,4 @@
 pub mod Parsing
-pub mod Pieces
 pub mod Lists
 pub mod DiskLemmas
 pub mod PartLines

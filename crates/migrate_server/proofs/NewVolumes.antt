@@ -1,20 +1,21 @@
 -- A volume that was made, copied to, and taken back.
-use Rattle.std.proofs.Common.{◌≡◌, ◌⊎◌, ℕ, ◌+◌, ◌-◌, ◌≤◌, Bool, true, false, ◌&&◌, List, length, Option, Some, None, Result, Ok, Err, option_map, inl, inr, refl, sym, ap, subst, ◌∙◌, arith}
+use Rattle.std.proofs.Common.{◌≡◌, ◌⊎◌, ℕ, ◌-◌, ◌≤◌, Bool, true, false, ◌&&◌, List, length, Option, Some, None, Result, Ok, Err, option_map, inl, inr, refl, sym, ap, subst, ◌∙◌, arith}
 use Rattle.std.specs.Prelude.{IfSome, IsSome, IsSomeAnd, IsTrue, OnOk, OnErr}
-use Rattle.std.proofs.lemmas.Bool.{true≢false, false≢true}
+use Rattle.std.proofs.lemmas.Bool.{true≢false}
 use Rattle.basics.specs.Faults.{counted_by, Rose}
 use Rattle.basics.proofs.FaultLemmas.{rose_with}
 use Rattle.sector_model.specs.VolumeContents.{VolumeContents, IsSized}
 use Rattle.sector_model.specs.declared.sector.Sector.{Sector}
 use Rattle.target_volume.specs.Volume.{VolumeState}
-use Rattle.target_volume.specs.VolumeName.{find_volume, with_volume, without_volume}
+use Rattle.target_volume.specs.VolumeName.{find_volume, with_volume}
 use Rattle.target_volume.specs.declared.store_refused.StoreRefused.{StoreRefused}
 use Rattle.target_volume.specs.declared.store_refused.StoreRefused.TheVariants.{Failed}
-use Rattle.target_volume.specs.VolumeStore.{StoreState, StoreFails, StoredVolume, Loan, Lends, IsFresh, IsLentOut, find_loan, lent_out, at_home, after_lending, after_taking_back}
+use Rattle.target_volume.specs.VolumeStore.{StoreState, StoreFails, StoredVolume, Loan, Lends, IsFresh, IsLentOut, find_loan, lent_out, at_home, after_taking_back}
 use Rattle.target_volume.specs.declared.volume_name.VolumeName.{VolumeName}
 use Rattle.target_volume.proofs.NameLemmas.{find-with_same, with-with, without-with}
 use Rattle.migrate_server.specs.Copy.{after_copy, copied_contents, CopyFails}
 use Rattle.migrate_server.specs.NewVolume.{IsFree, FailsInCopy, with_new_volume, copied_volume}
+use Rattle.target_volume.proofs.StoreLemmas.{and_implied}
 
 abbrev Volumes : Type 0
 Volumes = List (VolumeName × StoredVolume)
@@ -86,10 +87,6 @@ volumes_are name disk sectors volume after lent (Some volumes) long sized copied
     put_twice name lent (at_home after) (Some volumes)
     ∙ ap (λ x. Some (with_volume name x volumes)) (home_is disk sectors volume after long sized copied volume.contents refl (fresh refl))
 
-and_implied : (a b : Bool) → (IsTrue a → IsTrue b) → (a && b) ≡ a
-and_implied true b h = h refl
-and_implied false b h = refl
-
 pub copied_home : (name : VolumeName) (disk : List Sector) (sectors : ℕ) (volume after : VolumeState) (old mid new : StoreState) → length disk ≡ sectors → Lends name sectors volume old mid → IsFresh volume old
     → after ≡ after_copy disk volume → new ≡ after_taking_back name volume.faults after mid → mid.faults ≤ new.faults
     → new ≡ with_new_volume name (copied_volume disk sectors) old
@@ -139,7 +136,7 @@ pub failed_at_once : {T : Type 0} (name : VolumeName) (sectors : ℕ) (result : 
     → FailsInCopy name sectors old new
 failed_at_once name sectors result old new is ok fails = record {
   unsound = unsound_by old.sound result is ok;
-  rises = (fails.later, fails.rose);
+  rises = fails.rises;
   volumes = inl (ap (λ (s : StoreState). s.volumes) fails.kept);
   kept = store_kept old new fails.kept;
 }

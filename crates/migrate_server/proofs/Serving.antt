@@ -1,16 +1,16 @@
 -- Lines, their answers, and the session that they make.
 use Rattle.std.proofs.Common.{◌≡◌, ◌≢◌, ◌⊎◌, ℕ, suc, ◌+◌, ◌-◌, ◌<◌, ◌≤◌, Bool, true, false, MatchBool, cond, not, if◌then◌else◌, ◌==◌, List, [], ◌∷◌, ◌++◌, length, take, drop, Option, Some, None, Result, Ok, Err, inl, inr, refl, sym, ap, subst, append_assoc, ◌∙◌, arith}
-use Rattle.std.specs.Prelude.{IfSome, IsTrue, OnOk, OnErr, All, count_by, nat_le, ◌&&◌}
+use Rattle.std.specs.Prelude.{IfSome, IsTrue, OnOk, OnErr, count_by, nat_le}
 use Rattle.std.proofs.KnownBytes.{Appends-nil, Appends-trans, Consumes-nil, Consumes-trans}
-use Rattle.std.proofs.lemmas.Bool.{false≢true, true≢false, eqb-true, lt-leb}
-use Rattle.std.specs.List.{filter, flat_map, list_all}
+use Rattle.std.proofs.lemmas.Bool.{false≢true, true≢false, false_from_ne_true, and_left, eqb-true, lt-leb}
+use Rattle.std.specs.List.{flat_map, list_all}
 use Rattle.std.specs.Io.KnownBytes.{Appends, Consumes, IsAtEnd}
-use Rattle.std.proofs.lemmas.List.{append-nil, length-append, take-append-drop, take_at, take_all, drop_at}
-use Rattle.std.proofs.lemmas.List.Elements.{filter-append, All-head, All-tail, All-append}
+use Rattle.std.proofs.lemmas.List.{append-nil, length-append, take-append-drop, take_at}
+use Rattle.std.proofs.lemmas.List.Elements.{filter-append, All-head, All-tail}
 use Rattle.std.proofs.lemmas.List.Sums.{sum_by-append, sum_by-cons}
 use Rattle.std.proofs.lemmas.Grind.{flat_map-append}
 use Rattle.basics.specs.Faults.{Rose}
-use Rattle.migrate_server.specs.Counts.{HasRisen}
+use Rattle.basics.specs.Faults.{HasRisen}
 use Rattle.edge_traits.specs.Source.{SourceState}
 use Rattle.edge_traits.specs.Sink.{SinkState, AppendsPrefix}
 use Rattle.migrate_server.specs.declared.line_buffer.LineBuffer.{LineBuffer}
@@ -19,49 +19,40 @@ use Rattle.migrate_server.specs.declared.reader.TheConstants.{INPUT_LIMIT}
 use Rattle.migrate_server.specs.declared.reader.NoLine.{NoLine}
 use Rattle.migrate_server.specs.declared.reader.NoLine.TheVariants.{Fault as LineFault, Limit, NoMemory as NoLineMemory}
 use Rattle.migrate_server.specs.declared.reply.Refusal.{Refusal}
-use Rattle.migrate_server.specs.declared.reply.Refusal.TheVariants.{NotBuilt, NameTaken, Volume}
+use Rattle.migrate_server.specs.declared.reply.Refusal.TheVariants.{NotBuilt}
 use Rattle.migrate_server.specs.declared.reply.Reply.{Reply}
 use Rattle.migrate_server.specs.declared.reply.Reply.TheVariants.{Refused}
 use Rattle.migrate_server.specs.declared.serve.NoReply.{NoReply}
 use Rattle.migrate_server.specs.declared.serve.NoReply.TheVariants.{Fault, NoMemory as NoReplyMemory}
 use Rattle.migrate_server.specs.declared.status.Status.{Status}
 use Rattle.migrate_server.specs.declared.serve.Stop.{Stop}
-use Rattle.migrate_server.specs.declared.serve.Stop.TheVariants.{ReadFault, WriteFault, InputLimit, NoMemory}
+use Rattle.migrate_server.specs.declared.serve.Stop.TheVariants.{WriteFault, NoMemory}
 use Rattle.migrate_server.specs.EndsFor.{EndsFor, TellsUsage, usage_line}
 use Rattle.migrate_server.specs.declared.line.TheConstants.{LINE_LIMIT}
 use Rattle.migrate_server.specs.Line.{Means, is_space, is_blank, is_lf, lines_of, ended_lines, before_first_line, requests_among}
 use Rattle.migrate_server.specs.LineBuffer.{Holds}
 use Rattle.migrate_server.specs.Reply.{reply_line}
-use Rattle.migrate_server.specs.Reader.{ReaderState, HasNoLf, Takes, IsIdle, TakesLine, TakesEnd, HasNoLine, FailsInLine, PassesLimit, StopsInLine, budget}
+use Rattle.migrate_server.specs.Reader.{ReaderState, HasNoLf, IsIdle, TakesLine, TakesEnd, HasNoLine, budget}
 use Rattle.migrate_server.specs.Serve.{HasReply, ServesLine, FailsInReply, LacksReply, bytes_of_reply, stop_without_line, stop_without_reply, status_of}
-use Rattle.migrate_server.specs.Serves.{Serves, EndsLast}
+use Rattle.migrate_server.specs.Serves.{Serves}
 use Rattle.migrate_server.specs.Session.{State, state_of, Session, Step}
 use Rattle.migrate_server.specs.World.{World}
 use Rattle.migrate_server.proofs.Complete.{session_complete, session_sound, no_volume}
 
 -- ---- one line
 
-not_blank : (why : Refusal) (line : List ℕ) → Means line (Refuses why) → is_blank line ≡ false
-not_blank NotBuilt line means = means.0
-not_blank NameTaken line means = absurd means
-not_blank Volume line means = absurd means
-
 pub refuses_line : (buffer : LineBuffer) (text : List ℕ) (why : Refusal) (old : State) → buffer.is_long ≡ false → Means buffer.bytes.items (Refuses why) → Holds buffer text
     → HasReply text (Some (Refused why)) old old
 refuses_line buffer text why old short means (inl held) =
-    subst (λ line. HasReply line (Some (Refused why)) old old) held.1 (not_blank why buffer.bytes.items means, (Refuses why, means, (refl, refl)))
+    subst (λ line. HasReply line (Some (Refused why)) old old) held.1 (means.0, (Refuses why, means, (refl, refl)))
 refuses_line buffer text why old short means (inr long) = let h = long.0 in cc
-
-and_false : (a b : Bool) → a ≡ false → (a && b) ≡ false
-and_false false b h = refl
-and_false true b h = cc
 
 -- a line that is too long is neither blank nor a command
 pub long_line : (buffer : LineBuffer) (text : List ℕ) (old : State) → buffer.is_long ≡ true → Holds buffer text → HasReply text (Some (Refused NotBuilt)) old old
 long_line buffer text old long (inl held) = let h = held.0 in cc
 long_line buffer text old long (inr held) =
-    let blank : is_blank text ≡ false = and_false (nat_le (length text) LINE_LIMIT) (list_all is_space text) (lt-leb (length text) LINE_LIMIT held.1) in
-    (blank, (Refuses NotBuilt, (blank, λ command spells. absurd (omega (arith, spells.fits, held.1))), (refl, refl)))
+    let blank : is_blank text ≡ false = and_left (nat_le (length text) LINE_LIMIT) (list_all is_space text) (lt-leb (length text) LINE_LIMIT held.1) in
+    (blank, (Refuses NotBuilt, (blank, refl, λ command spells. absurd (omega (arith, spells.fits, held.1))), (refl, refl)))
 
 pub serves_line : (text : List ℕ) (sink sink_after : SinkState) (old new : State) (some : Option Reply) (reply : Reply) (bytes : List ℕ) → some ≡ Some reply → HasReply text some old new → bytes ≡ reply_line reply
     → Appends sink.held sink_after.held bytes → sink_after.faults ≡ sink.faults → ServesLine text sink sink_after old new
@@ -87,12 +78,8 @@ picked : {A : Type 0} (t : Bool) (x y : A) → t ≡ false → (if t then x else
 picked false x y h = refl
 picked true x y h = cc
 
-not_true : (t : Bool) → (t ≡ true → ⊥) → t ≡ false
-not_true false h = refl
-not_true true h = absurd (h refl)
-
 no_lf : (b : ℕ) → b ≢ 10 → (b == 10) ≡ false
-no_lf b other = not_true (b == 10) (λ e. other (eqb-true b 10 e))
+no_lf b other = false_from_ne_true (b == 10) (λ e. other (eqb-true b 10 e))
 
 first_byte : (b : ℕ) (text : List ℕ) → HasNoLf (b ∷ text) → b ≢ 10
 first_byte b text h = All-head (λ x. x ≢ 10) b text h

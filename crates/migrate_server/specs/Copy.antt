@@ -1,13 +1,13 @@
 -- What a full copy of a disk leaves of a volume, and how it gets there: one run after another, with
 -- zeros between them.
-use Rattle.std.specs.Prelude.{◌≡◌, ℕ, ◌<◌, ◌≤◌, List, length, replicate, take, drop, ◌++◌, true, false, slice_index_or, option_map}
+use Rattle.std.specs.Prelude.{◌≡◌, ℕ, ◌<◌, List, length, replicate, take, drop, ◌++◌, true, false, slice_index_or, option_map}
 use Rattle.sector_model.specs.Sector.{zero_sector}
-use Rattle.sector_model.specs.Run.{end_of, in_runs}
+use Rattle.sector_model.specs.Run.{in_runs}
 use Rattle.sector_model.specs.VolumeContents.{VolumeContents}
 use Rattle.sector_model.specs.declared.sector.Sector.{Sector}
 use Rattle.sector_model.specs.declared.run.Run.{Run}
 use Rattle.target_volume.specs.Volume.{VolumeState}
-use Rattle.migrate_server.specs.Counts.{HasRisen}
+use Rattle.basics.specs.Faults.{HasRisen}
 
 -- the sectors of the disk, and nothing loose
 abbrev pub copied_contents : List Sector → VolumeContents
@@ -47,15 +47,3 @@ pub record CopyFails (old new : VolumeState) : Type 0 where
 abbrev pub IsClearOutside : List Run → List Sector → Type 0
 IsClearOutside runs disk = (s : ℕ) → s < length disk → in_runs runs s ≡ false
     → slice_index_or disk s zero_sector ≡ zero_sector
-
--- no run has a sector from `at` on
-abbrev pub NoneFrom : List Run → (at : ℕ) → Type 0
-NoneFrom runs at = (s : ℕ) → at ≤ s → in_runs runs s ≡ false
-
--- the run is the next one from sector `at` on, cut there, and ends by sector c
-pub record IsNext (runs : List Run) (at c : ℕ) (r : Run) : Type 0 where
-  pub from : at ≤ r.first
-  pub some : 0 < r.count
-  pub inside : end_of r ≤ c
-  pub held : (s : ℕ) → r.first ≤ s → s < end_of r → in_runs runs s ≡ true
-  pub gap : (s : ℕ) → at ≤ s → s < r.first → in_runs runs s ≡ false

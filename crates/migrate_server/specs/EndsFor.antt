@@ -5,7 +5,7 @@
 use Rattle.std.specs.Prelude.{◌≡◌, ℕ, ◌⊎◌, List, codes}
 use Rattle.std.specs.Io.KnownBytes.{Appends}
 use Rattle.edge_traits.specs.Sink.{SinkState, AppendsPrefix}
-use Rattle.migrate_server.specs.Counts.{HasRisen}
+use Rattle.basics.specs.Faults.{HasRisen}
 use Rattle.migrate_server.specs.World.{World}
 use Rattle.migrate_server.specs.declared.status.Status.{Status}
 use Rattle.migrate_server.specs.declared.status.Status.TheVariants.{Ok, Usage, ReadFault, JournalFault, WriteFault, StrangeJournal, InputLimit, JournalFull, NoMemory}

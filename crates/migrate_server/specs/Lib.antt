@@ -1,4 +1,3 @@
-pub mod Counts
 pub mod World
 pub mod Parse
 pub mod Line

@@ -1,17 +1,18 @@
 -- The lines of an input, and what each of them asks for. A line of spaces is blank and has no
 -- reply. A line that is too long spells no command, and isn't blank.
-use Rattle.std.specs.Prelude.{◌≡◌, ℕ, ◌+◌, ◌≤◌, All, List, [], ◌∷◌, length, count_by, take, Bool, true, false, not, ◌&&◌, ◌||◌, ◌==◌, nat_le, if◌then◌else◌, Some}
+use Rattle.std.specs.Prelude.{◌≡◌, ℕ, ◌≤◌, List, [], ◌∷◌, length, count_by, take, Bool, true, false, not, ◌&&◌, ◌||◌, ◌==◌, nat_le, if◌then◌else◌, Some}
 use Rattle.std.specs.List.{list_all, filter}
 use Rattle.std.specs.Str.{IsUtf8}
 use Rattle.serde_json.specs.Data.{Data}
 use Rattle.serde_json.specs.Read.{read}
+use Rattle.migrate_server.specs.Moves.{MoveFits}
 use Rattle.migrate_server.specs.Parse.{command_of}
 use Rattle.migrate_server.specs.declared.line.TheConstants.{LINE_LIMIT, LF}
 use Rattle.migrate_server.specs.declared.command.Command.{Command}
 use Rattle.migrate_server.specs.declared.command.Command.TheVariants.{Move}
 use Rattle.migrate_server.specs.declared.line.Line.{Line}
 use Rattle.migrate_server.specs.declared.line.Line.TheVariants.{Blank, Asks, Refuses}
-use Rattle.migrate_server.specs.declared.reply.Refusal.TheVariants.{NotBuilt, NameTaken, Volume}
+use Rattle.migrate_server.specs.declared.reply.Refusal.TheVariants.{NotBuilt}
 
 abbrev pub is_lf : ℕ → Bool
 is_lf b = b == LF
@@ -49,18 +50,16 @@ pub record Spells (line : List ℕ) (command : Command) : Type 0 where
   pub reads : read line ≡ Some value
   pub asks : command_of value ≡ Some command
 
--- what a line is: blank, a command that it spells, or neither
+-- what a line is: blank, a command that it spells, or neither, and then it has one refusal
 abbrev pub Means : (line : List ℕ) → Line → Type 0
 Means line Blank = is_blank line ≡ true
 Means line (Asks command) = (is_blank line ≡ false) × Spells line command
-Means line (Refuses NotBuilt) = (is_blank line ≡ false)
+Means line (Refuses why) = (is_blank line ≡ false) × (why ≡ NotBuilt)
     × ((command : Command) → Spells line command → ⊥)
-Means line (Refuses NameTaken) = ⊥
-Means line (Refuses Volume) = ⊥
 
--- the writes of a move lie within its disk
+-- what is known of a command that was read
 abbrev pub FitsDisk : Command → Type 0
-FitsDisk (Move name sectors writes) = All (λ w. w.first + w.count ≤ sectors) writes
+FitsDisk (Move name sectors writes) = MoveFits sectors writes
 
 abbrev pub AsksWithinDisk : Line → Type 0
 AsksWithinDisk (Asks command) = FitsDisk command

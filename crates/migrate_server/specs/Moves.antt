@@ -1,6 +1,7 @@
--- The command `move`: when it is refused, what it answers, and what it leaves of the store. It
--- needs no machine, so the store alone says whether the name is taken, where it tells its volumes.
-use Rattle.std.specs.Prelude.{◌≡◌, ◌⊎◌, ℕ, List, length, is_some, if◌then◌else◌, Option, Some, None, IfSome, IsSomeAnd}
+-- The command `move`: what is known of it when it was read, when it is refused, what it answers,
+-- and what it leaves of the store. It needs no machine, so the store alone says whether the name is
+-- taken, where it tells its volumes.
+use Rattle.std.specs.Prelude.{◌≡◌, ◌⊎◌, ℕ, ◌+◌, ◌≤◌, All, List, length, is_some, if◌then◌else◌, Option, Some, None, IfSome, IsSomeAnd}
 use Rattle.target_volume.specs.VolumeName.{find_volume}
 use Rattle.target_volume.specs.VolumeStore.{StoreState, StoredVolume}
 use Rattle.target_volume.specs.declared.volume_name.VolumeName.{VolumeName}
@@ -12,6 +13,10 @@ use Rattle.migrate_server.specs.declared.reply.Refusal.{Refusal}
 use Rattle.migrate_server.specs.declared.reply.Refusal.TheVariants.{NameTaken}
 use Rattle.migrate_server.specs.declared.reply.Reply.{Reply}
 use Rattle.migrate_server.specs.declared.reply.Reply.TheVariants.{Moved}
+
+-- its writes lie within its disk
+abbrev pub MoveFits : (sectors : ℕ) → List MoveWrite → Type 0
+MoveFits sectors writes = All (λ w. w.first + w.count ≤ sectors) writes
 
 abbrev pub name_refusal : (name : List ℕ) → List (VolumeName × StoredVolume) → Option Refusal
 name_refusal name volumes =

@@ -1,6 +1,6 @@
 -- A store that gains a volume under a name that had none, by a copy of a disk. Which call fails on
 -- the way, and what the volume holds then, is the store's choice: that is a relation.
-use Rattle.std.specs.Prelude.{◌≡◌, ◌⊎◌, ℕ, List, false, Option, Some, None, IfSome, IsSome, Result, Ok, Err, option_map}
+use Rattle.std.specs.Prelude.{◌≡◌, ◌⊎◌, ℕ, List, false, Some, None, IfSome, IsSome, Result, Ok, Err, option_map}
 use Rattle.sector_model.specs.declared.sector.Sector.{Sector}
 use Rattle.target_volume.specs.VolumeName.{find_volume, with_volume}
 use Rattle.target_volume.specs.VolumeStore.{StoreState, StoredVolume}
@@ -8,7 +8,7 @@ use Rattle.target_volume.specs.declared.store_refused.StoreRefused.{StoreRefused
 use Rattle.target_volume.specs.declared.store_refused.StoreRefused.TheVariants.{Exists, Failed, NoMemory}
 use Rattle.target_volume.specs.declared.volume_name.VolumeName.{VolumeName}
 use Rattle.migrate_server.specs.Copy.{copied_contents}
-use Rattle.migrate_server.specs.Counts.{HasRisen}
+use Rattle.basics.specs.Faults.{HasRisen}
 
 -- no volume has the name, as far as the store tells
 abbrev pub IsFree : VolumeName → StoreState → Type 0

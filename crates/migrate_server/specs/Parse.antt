@@ -1,25 +1,17 @@
 -- What a JSON value asks for. A value that is no command that is built has none here, whatever is
 -- wrong with it: the reasons are not told apart yet.
-use Rattle.std.specs.Prelude.{ℕ, ◌+◌, ◌-◌, ◌^◌, List, [], ◌∷◌, length, codes, Bool, false, ◌&&◌, ◌||◌, ◌==◌, nat_le, if◌then◌else◌, Option, Some, None, option_and_then, option_map}
+use Rattle.std.specs.Prelude.{ℕ, ◌+◌, ◌-◌, ◌^◌, List, [], ◌∷◌, codes, Bool, false, ◌&&◌, nat_le, if◌then◌else◌, Option, Some, None, option_and_then, option_map}
 use Rattle.std.specs.List.{list_all, list_any, sum_by}
 use Rattle.std.specs.Str.{bytes_eq}
 use Rattle.serde_json.specs.Data.{Data, null, boolean, number, string, array, object, Items, no_items, item, Members, no_members, member}
 use Rattle.serde_json.specs.Find.{get, as_str, as_array, as_number, as_u64}
-use Rattle.basics.specs.declared.name.TheConstants.{MAX_NAME_BYTES}
-use Rattle.migrate_server.specs.declared.parse.TheConstants.{MOST_DISK_SECTORS, MOST_SECTORS, MOST_WRITTEN}
+use Rattle.basics.specs.Spelled.{is_name}
+use Rattle.basics.specs.declared.limits.TheConstants.{MAX_DISK_SECTORS, MAX_WRITE_SECTORS, MAX_LOGGED_SECTORS}
 use Rattle.migrate_server.specs.declared.command.MoveWrite.{MoveWrite}
 use Rattle.migrate_server.specs.declared.command.Command.{Command}
 use Rattle.migrate_server.specs.declared.command.Command.TheVariants.{Move}
 
 -- ---- the kinds of members
-
--- a to z, 0 to 9, or a hyphen
-abbrev pub is_name_byte : ℕ → Bool
-is_name_byte b = (nat_le 97 b && nat_le b 122) || (nat_le 48 b && nat_le b 57) || (b == 45)
-
-abbrev pub is_name : List ℕ → Bool
-is_name text = nat_le 1 (length text) && nat_le (length text) MAX_NAME_BYTES
-    && list_all is_name_byte text
 
 -- a name
 abbrev pub name_of : Data → Option (List ℕ)
@@ -51,7 +43,7 @@ write_of_three a b c =
     option_and_then (λ first. option_and_then (λ count.
     option_map (λ fill. record { first = first; count = count; fill = fill })
     (number_of 0 255 c))
-    (number_of 1 MOST_SECTORS b)) (number_of 0 (2 ^ 64 - 1) a)
+    (number_of 1 MAX_WRITE_SECTORS b)) (number_of 0 (2 ^ 64 - 1) a)
 
 abbrev pub write_of_items : Items → Option MoveWrite
 write_of_items (item a (item b (item c no_items))) = write_of_three a b c
@@ -67,7 +59,7 @@ writes_of (item d ds) = option_and_then (λ w. option_map (λ ws. w ∷ ws) (wri
 -- the writes lie within the disk, and are few enough
 abbrev pub are_within : (sectors : ℕ) → List MoveWrite → Bool
 are_within sectors writes = list_all (λ w. nat_le (w.first + w.count) sectors) writes
-    && nat_le (sum_by (λ w. w.count) writes) MOST_WRITTEN
+    && nat_le (sum_by (λ w. w.count) writes) MAX_LOGGED_SECTORS
 
 abbrev pub move_members : List (List ℕ)
 move_members = codes "cmd" ∷ codes "name" ∷ codes "sectors" ∷ codes "writes" ∷ []
@@ -78,7 +70,7 @@ move_of d =
     if has_only move_members d && are_within sectors writes
     then Some (Move name sectors writes) else None)
     (option_and_then writes_of (option_and_then as_array (get (codes "writes") d))))
-    (option_and_then (number_of 1 MOST_DISK_SECTORS) (get (codes "sectors") d)))
+    (option_and_then (number_of 1 MAX_DISK_SECTORS) (get (codes "sectors") d)))
     (option_and_then name_of (get (codes "name") d))
 
 -- ---- any command

@@ -2,7 +2,7 @@
 use Rattle.std.specs.Prelude.{◌≡◌, ℕ, ◌⊎◌, List, [], true, false, Option, Some, None, Result, Ok, Err}
 use Rattle.std.specs.Io.KnownBytes.{Appends}
 use Rattle.edge_traits.specs.Sink.{SinkState, AppendsPrefix}
-use Rattle.migrate_server.specs.Counts.{HasRisen}
+use Rattle.basics.specs.Faults.{HasRisen}
 use Rattle.migrate_server.specs.Line.{is_blank}
 use Rattle.migrate_server.specs.Reply.{reply_line}
 use Rattle.migrate_server.specs.Session.{State, Step}

@@ -6,7 +6,7 @@ use Rattle.std.specs.List.{flat_map}
 use Rattle.std.specs.Io.KnownBytes.{Appends, Consumes, IsAtEnd}
 use Rattle.migrate_server.specs.Line.{lines_of, ended_lines, requests_among}
 use Rattle.migrate_server.specs.Reply.{reply_line}
-use Rattle.migrate_server.specs.Session.{State, state_of, Session, AllComplete}
+use Rattle.migrate_server.specs.Session.{state_of, Session, AllComplete}
 use Rattle.migrate_server.specs.World.{World}
 use Rattle.migrate_server.specs.declared.reader.TheConstants.{INPUT_LIMIT}
 use Rattle.migrate_server.specs.declared.reply.Refusal.TheVariants.{Volume}

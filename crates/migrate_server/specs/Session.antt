@@ -1,6 +1,7 @@
 -- What the server answers to the lines of an input, one after another, and what it leaves. A
 -- command has a row in each of `refusal_of`, `StoreRefusal`, `reply_of`, `state_after`, `Fails` and
--- `Stands`; nothing else here grows with the commands, their refusals or their replies.
+-- `Stands`, and in `FitsDisk` of Line.antt; nothing else here grows with the commands, their
+-- refusals or their replies.
 use Rattle.std.specs.Prelude.{◌≡◌, ◌⊎◌, ℕ, List, [], ◌∷◌, Option, Some, None, MatchOption}
 use Rattle.target_volume.specs.VolumeStore.{StoreState}
 use Rattle.migrate_server.specs.Line.{Means, Spells}
@@ -13,7 +14,7 @@ use Rattle.migrate_server.specs.declared.line.Line.TheVariants.{Blank, Asks, Ref
 use Rattle.migrate_server.specs.declared.reply.Refusal.{Refusal}
 use Rattle.migrate_server.specs.declared.reply.Refusal.TheVariants.{Volume}
 use Rattle.migrate_server.specs.declared.reply.Reply.{Reply}
-use Rattle.migrate_server.specs.declared.reply.Reply.TheVariants.{Moved, Refused}
+use Rattle.migrate_server.specs.declared.reply.Reply.TheVariants.{Refused}
 
 -- what a line finds and leaves
 pub record State : Type 0 where
@@ -77,16 +78,16 @@ Session old (line ∷ lines) (reply ∷ replies) new =
 Session old [] (reply ∷ replies) new = ⊥
 Session old (line ∷ lines) [] new = ⊥
 
--- what stands of a command that was complete
+-- what stands of a command that was not refused
 abbrev pub Stands : Command → (now : State) → Type 0
 Stands (Move name sectors writes) now = HasMoved name sectors writes now.store
 
+-- where the reply is no refusal, what the line asked for stands
 abbrev pub IsComplete : (line : List ℕ) → Reply → (now : State) → Type 0
-IsComplete line (Moved writes written) now =
-    (command : Command) × Spells line command × Stands command now
-IsComplete line _ now = Unit {0}
+IsComplete line (Refused why) now = Unit {0}
+IsComplete line reply now = (command : Command) × Spells line command × Stands command now
 
--- each of these lines whose reply is complete has what it asked for
+-- each of these lines whose reply is no refusal has what it asked for
 abbrev pub AllComplete : List (List ℕ) → List Reply → (now : State) → Type 0
 AllComplete (line ∷ lines) (reply ∷ replies) now =
     IsComplete line reply now × AllComplete lines replies now

@@ -1,5 +1,5 @@
 -- The disk of a move. It is plain: a fresh disk, to which the writes of the line are applied.
-use Rattle.std.specs.Prelude.{◌≡◌, ℕ, ◌+◌, ◌<◌, List, length, map, replicate, Bool, false, ◌||◌, slice_index_or}
+use Rattle.std.specs.Prelude.{◌≡◌, ℕ, ◌<◌, List, length, map, replicate, Bool, false, ◌||◌, slice_index_or}
 use Rattle.std.specs.List.{list_any}
 use Rattle.sector_model.specs.Sector.{filled}
 use Rattle.sector_model.specs.Disk.{Write, fold_writes}

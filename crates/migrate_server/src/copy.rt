@@ -1,7 +1,7 @@
 //! A full copy of a disk to a volume.
 ghost use Rattle.std.specs.Prelude.{◌≡◌, ◌+◌, ◌-◌, ◌≤◌, ◌<◌, ℕ, true, false, length, All, OnOk, OnErr, MatchOption, min};
-ghost use Rattle.sector_model.specs.Run.{end_of, in_runs, AreSpaced};
-ghost use Rattle.migrate_server.specs.Copy.{after_copy, CopyFails, IsClearOutside, IsNext, NoneFrom};
+ghost use Rattle.sector_model.specs.Run.{end_of, in_runs, AreSpaced, IsNext, NoneFrom};
+ghost use Rattle.migrate_server.specs.Copy.{after_copy, CopyFails, IsClearOutside};
 
 use sector_model::{Run, Runs, Sector};
 use target_volume::{Volume, VolumeFailed};

@@ -4,22 +4,16 @@ ghost use Rattle.std.specs.BTreeMap.{keys};
 ghost use Rattle.std.specs.List.{list_all, list_any, sum_by};
 ghost use Rattle.std.specs.Str.{bytes_eq};
 ghost use Rattle.serde_json.specs.View.{view, items_view, members_view};
-ghost use Rattle.migrate_server.specs.Parse.{is_name, is_name_byte, name_of, number_of, write_of, write_of_items, write_of_three, writes_of, are_within, has_only, move_members, move_of, command_of};
+ghost use Rattle.migrate_server.specs.Parse.{name_of, number_of, write_of, write_of_items, write_of_three, writes_of, are_within, has_only, move_members, move_of, command_of};
 ghost use Rattle.migrate_server.specs.Line.{FitsDisk};
 
 use crate::command::{Command, MoveWrite, MoveWrites};
-use basics::{MAX_NAME_BYTES, Name, NoMemory};
+use basics::{
+    MAX_DISK_SECTORS, MAX_LOGGED_SECTORS, MAX_NAME_BYTES, MAX_WRITE_SECTORS, Name, NoMemory,
+    is_name,
+};
 use serde_json::{Map, Value};
 use std::alloc::Global;
-
-/// The most sectors of a disk: 256 GiB.
-const MOST_DISK_SECTORS: u64 = 1 << 29;
-
-/// The most sectors of a write: 64 KiB.
-const MOST_SECTORS: u64 = 128;
-
-/// The most sectors of all writes of a move in sum: 32 MiB.
-const MOST_WRITTEN: u64 = 1 << 16;
 
 /// The command that a value spells, if it does.
 pub(crate) fn read_command(alloc: Global, value: &Value) -> Result<Option<Command>, NoMemory>
@@ -67,25 +61,11 @@ fn name_of(value: &Value) -> Option<&str>
         (1 ≤ length text.now) × (length text.now ≤ MAX_NAME_BYTES)) }
 {
     let text = value.as_str()?;
-    if is_name(text) { Some(text) } else { None }
-}
-
-fn is_name(text: &str) -> bool
-    ensures { result ≡ is_name text.now }
-{
-    1 <= text.len() && text.len() <= MAX_NAME_BYTES && all_name_bytes(text.as_bytes())
-}
-
-fn all_name_bytes(bytes: &[u8]) -> bool
-    ensures { result ≡ list_all is_name_byte bytes.now }
-{
-    bytes.iter().all(|byte| is_name_byte(*byte))
-}
-
-fn is_name_byte(byte: u8) -> bool
-    ensures { result ≡ is_name_byte byte }
-{
-    (97 <= byte && byte <= 122) || (48 <= byte && byte <= 57) || byte == 45
+    if is_name(text.as_bytes()) {
+        Some(text)
+    } else {
+        None
+    }
 }
 
 /// The number of a value that is a whole number of 64 bits in a range.
@@ -101,9 +81,9 @@ fn number_of(value: &Value, low: u64, high: u64) -> Option<u64>
 }
 
 fn sectors_of(value: &Value) -> Option<u64>
-    ensures { result ≡ number_of 1 MOST_DISK_SECTORS (view value.now) }
+    ensures { result ≡ number_of 1 MAX_DISK_SECTORS (view value.now) }
 {
-    number_of(value, 1, MOST_DISK_SECTORS)
+    number_of(value, 1, MAX_DISK_SECTORS)
 }
 
 /// The writes of a list, if each of its items is one.
@@ -121,7 +101,8 @@ fn writes_of(alloc: Global, items: &[Value]) -> Result<Option<Vec<MoveWrite>>, N
     Ok(Some(writes))
 }
 
-/// The write of a list of three numbers: the first sector, 1 to 128 sectors, and a byte.
+/// The write of a list of three numbers: the first sector, 1 to [`MAX_WRITE_SECTORS`] sectors, and
+/// a byte.
 fn write_of(item: &Value) -> Option<MoveWrite>
     ensures { result ≡ write_of (view item.now) }
 {
@@ -141,7 +122,7 @@ fn write_of_three(first: &Value, count: &Value, fill: &Value) -> Option<MoveWrit
     ensures { result ≡ write_of_three (view first.now) (view count.now) (view fill.now) }
 {
     let first = number_of(first, 0, u64::MAX)?;
-    let count = number_of(count, 1, MOST_SECTORS)?;
+    let count = number_of(count, 1, MAX_WRITE_SECTORS)?;
     let fill = number_of(fill, 0, 255)?;
     Some(MoveWrite {
         first,
@@ -155,7 +136,7 @@ fn are_within(sectors: u64, writes: &[MoveWrite]) -> bool
     ensures value { result ≡ are_within sectors writes.now }
     ensures within { result ≡ true → All (λ w. w.first + w.count ≤ sectors) writes.now }
 {
-    all_end_by(sectors, writes) && written_by(writes) <= MOST_WRITTEN
+    all_end_by(sectors, writes) && written_by(writes) <= MAX_LOGGED_SECTORS
 }
 
 fn all_end_by(sectors: u64, writes: &[MoveWrite]) -> bool

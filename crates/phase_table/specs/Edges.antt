@@ -10,7 +10,7 @@ use Rattle.phase_table.specs.declared.table.Row.{Row}
 use Rattle.phase_table.specs.Phases.{is_end, all_phases}
 use Rattle.phase_table.specs.Table.{successor_in}
 
-abbrev pub row_of : Phase → Fact → Phase → Row
+abbrev pub row_of : (phase : Phase) (fact : Fact) (successor : Phase) → Row
 row_of phase fact successor = record { phase = phase; fact = fact; successor = successor }
 
 abbrev pub forward_rows : List Row

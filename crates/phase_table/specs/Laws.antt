@@ -1,6 +1,7 @@
 -- What holds of the table of successors and of every path through it. The successors stand here
 -- once more, phase by phase, so that a row in the wrong place of the table breaks a law.
-use Rattle.std.specs.Prelude.{◌≡◌, ◌↔◌, List, [], ◌∷◌, ◌++◌, Some, None, IsTrue, Contains}
+use Rattle.std.specs.Prelude.{◌≡◌, ◌↔◌, List, [], ◌∷◌, ◌++◌, ◌⊎◌, Bool, Some, None, IsTrue, Contains}
+use Rattle.std.specs.List.{list_all}
 use Rattle.phase_table.specs.declared.phases.Phase.{Phase}
 use Rattle.phase_table.specs.declared.phases.Phase.TheVariants.{Started, CreateInitialSnapshot, StoreInitialIds, CreateVolumes, AddFirstCheckpoint, CopyDisks, CopyingPaused, RemovePreviousSnapshot, CreateSnapshot, StoreIds, AddCheckpoint, StorePowerState, PowerOffSource, WaitForPowerOff, RemovePenultimateSnapshot, CreateFinalSnapshot, AddFinalCheckpoint, CopyFinal, RemoveFinalSnapshot, Completed, Cancelled, Failed}
 use Rattle.phase_table.specs.declared.table.Fact.{Fact}
@@ -8,8 +9,8 @@ use Rattle.phase_table.specs.declared.table.Fact.TheVariants.{Done, Precopy, Cut
 use Rattle.phase_table.specs.declared.table.Row.{Row}
 use Rattle.phase_table.specs.Phases.{phase_number, is_end}
 use Rattle.phase_table.specs.Table.{Fits, fits, NoRowFits, successor_in}
-use Rattle.phase_table.specs.Edges.{all_rows}
-use Rattle.phase_table.specs.Paths.{Follows, IsPath, EndsIn, HasNoBackEdge, TakesFinalSnapshot, PassesFinalSnapshot, Rises, EachStep}
+use Rattle.phase_table.specs.Edges.{row_of, all_rows}
+use Rattle.phase_table.specs.Paths.{Follows, IsPath, EndsIn, HasNoBackEdge, TakesFinalSnapshot, PassesFinalSnapshot, IsBehindFinalSnapshot, Rises, EachStep}
 
 -- what comes after each phase, and by which fact
 abbrev pub successors_of : Phase → List (Fact × Phase)
@@ -56,13 +57,19 @@ EndsHaveNoSuccessor = (phase : Phase)
 
 -- the test of rows tells what it should
 abbrev pub FitsMeans : Type 0
-FitsMeans = (phase : Phase) (fact : Fact) (row : Row)
-    → IsTrue (fits phase fact row) ↔ Fits phase fact row
+FitsMeans = (row : Row) (phase : Phase) (fact : Fact)
+    → IsTrue (fits row phase fact) ↔ Fits row phase fact
 
 -- a table of whatever rows gives nothing exactly where none of them fits
 abbrev pub NoneWhereNoRowFits : Type 0
 NoneWhereNoRowFits = (rows : List Row) (phase : Phase) (fact : Fact)
-    → (successor_in rows phase fact ≡ None) ↔ NoRowFits phase fact rows
+    → (successor_in rows phase fact ≡ None) ↔ NoRowFits rows phase fact
+
+-- what a test says of every row of a table it says of every step through it
+abbrev pub TestsHoldOfSteps : Type 0
+TestsHoldOfSteps = (rows : List Row) (test : Row → Bool) → IsTrue (list_all test rows)
+    → (phase later : Phase) (fact : Fact) → successor_in rows phase fact ≡ Some later
+    → IsTrue (test (row_of phase fact later))
 
 abbrev pub NumbersDiffer : Type 0
 NumbersDiffer = (a b : Phase) → phase_number a ≡ phase_number b → a ≡ b
@@ -75,11 +82,19 @@ abbrev pub PathsGrow : Type 0
 PathsGrow = (path : List Phase) (phase later : Phase)
     → IsPath (path ++ phase ∷ []) → Follows phase later → IsPath (path ++ phase ∷ later ∷ [])
 
--- every path from the start to completion takes the final snapshot, and has no back edge after it
+-- every path from the start to completion, and to each phase between the final snapshot and
+-- completion, takes the final snapshot, and has no back edge after it
 abbrev pub FinalSnapshotIsPassed : Type 0
-FinalSnapshotIsPassed = (rest : List Phase)
-    → IsPath (Started ∷ rest) → EndsIn Completed (Started ∷ rest)
+FinalSnapshotIsPassed = (rest : List Phase) (end : Phase)
+    → IsPath (Started ∷ rest) → EndsIn end (Started ∷ rest) → IsBehindFinalSnapshot end
     → PassesFinalSnapshot (Started ∷ rest)
+
+-- there is no other way into these phases
+abbrev pub OnlyTheFinalSnapshotLeadsOn : Type 0
+OnlyTheFinalSnapshotLeadsOn = (earlier later : Phase)
+    → Follows earlier later → IsBehindFinalSnapshot later
+    → ((earlier ≡ CreateFinalSnapshot) × (later ≡ AddFinalCheckpoint))
+    ⊎ IsBehindFinalSnapshot earlier
 
 -- behind each taking of the final snapshot no step is a back edge
 abbrev pub NoBackEdgeAfter : Type 0

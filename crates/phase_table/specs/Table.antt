@@ -18,19 +18,19 @@ fact_number Cancelled = 4
 fact_number Failed = 5
 
 -- the row is of that phase and that fact
-pub record Fits (phase : Phase) (fact : Fact) (row : Row) : Type 0 where
+pub record Fits (row : Row) (phase : Phase) (fact : Fact) : Type 0 where
   pub same_phase : row.phase ≡ phase
   pub same_fact : row.fact ≡ fact
 
 -- the same as a test
-abbrev pub fits : Phase → Fact → Row → Bool
-fits phase fact row =
+abbrev pub fits : (row : Row) (phase : Phase) (fact : Fact) → Bool
+fits row phase fact =
     phase_number row.phase == phase_number phase && fact_number row.fact == fact_number fact
 
-abbrev pub successor_in : List Row → Phase → Fact → Option Phase
+abbrev pub successor_in : (rows : List Row) (phase : Phase) (fact : Fact) → Option Phase
 successor_in rows phase fact =
-    option_map (λ row. row.successor) (find (λ row. fits phase fact row) rows)
+    option_map (λ row. row.successor) (find (λ row. fits row phase fact) rows)
 
 -- no row is of that phase and that fact
-abbrev pub NoRowFits : Phase → Fact → List Row → Type 0
-NoRowFits phase fact rows = All (λ row. ¬ (Fits phase fact row)) rows
+abbrev pub NoRowFits : (rows : List Row) (phase : Phase) (fact : Fact) → Type 0
+NoRowFits rows phase fact = All (λ row. ¬ (Fits row phase fact)) rows

@@ -36,8 +36,8 @@ pub struct Row {
 impl Row {
     /// Whether the row is of this phase and this fact.
     fn fits(&self, phase: Phase, fact: Fact) -> bool
-        ensures value { result ≡ fits phase fact self.now }
-        ensures means { IsTrue result ↔ Fits phase fact self.now }
+        ensures value { result ≡ fits self.now phase fact }
+        ensures means { IsTrue result ↔ Fits self.now phase fact }
     {
         self.phase == phase && self.fact == fact
     }
@@ -54,7 +54,7 @@ impl<const N: usize> Table<N> {
     /// The successor of the first row that is of this phase and this fact. None where no row is.
     pub fn first(&self, phase: Phase, fact: Fact) -> Option<Phase>
         ensures first { result ≡ successor_in self.now.rows phase fact }
-        ensures none { IsNone result ↔ NoRowFits phase fact self.now.rows }
+        ensures none { IsNone result ↔ NoRowFits self.now.rows phase fact }
     {
         let row = self.rows.iter().find(|row| row.fits(phase, fact))?;
         Some(row.successor)

@@ -1,2 +1,4 @@
-pub mod CalendarFacts
 pub mod ListFacts
+pub mod Accepted
+pub mod Days
+pub mod Written

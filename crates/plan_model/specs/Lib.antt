@@ -1,5 +1,7 @@
 pub mod Calendar
 pub mod Moments
 pub mod Way
-pub mod Plans
 pub mod Book
+pub mod Plans
+pub mod Laws
+pub mod SmallPlans

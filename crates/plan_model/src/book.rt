@@ -1,11 +1,11 @@
 //! What is known of machines, by their names, so that a name of a list takes a few look-ups only.
-ghost use Rattle.std.specs.Prelude.{◌≡◌, ℕ, List, IfOk, option_map, option_copied, map};
+ghost use Rattle.std.specs.Prelude.{◌≡◌, ℕ, List, IfOk, option_copied, map};
 ghost use Rattle.std.specs.List.{find};
 ghost use Rattle.std.specs.BTreeMap.{get};
 ghost use Rattle.std.specs.Cmp.Lexicographic.{slice_cmp};
 ghost use Rattle.std.specs.Ordering.{nat_cmp};
-ghost use Rattle.plan_model.specs.Plans.{fact_of, count_of, is_doubled};
-ghost use Rattle.plan_model.specs.Book.{standing_of, mark_of, is_marked, is_absent, is_planned, is_not_tracked, kept_number};
+ghost use Rattle.plan_model.specs.Plans.{count_of};
+ghost use Rattle.plan_model.specs.Book.{standing_in, double_of, is_double, is_unknown, is_in_plan, is_untracked, number_of};
 
 use crate::{Name, VmFact};
 use basics::{NoMemory, NumberList};
@@ -23,7 +23,7 @@ pub(crate) struct Standing {
 /// What is known of each machine, by its name. Of two of one name the first counts.
 pub(crate) fn book_of(alloc: Global, known: &[VmFact]) -> Result<BTreeMap<Name, Standing>, NoMemory>
     ensures { IfOk result (λ book. (name : List ℕ) →
-        get (slice_cmp nat_cmp) book name ≡ option_map standing_of (fact_of known.now name)) }
+        get (slice_cmp nat_cmp) book name ≡ standing_in known.now name) }
 {
     let mut book = BTreeMap::new(alloc);
     for vm in known {
@@ -40,25 +40,25 @@ pub(crate) fn book_of(alloc: Global, known: &[VmFact]) -> Result<BTreeMap<Name, 
 }
 
 /// For each listed name whether it is listed twice or more.
-pub(crate) fn marks_of(alloc: Global, vms: &[Name]) -> Result<BTreeMap<Name, bool>, NoMemory>
-    ensures { IfOk result (λ marks. (name : List ℕ) →
-        get (slice_cmp nat_cmp) marks name ≡ mark_of (count_of vms.now name)) }
+pub(crate) fn doubles_of(alloc: Global, vms: &[Name]) -> Result<BTreeMap<Name, bool>, NoMemory>
+    ensures { IfOk result (λ doubles. (name : List ℕ) →
+        get (slice_cmp nat_cmp) doubles name ≡ double_of (count_of vms.now name)) }
 {
-    let mut marks = BTreeMap::new(alloc);
+    let mut doubles = BTreeMap::new(alloc);
     for name in vms {
-        let again = marks.contains_key(name);
-        marks.insert(name.clone()?, again)?;
+        let again = doubles.contains_key(name);
+        doubles.insert(name.clone()?, again)?;
     }
-    Ok(marks)
+    Ok(doubles)
 }
 
 /// The first name that is listed twice.
-pub(crate) fn first_doubled<'a>(marks: &BTreeMap<Name, bool>, vms: &'a [Name]) -> Option<&'a Name>
+pub(crate) fn first_doubled<'a>(doubles: &BTreeMap<Name, bool>, vms: &'a [Name]) -> Option<&'a Name>
     ensures { option_copied result
-        ≡ find (λ name. is_marked (get (slice_cmp nat_cmp) marks.now name)) vms.now }
+        ≡ find (λ name. is_double (get (slice_cmp nat_cmp) doubles.now name)) vms.now }
 {
     vms.iter()
-        .find(|name| marks.get(*name).copied().unwrap_or(false))
+        .find(|name| doubles.get(*name).copied().unwrap_or(false))
 }
 
 /// The first name that no machine has.
@@ -67,7 +67,7 @@ pub(crate) fn first_unknown<'a>(
     vms: &'a [Name],
 ) -> Option<&'a Name>
     ensures { option_copied result
-        ≡ find (λ name. is_absent (get (slice_cmp nat_cmp) book.now name)) vms.now }
+        ≡ find (λ name. is_unknown (get (slice_cmp nat_cmp) book.now name)) vms.now }
 {
     vms.iter().find(|name| !book.contains_key(*name))
 }
@@ -78,13 +78,13 @@ pub(crate) fn first_in_plan<'a>(
     vms: &'a [Name],
 ) -> Option<&'a Name>
     ensures { option_copied result
-        ≡ find (λ name. is_planned (get (slice_cmp nat_cmp) book.now name)) vms.now }
+        ≡ find (λ name. is_in_plan (get (slice_cmp nat_cmp) book.now name)) vms.now }
 {
     vms.iter().find(|name| is_in_plan(book, name))
 }
 
 fn is_in_plan(book: &BTreeMap<Name, Standing>, name: &Name) -> bool
-    ensures { result ≡ is_planned (get (slice_cmp nat_cmp) book.now name.now) }
+    ensures { result ≡ is_in_plan (get (slice_cmp nat_cmp) book.now name.now) }
 {
     match book.get(name) {
         Some(standing) => standing.in_plan,
@@ -98,13 +98,13 @@ pub(crate) fn first_untracked<'a>(
     vms: &'a [Name],
 ) -> Option<&'a Name>
     ensures { option_copied result
-        ≡ find (λ name. is_not_tracked (get (slice_cmp nat_cmp) book.now name)) vms.now }
+        ≡ find (λ name. is_untracked (get (slice_cmp nat_cmp) book.now name)) vms.now }
 {
     vms.iter().find(|name| is_untracked(book, name))
 }
 
 fn is_untracked(book: &BTreeMap<Name, Standing>, name: &Name) -> bool
-    ensures { result ≡ is_not_tracked (get (slice_cmp nat_cmp) book.now name.now) }
+    ensures { result ≡ is_untracked (get (slice_cmp nat_cmp) book.now name.now) }
 {
     match book.get(name) {
         Some(standing) => !standing.tracking,
@@ -119,14 +119,14 @@ pub(crate) fn numbers_of(
     vms: &[Name],
 ) -> Result<NumberList, NoMemory>
     ensures { IfOk result (λ numbers. numbers
-        ≡ map (λ name. kept_number (get (slice_cmp nat_cmp) book.now name)) vms.now) }
+        ≡ map (λ name. number_of (get (slice_cmp nat_cmp) book.now name)) vms.now) }
 {
     let numbers = vms.iter().map(|name| number_of(book, name));
     Ok(NumberList::from_vec(numbers.collect(alloc)?))
 }
 
 fn number_of(book: &BTreeMap<Name, Standing>, name: &Name) -> u32
-    ensures { result ≡ kept_number (get (slice_cmp nat_cmp) book.now name.now) }
+    ensures { result ≡ number_of (get (slice_cmp nat_cmp) book.now name.now) }
 {
     match book.get(name) {
         Some(standing) => standing.number,

@@ -4,6 +4,7 @@
 
 mod book;
 mod calendar;
+mod laws;
 mod moment;
 mod plan;
 mod reading;
@@ -12,8 +13,10 @@ mod tests;
 mod validation;
 mod way;
 
-pub use basics::{Name, NumberList};
-pub use moment::{Moment, MomentRefused};
-pub use plan::{MAX_INTERVAL, Plan, PlanRefused, VmFact};
+pub use basics::{MAX_INTERVAL, Name, NumberList};
+pub use calendar::{MAX_YEAR, MIN_YEAR};
+pub use laws::{accepted_plans, moments_are_written_one_way, nothing_is_due_twice};
+pub use moment::{Moment, MomentRefused, SECONDS_PER_DAY, SECONDS_PER_HOUR, SECONDS_PER_MINUTE};
+pub use plan::{Plan, PlanRefused, VmFact};
 pub use validation::validate;
-pub use way::{Cutover, SECONDS_PER_MINUTE, Way, due};
+pub use way::{Cutover, Way, due};

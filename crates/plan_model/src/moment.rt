@@ -1,13 +1,22 @@
-//! A moment in whole seconds, and the one spelling of it that is read.
+//! A moment in whole seconds, and how it is written.
 ghost use Rattle.std.specs.Prelude.{◌≡◌, IfOk, Some};
 ghost use Rattle.basics.specs.Refusal.{IsRefusedBy};
 ghost use Rattle.plan_model.specs.Moments.{moment_of, moment_refusal, moment_refusal_number};
 
-use crate::reading::{has_shape, is_told, read, seconds_before};
+use crate::reading::{has_shape, is_moment, read, seconds_before};
 use std::error::Error;
 use std::fmt;
 
-/// A moment, in seconds since 1970-01-01T00:00:00Z. A day has 86,400 of them, as in POSIX.
+/// The seconds of a minute, in which intervals are given.
+pub const SECONDS_PER_MINUTE: u64 = 60;
+
+/// The seconds of an hour.
+pub const SECONDS_PER_HOUR: u64 = 3_600;
+
+/// The seconds of a day, as in POSIX: no leap second is counted.
+pub const SECONDS_PER_DAY: u64 = 86_400;
+
+/// A moment, in seconds since 1970-01-01T00:00:00Z, [`SECONDS_PER_DAY`] a day.
 #[derive(Clone, Copy, Debug, PartialEq, Eq, PartialOrd, Ord)]
 pub struct Moment(pub u64);
 
@@ -25,7 +34,7 @@ impl Moment {
             return Err(MomentRefused::Form);
         }
         let reading = read(text);
-        if !is_told(reading) {
+        if !is_moment(reading) {
             return Err(MomentRefused::Form);
         }
         Ok(Moment(seconds_before(reading)))
@@ -54,6 +63,11 @@ impl MomentRefused {
 }
 
 impl fmt::Display for MomentRefused {
+    ghost use Rattle.std.specs.Prelude.{Some};
+    ghost use Rattle.plan_model.specs.Moments.{moment_refusal_text};
+
+    ghost output = { λ refusal. Some (moment_refusal_text refusal) };
+
     fn fmt<W: fmt::Write>(&self, f: &mut fmt::Formatter<W>) -> fmt::Result {
         match self {
             MomentRefused::Form => write!(f, "a moment is written YYYY-MM-DDThh:mm:ssZ"),

@@ -7,17 +7,14 @@ use std::alloc::AllocError;
 use std::error::Error;
 use std::fmt;
 
-/// The longest interval between copies, in minutes: a week.
-pub const MAX_INTERVAL: u32 = 10_080;
-
 /// Machines that migrate together.
-#[derive(Debug, Drop)]
+#[derive(Debug, PartialEq, Eq, Drop)]
 pub struct Plan {
     /// The number of the plan, from 1.
     pub number: u32,
     /// The name, which no other plan has.
     pub name: Name,
-    /// The minutes between copies, 1 to [`MAX_INTERVAL`].
+    /// The minutes between copies, 1 to [`MAX_INTERVAL`](basics::MAX_INTERVAL).
     pub interval: u32,
     /// The numbers of its machines, in the order in which they were listed.
     pub vms: NumberList,
@@ -37,7 +34,7 @@ pub struct VmFact {
 }
 
 /// Why a plan is refused. A refused plan leaves everything as it was.
-#[derive(Debug, Drop)]
+#[derive(Debug, PartialEq, Eq, Drop)]
 pub enum PlanRefused {
     /// It names no machine.
     Empty,
@@ -73,6 +70,11 @@ impl PlanRefused {
 }
 
 impl fmt::Display for PlanRefused {
+    ghost use Rattle.std.specs.Prelude.{Some};
+    ghost use Rattle.plan_model.specs.Plans.{plan_refusal_text};
+
+    ghost output = { λ refusal. Some (plan_refusal_text refusal) };
+
     fn fmt<W: fmt::Write>(&self, f: &mut fmt::Formatter<W>) -> fmt::Result {
         match self {
             PlanRefused::Empty => write!(f, "a plan names a machine or more"),

@@ -1,13 +1,17 @@
 //! Moments in one table, and the public calls once.
-ghost use Rattle.std.specs.Prelude.{◌≤◌, length};
+ghost use Rattle.std.specs.Prelude.{◌≡◌, [], ◌∷◌, Some, None, IfOk, codes, vec_len};
+ghost use Rattle.plan_model.specs.Plans.{plan_refusal, next_plan};
+ghost use Rattle.plan_model.specs.SmallPlans.{three_machines, one_plan};
 
-use crate::{Cutover, Moment, MomentRefused, Name, Plan, PlanRefused, VmFact, Way, due, validate};
-use basics::{NoMemory, is_name};
+use crate::{
+    Cutover, Moment, MomentRefused, Name, NumberList, Plan, PlanRefused, VmFact, Way, due, validate,
+};
+use basics::{MAX_NAME_BYTES, NoMemory, is_name};
 use std::alloc::Global;
 use std::test::Fail;
 
 #[test]
-fn moments_have_one_spelling(rt: HostRuntime) -> Result<(), Fail> {
+fn how_moments_are_written(rt: HostRuntime) -> Result<(), Fail> {
     let told = [
         ("2024-05-01T10:00:00Z", 1_714_557_600),
         ("2000-01-01T00:00:00Z", 946_684_800),
@@ -67,61 +71,161 @@ fn what_is_due_at_its_second(rt: HostRuntime) -> Result<(), Fail> {
     Ok(())
 }
 
-fn machine(alloc: Global, name: &str, number: u32, in_plan: bool) -> Result<VmFact, NoMemory>
-    requires some { 1 ≤ length name.now }
-    requires few { length name.now ≤ 32 }
-{
-    let name = Name::of(alloc, name)?;
+#[test]
+fn the_numbers_of_ways(rt: HostRuntime) {
+    assert_eq!(rt; Way::Nothing.number(), 0);
+    assert_eq!(rt; Way::Precopy.number(), 1);
+    assert_eq!(rt; Way::Cutover.number(), 2);
+}
+
+/// The definitions on small lists, where two reasons in a row stand at once. The proof computes
+/// them.
+fn definitions_on_small_lists()
+    ensures taken { plan_refusal (codes "p") [] three_machines one_plan
+        ≡ Some PlanRefused.NameTaken }
+    ensures empty { plan_refusal (codes "q") [] three_machines one_plan
+        ≡ Some PlanRefused.Empty }
+    ensures doubled { plan_refusal (codes "q")
+        (codes "a" ∷ codes "x" ∷ codes "x" ∷ codes "a" ∷ []) three_machines one_plan
+        ≡ Some (PlanRefused.Doubled (codes "a")) }
+    ensures unknown { plan_refusal (codes "q") (codes "b" ∷ codes "x" ∷ codes "y" ∷ [])
+        three_machines one_plan ≡ Some (PlanRefused.UnknownVm (codes "x")) }
+    ensures in_plan { plan_refusal (codes "q") (codes "c" ∷ codes "b" ∷ [])
+        three_machines one_plan ≡ Some (PlanRefused.InPlan (codes "b")) }
+    ensures no_tracking { plan_refusal (codes "q") (codes "a" ∷ codes "c" ∷ [])
+        three_machines one_plan ≡ Some (PlanRefused.NoTracking (codes "c")) }
+    ensures accepted { plan_refusal (codes "q") (codes "a" ∷ []) three_machines one_plan
+        ≡ None }
+    ensures plan { (next_plan (codes "q") (codes "a" ∷ []) three_machines one_plan 10).vms
+        ≡ 3 ∷ [] }
+{}
+
+fn name(alloc: Global, text: &str) -> Result<Name, NoMemory> {
+    if text.is_empty() || text.len() > MAX_NAME_BYTES {
+        return Err(NoMemory);
+    }
+    Name::of(alloc, text)
+}
+
+fn names(alloc: Global, texts: &[&str]) -> Result<Vec<Name>, NoMemory> {
+    let mut names = Vec::new(alloc);
+    for text in texts {
+        names.push(name(alloc, text)?)?;
+    }
+    Ok(names)
+}
+
+fn machine(
+    alloc: Global,
+    text: &str,
+    number: u32,
+    in_plan: bool,
+    tracking: bool,
+) -> Result<VmFact, NoMemory> {
+    let name = name(alloc, text)?;
     Ok(VmFact {
         name,
         number,
         in_plan,
-        tracking: number != 7,
+        tracking,
     })
 }
 
-#[test]
-fn a_plan_tells_its_first_fault(rt: HostRuntime) -> Result<(), Fail> {
-    let alloc = rt.alloc();
+/// One machine that is free, one that is in a plan, one that isn't tracked, and a free one again.
+fn machines(alloc: Global) -> Result<Vec<VmFact>, NoMemory> {
     let mut known = Vec::new(alloc);
-    known
-        .push(machine(alloc, "a", 3, false).ok().ok_or("memory")?)
-        .ok()
-        .ok_or("memory")?;
-    known
-        .push(machine(alloc, "b", 5, true).ok().ok_or("memory")?)
-        .ok()
-        .ok_or("memory")?;
-    known
-        .push(machine(alloc, "c", 7, true).ok().ok_or("memory")?)
-        .ok()
-        .ok_or("memory")?;
-    let mut vms = Vec::new(alloc);
-    vms.push(Name::of(alloc, "a").ok().ok_or("memory")?)
-        .ok()
-        .ok_or("memory")?;
-    let plan = plan_of(alloc, &vms, &known).ok().ok_or("refused")?;
-    assert_eq!(rt; plan.number, 1);
-    assert_eq!(rt; plan.interval, 10);
-    assert_eq!(rt; plan.vms.as_slice(), [3].as_slice());
-    vms.push(Name::of(alloc, "c").ok().ok_or("memory")?)
-        .ok()
-        .ok_or("memory")?;
-    let refused = plan_of(alloc, &vms, &known).err().ok_or("accepted")?;
-    assert_eq!(rt; refused.number(), Some(3));
-    vms.push(Name::of(alloc, "d").ok().ok_or("memory")?)
-        .ok()
-        .ok_or("memory")?;
-    let refused = plan_of(alloc, &vms, &known).err().ok_or("accepted")?;
-    let text = format!(in alloc; "{refused}")?;
-    assert_eq!(rt; text.as_str(), "there is no machine d");
+    known.push(machine(alloc, "a", 3, false, true)?)?;
+    known.push(machine(alloc, "b", 5, true, true)?)?;
+    known.push(machine(alloc, "c", 7, false, false)?)?;
+    known.push(machine(alloc, "d", 9, false, true)?)?;
+    Ok(known)
+}
+
+/// One plan, of the name `p`.
+fn one_plan(alloc: Global) -> Result<Vec<Plan>, NoMemory>
+    ensures { IfOk result (λ plans. vec_len plans ≡ 1) }
+{
+    let mut plans = Vec::new(alloc);
+    plans.push(Plan {
+        number: 1,
+        name: name(alloc, "p")?,
+        interval: 10,
+        vms: NumberList::of(alloc, &[5])?,
+    })?;
+    Ok(plans)
+}
+
+/// What becomes of a plan `title` of the listed machines, after the plan `p`.
+fn second_plan(alloc: Global, title: &str, listed: &[&str]) -> Result<Plan, PlanRefused> {
+    let known = machines(alloc)?;
+    let plans = one_plan(alloc)?;
+    let vms = names(alloc, listed)?;
+    if !is_name(title.as_bytes()) {
+        return Err(PlanRefused::NoMemory);
+    }
+    validate(alloc, title, &vms, &known, &plans, 10)
+}
+
+#[test]
+fn the_first_name_that_stands_again_is_told(rt: HostRuntime) -> Result<(), Fail> {
+    definitions_on_small_lists();
+    let doubled = second_plan(rt.alloc(), "q", &["a", "b", "b", "a"]);
+    let name = name(rt.alloc(), "a").ok().ok_or("memory")?;
+    assert!(rt; doubled == Err(PlanRefused::Doubled(name)));
     Ok(())
 }
 
-fn plan_of(alloc: Global, vms: &[Name], known: &[VmFact]) -> Result<Plan, PlanRefused> {
-    let name = Name::of(alloc, "plan")?;
-    if !is_name(name.as_str().as_bytes()) {
-        return Err(PlanRefused::Empty);
-    }
-    validate(alloc, name.as_str(), vms, known, &[], 10)
+#[test]
+fn an_unknown_machine_is_told(rt: HostRuntime) -> Result<(), Fail> {
+    let unknown = second_plan(rt.alloc(), "q", &["b", "x"]);
+    let name = name(rt.alloc(), "x").ok().ok_or("memory")?;
+    assert!(rt; unknown == Err(PlanRefused::UnknownVm(name)));
+    Ok(())
+}
+
+#[test]
+fn a_machine_in_a_plan_is_told(rt: HostRuntime) -> Result<(), Fail> {
+    let planned = second_plan(rt.alloc(), "q", &["c", "b"]);
+    let name = name(rt.alloc(), "b").ok().ok_or("memory")?;
+    assert!(rt; planned == Err(PlanRefused::InPlan(name)));
+    Ok(())
+}
+
+#[test]
+fn an_untracked_machine_is_told(rt: HostRuntime) -> Result<(), Fail> {
+    let untracked = second_plan(rt.alloc(), "q", &["a", "c"]);
+    let name = name(rt.alloc(), "c").ok().ok_or("memory")?;
+    assert!(rt; untracked == Err(PlanRefused::NoTracking(name)));
+    Ok(())
+}
+
+#[test]
+fn a_taken_name_goes_before_an_empty_list(rt: HostRuntime) {
+    let taken = second_plan(rt.alloc(), "p", &[]);
+    assert!(rt; taken == Err(PlanRefused::NameTaken));
+    let empty = second_plan(rt.alloc(), "q", &[]);
+    assert!(rt; empty == Err(PlanRefused::Empty));
+}
+
+#[test]
+fn a_second_plan_has_the_number_2(rt: HostRuntime) -> Result<(), Fail> {
+    let plan = second_plan(rt.alloc(), "q", &["d", "a"])
+        .ok()
+        .ok_or("refused")?;
+    let wanted = Plan {
+        number: 2,
+        name: name(rt.alloc(), "q").ok().ok_or("memory")?,
+        interval: 10,
+        vms: NumberList::of(rt.alloc(), &[9, 3]).ok().ok_or("memory")?,
+    };
+    assert!(rt; plan == wanted);
+    Ok(())
+}
+
+#[test]
+fn a_refusal_prints_its_name(rt: HostRuntime) -> Result<(), Fail> {
+    let unknown = PlanRefused::UnknownVm(name(rt.alloc(), "x").ok().ok_or("memory")?);
+    let text = format!(in rt.alloc(); "{unknown}")?;
+    assert_eq!(rt; text.as_str(), "there is no machine x");
+    Ok(())
 }

@@ -1,22 +1,23 @@
 //! Whether machines may be put into a plan of a name, and the plan that this makes.
 ghost use Rattle.std.specs.Prelude.{◌≡◌, ◌<◌, ◌≤◌, IfOk, length, map};
 ghost use Rattle.basics.specs.Spelled.{IsName};
-ghost use Rattle.plan_model.specs.Plans.{is_taken, list_refusal, number_of, plan_refusal, next_plan, IsPlanRefusedBy};
+ghost use Rattle.basics.specs.Refusal.{IsRefusedWhere};
+ghost use Rattle.plan_model.specs.Plans.{is_taken, list_refusal, vm_number, plan_refusal, next_plan, keeps_name};
 
 use crate::book::{
-    book_of, first_doubled, first_in_plan, first_unknown, first_untracked, marks_of, numbers_of,
+    book_of, doubles_of, first_doubled, first_in_plan, first_unknown, first_untracked, numbers_of,
 };
 use crate::{MAX_INTERVAL, Name, NumberList, Plan, PlanRefused, VmFact};
 use std::alloc::Global;
 
 /// The plan of the machines `vms` under `name`, with `interval` minutes between copies, 1 to
 /// [`MAX_INTERVAL`], where `known` is what is known of machines and `plans` are those so far.
-/// It takes the number after them. The reasons to refuse are tested in this order, and each tells
-/// the first name of the list to which it applies: [`PlanRefused::NameTaken`],
-/// [`PlanRefused::Empty`], [`PlanRefused::Doubled`] for a name that stands again later,
-/// [`PlanRefused::UnknownVm`], [`PlanRefused::InPlan`], [`PlanRefused::NoTracking`]. Of several
-/// facts of one name the first counts. Names are looked up in maps, and a refusal keeps a copy of
-/// its name, so [`PlanRefused::NoMemory`] may stand in place of the last four.
+/// It takes the number after them. The reasons to refuse are tested in this order:
+/// [`PlanRefused::NameTaken`], [`PlanRefused::Empty`], [`PlanRefused::Doubled`] for a name that
+/// stands again later, [`PlanRefused::UnknownVm`], [`PlanRefused::InPlan`],
+/// [`PlanRefused::NoTracking`]. Those that keep a name keep the first of the list to which they
+/// apply. Of several facts of one name the first counts. Names are looked up in maps, and a refusal
+/// keeps a copy of its name, so [`PlanRefused::NoMemory`] may stand in place of the last four.
 pub fn validate(
     alloc: Global,
     name: &str,
@@ -29,7 +30,8 @@ pub fn validate(
     requires room { length plans.now < u32.MAX }
     requires some { 1 ≤ interval }
     requires week { interval ≤ MAX_INTERVAL }
-    ensures refused { IsPlanRefusedBy (plan_refusal name.now vms.now known.now plans.now) result }
+    ensures refused { IsRefusedWhere (plan_refusal name.now vms.now known.now plans.now)
+        PlanRefused.NoMemory keeps_name result }
     ensures made { IfOk result
         (λ plan. plan ≡ next_plan name.now vms.now known.now plans.now interval) }
 {
@@ -39,7 +41,7 @@ pub fn validate(
     if vms.is_empty() {
         return Err(PlanRefused::Empty);
     }
-    let vms = listed(alloc, vms, known)?;
+    let vms = listed_numbers(alloc, vms, known)?;
     let name = Name::of(alloc, name)?;
     Ok(Plan {
         number: plans.len() as u32 + 1,
@@ -56,12 +58,13 @@ fn is_taken(name: &str, plans: &[Plan]) -> bool
 }
 
 // The numbers of the listed machines, if they may go into a plan together.
-fn listed(alloc: Global, vms: &[Name], known: &[VmFact]) -> Result<NumberList, PlanRefused>
-    ensures refused { IsPlanRefusedBy (list_refusal vms.now known.now) result }
-    ensures numbers { IfOk result (λ numbers. numbers ≡ map (number_of known.now) vms.now) }
+fn listed_numbers(alloc: Global, vms: &[Name], known: &[VmFact]) -> Result<NumberList, PlanRefused>
+    ensures refused { IsRefusedWhere (list_refusal vms.now known.now)
+        PlanRefused.NoMemory keeps_name result }
+    ensures numbers { IfOk result (λ numbers. numbers ≡ map (vm_number known.now) vms.now) }
 {
-    let marks = marks_of(alloc, vms)?;
-    if let Some(vm) = first_doubled(&marks, vms) {
+    let doubles = doubles_of(alloc, vms)?;
+    if let Some(vm) = first_doubled(&doubles, vms) {
         return Err(PlanRefused::Doubled(vm.clone()?));
     }
     let book = book_of(alloc, known)?;

@@ -1,11 +1,8 @@
 //! What a migration is to do next.
 ghost use Rattle.std.specs.Prelude.{◌≡◌};
-ghost use Rattle.plan_model.specs.Way.{is_cutover_due, is_copy_due, due_way};
+ghost use Rattle.plan_model.specs.Way.{is_cutover_due, is_copy_due, due_way, way_number};
 
-use crate::Moment;
-
-/// The seconds of a minute, in which intervals are given.
-pub const SECONDS_PER_MINUTE: u64 = 60;
+use crate::{Moment, SECONDS_PER_MINUTE};
 
 /// That a plan is to be cut over.
 #[derive(Clone, Copy, Debug, PartialEq, Eq)]
@@ -23,6 +20,19 @@ pub enum Way {
     Precopy,
     /// The machine is powered off and copied for the last time.
     Cutover,
+}
+
+impl Way {
+    /// The number under which records keep the choice: 0, 1, 2.
+    pub fn number(self) -> u8
+        ensures { result ≡ way_number self }
+    {
+        match self {
+            Way::Nothing => 0,
+            Way::Precopy => 1,
+            Way::Cutover => 2,
+        }
+    }
 }
 
 /// What is due at `now`, where the last copy was at `last` and `interval` minutes are to lie

@@ -8,8 +8,10 @@ use Rattle.record_codec.specs.declared.record.Record.{Record}
 use Rattle.record_codec.specs.declared.record.Record.TheVariants.{PlanMade, MigrationStarted, Chosen, SnapTaken, IdsStored, VolumesMade, CheckpointAdded, StageBegun, StageDone, Paused, SnapRemoved, CutoverSet, PowerStored, PoweredOff, OffSeen, FinalSnapTaken, CancelAsked, Ended}
 use Rattle.record_codec.specs.declared.record.Kind.{Kind}
 use Rattle.record_codec.specs.declared.record.Kind.TheVariants.{PlanMade as PlanMadeKind, MigrationStarted as MigrationStartedKind, Chosen as ChosenKind, SnapTaken as SnapTakenKind, IdsStored as IdsStoredKind, VolumesMade as VolumesMadeKind, CheckpointAdded as CheckpointAddedKind, StageBegun as StageBegunKind, StageDone as StageDoneKind, Paused as PausedKind, SnapRemoved as SnapRemovedKind, CutoverSet as CutoverSetKind, PowerStored as PowerStoredKind, PoweredOff as PoweredOffKind, OffSeen as OffSeenKind, FinalSnapTaken as FinalSnapTakenKind, CancelAsked as CancelAskedKind, Ended as EndedKind}
-use Rattle.record_codec.specs.Record.{Field, Byte, Word, Long, Flag, word_bytes, long_bytes, flag_byte, HasRange, kind_of, kind_byte, all_kinds, fields_of, KeepsRule, spelled_fields, Spells}
+use Rattle.record_codec.specs.Record.{Field, Byte, Word, Long, Flag, word_bytes, long_bytes, flag_byte, HasRange, kind_of, kind_byte, fields_of, KeepsRule, spelled_fields, Spells}
 use Rattle.record_codec.specs.Parse.{word_at, long_at, byte_at, flag_of, flag_at, fixed_size, fixed_record, fixed_rule, where_kept, parse_fixed}
+use Rattle.record_codec.specs.declared.record.TheConstants.{MAX_WAY, MAX_HOW}
+use Rattle.record_codec.proofs.KindBytes.{kinds_differ}
 use Rattle.record_codec.proofs.Numbers.{IsBytes, drop_bytes, word_split, long_split, word_fits, long_fits, word_back, long_back}
 
 -- the bytes are those of the fields, whose numbers have their ranges
@@ -189,10 +191,10 @@ fixed_forth (FinalSnapTaken mig snap mark place) fixed h = record { len = refl; 
 fixed_forth (CancelAsked mig) fixed h = record { len = refl; read = λ i. Some (CancelAsked (word_back mig [] h.0 i)) }
 fixed_forth (Ended mig how place) fixed h = record { len = refl; read = λ i. Some (Ended (word_back mig ((how ∷ []) ++ (long_bytes place ++ [])) h.0 i) how (long_back place [] h.1.1.0 i)) }
 
-way_least : (way : ℕ) → nat_le way 2 ≡ true → way ≤ 2
+way_least : (way : ℕ) → nat_le way MAX_WAY ≡ true → way ≤ MAX_WAY
 way_least way e = grind (arith, nat_tests)
 
-way_forth : (way : ℕ) → way ≤ 2 → nat_le way 2 ≡ true
+way_forth : (way : ℕ) → way ≤ MAX_WAY → nat_le way MAX_WAY ≡ true
 way_forth way e = grind (arith, nat_tests)
 
 is_zero : (n : ℕ) → (n == 0) ≡ true → n ≡ 0
@@ -215,19 +217,19 @@ place_back place mark e = grind (arith, nat_tests)
 place_forth : (place mark : ℕ) → place < mark → nat_lt place mark ≡ true
 place_forth place mark e = grind (arith, nat_tests)
 
-how_most : (how place : ℕ) → (nat_le how 3 && (how == 0 || place == 0)) ≡ true → how ≤ 3
+how_most : (how place : ℕ) → (nat_le how MAX_HOW && (how == 0 || place == 0)) ≡ true → how ≤ MAX_HOW
 how_most how place e = grind (arith, nat_tests)
 
-how_zero : (how place : ℕ) → (nat_le how 3 && (how == 0 || place == 0)) ≡ true → (how ≡ 0 → ⊥) → place ≡ 0
+how_zero : (how place : ℕ) → (nat_le how MAX_HOW && (how == 0 || place == 0)) ≡ true → (how ≡ 0 → ⊥) → place ≡ 0
 how_zero how place e n = grind (arith, nat_tests)
 
-how_back : (how place : ℕ) → (nat_le how 3 && (how == 0 || place == 0)) ≡ true → (how ≤ 3) × ((how ≡ 0 → ⊥) → place ≡ 0)
+how_back : (how place : ℕ) → (nat_le how MAX_HOW && (how == 0 || place == 0)) ≡ true → (how ≤ MAX_HOW) × ((how ≡ 0 → ⊥) → place ≡ 0)
 how_back how place e = (how_most how place e, how_zero how place e)
 
-how_some : (how place : ℕ) → how ≤ 3 → place ≡ 0 → (nat_le how 3 && (how == 0 || place == 0)) ≡ true
+how_some : (how place : ℕ) → how ≤ MAX_HOW → place ≡ 0 → (nat_le how MAX_HOW && (how == 0 || place == 0)) ≡ true
 how_some how place h z = grind (arith, nat_tests)
 
-how_forth : (how place : ℕ) → (how ≤ 3) × ((how ≡ 0 → ⊥) → place ≡ 0) → (nat_le how 3 && (how == 0 || place == 0)) ≡ true
+how_forth : (how place : ℕ) → (how ≤ MAX_HOW) × ((how ≡ 0 → ⊥) → place ≡ 0) → (nat_le how MAX_HOW && (how == 0 || place == 0)) ≡ true
 how_forth zero place h = refl
 how_forth (suc how) place h = how_some (suc how) place h.0 (h.1 (λ e. let n : suc how ≡ 0 = e in absurd (omega arith)))
 
@@ -278,16 +280,6 @@ parse_back kind bytes r e =
     let t = test_true (length bytes == fixed_size kind) (where_kept (fixed_record kind bytes)) r e in
     let k = kept_is (fixed_record kind bytes) r t.1 in
     record { len = same_len (length bytes) (fixed_size kind) t.0; read = k.0; rule = k.1 }
-
-abbrev kind_at : ℕ → Kind
-kind_at n = slice_index_or (PlanMadeKind ∷ all_kinds) n PlanMadeKind
-
-kind_at_byte : (kind : Kind) → kind_at (kind_byte kind) ≡ kind
-kind_at_byte PlanMadeKind = refl
-kind_at_byte _ = refl
-
-pub kinds_differ : (a b : Kind) → kind_byte a ≡ kind_byte b → a ≡ b
-kinds_differ a b e = sym (kind_at_byte a) ∙ ap kind_at e ∙ kind_at_byte b
 
 pub head_same : (a b : ℕ) (xs ys : List ℕ) → a ∷ xs ≡ b ∷ ys → a ≡ b
 head_same a b xs ys e = cc

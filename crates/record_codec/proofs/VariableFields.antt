@@ -6,9 +6,10 @@ use Rattle.std.specs.List.{AllByRecursion}
 use Rattle.std.proofs.lemmas.List.{length-drop, length-take-le, take-append-drop}
 use Rattle.basics.specs.Spelled.{IsName}
 use Rattle.change_id.specs.declared.ChangeId.{ChangeId}
+use Rattle.change_id.specs.ChangeId.{IdHasRange}
 use Rattle.record_codec.specs.declared.record.Record.{Record}
 use Rattle.record_codec.specs.declared.record.Record.TheVariants.{PlanMade, MigrationStarted, Chosen, SnapTaken, IdsStored, VolumesMade, CheckpointAdded, StageBegun, StageDone, Paused, SnapRemoved, CutoverSet, PowerStored, PoweredOff, OffSeen, FinalSnapTaken, CancelAsked, Ended}
-use Rattle.record_codec.specs.Record.{word_bytes, long_bytes, uuid_bytes, id_bytes, all_word_bytes, all_id_bytes, IdHasRange, IsPlan, kind_of, kind_byte, fields_of, HasSpelling, spelled_fields, spelling, Spells}
+use Rattle.record_codec.specs.Record.{word_bytes, long_bytes, uuid_bytes, id_bytes, all_word_bytes, all_id_bytes, IsPlan, kind_of, kind_byte, fields_of, HasSpelling, spelled_fields, spelling, Spells}
 use Rattle.record_codec.specs.Parse.{word_at, long_at, uuid_at, id_at, words_in, ids_in, behind_name_len, name_len, plan_name, behind_name, plan_interval, plan_count, plan_vms, plan_at, PlanNeeds, ids_count, ids_row, ids_at, IdsNeed, fixed_record}
 use Rattle.record_codec.proofs.Numbers.{IsBytes, drop_bytes, word_split, long_split, uuid_split, word_fits, long_fits, uuid_fits, word_back, long_back, uuid_back, length-word_bytes, length-long_bytes, length-uuid_bytes, word_rest, long_rest, uuid_rest}
 use Rattle.record_codec.proofs.Pieces.{length-concat}
@@ -16,7 +17,8 @@ use Rattle.record_codec.specs.declared.record.Kind.{Kind}
 use Rattle.record_codec.specs.declared.record.Kind.TheVariants.{PlanMade as PlanMadeKind, MigrationStarted as MigrationStartedKind, Chosen as ChosenKind, SnapTaken as SnapTakenKind, IdsStored as IdsStoredKind, VolumesMade as VolumesMadeKind, CheckpointAdded as CheckpointAddedKind, StageBegun as StageBegunKind, StageDone as StageDoneKind, Paused as PausedKind, SnapRemoved as SnapRemovedKind, CutoverSet as CutoverSetKind, PowerStored as PowerStoredKind, PoweredOff as PoweredOffKind, OffSeen as OffSeenKind, FinalSnapTaken as FinalSnapTakenKind, CancelAsked as CancelAskedKind, Ended as EndedKind}
 use Rattle.record_codec.specs.declared.parse.CodecRefused.TheVariants.{Bad, NoMemory}
 use Rattle.record_codec.specs.Laws.{SpellingsDiffer, SpelledIsRead}
-use Rattle.record_codec.proofs.FixedFields.{byte_split, fixed_forth, kinds_differ, tail_same, head_same}
+use Rattle.record_codec.proofs.FixedFields.{byte_split, fixed_forth, tail_same, head_same}
+use Rattle.record_codec.proofs.KindBytes.{kinds_differ}
 
 apart : (m n : ℕ) → (m == n) ≡ false → m ≡ n → ⊥
 apart m n t e = let no : false ≡ true = sym t ∙ eq-eqb m n e in cc
@@ -58,7 +60,7 @@ row_of_ids (suc count) bytes len fit =
 ids_fit : (count : ℕ) (bytes : List ℕ) → IsBytes bytes → AllByRecursion IdHasRange (ids_in count bytes)
 ids_fit zero bytes fit = tt
 ids_fit (suc count) bytes fit = (
-  (uuid_fits bytes fit, long_fits (drop 16 bytes) (drop_bytes 16 bytes fit)),
+  record { uuid_fits = uuid_fits bytes fit; seq_fits = long_fits (drop 16 bytes) (drop_bytes 16 bytes fit) },
   ids_fit count (drop 8 (drop 16 bytes)) (drop_bytes 8 (drop 16 bytes) (drop_bytes 16 bytes fit)),
 )
 
@@ -253,9 +255,9 @@ words_back (n ∷ numbers) h =
 id_back : (id : ChangeId) (rest : List ℕ) → IdHasRange id → id_at (id_bytes id ++ rest) ≡ id
 id_back id rest h =
     let whole : id_bytes id ++ rest ≡ uuid_bytes id.uuid ++ (long_bytes id.seq ++ rest) = append_assoc (uuid_bytes id.uuid) (long_bytes id.seq) rest in
-    let uuid : uuid_at (id_bytes id ++ rest) ≡ id.uuid = ap (λ (ys : List ℕ). uuid_at ys) whole ∙ uuid_back id.uuid (long_bytes id.seq ++ rest) h.0 in
+    let uuid : uuid_at (id_bytes id ++ rest) ≡ id.uuid = ap (λ (ys : List ℕ). uuid_at ys) whole ∙ uuid_back id.uuid (long_bytes id.seq ++ rest) h.uuid_fits in
     let behind : drop 16 (id_bytes id ++ rest) ≡ long_bytes id.seq ++ rest = ap (λ (ys : List ℕ). drop 16 ys) whole ∙ uuid_rest id.uuid (long_bytes id.seq ++ rest) in
-    let seq : long_at (drop 16 (id_bytes id ++ rest)) ≡ id.seq = ap (λ (ys : List ℕ). long_at ys) behind ∙ long_back id.seq rest h.1 in
+    let seq : long_at (drop 16 (id_bytes id ++ rest)) ≡ id.seq = ap (λ (ys : List ℕ). long_at ys) behind ∙ long_back id.seq rest h.seq_fits in
     λ i. record { uuid = uuid i; seq = seq i }
 
 id_rest : (id : ChangeId) (rest : List ℕ) → drop 8 (drop 16 (id_bytes id ++ rest)) ≡ rest

@@ -1,5 +1,6 @@
--- What holds of every record and its bytes: a spelling is one record's alone, so what was written
--- is read as nothing else, and no answer of the decoder but want of memory stands between the two.
+-- What holds of every record and its bytes: a spelling is one record's alone, and has the size of
+-- its fields. So the bytes of a record are read as that record and nothing else, unless memory runs
+-- out.
 use Rattle.std.specs.Prelude.{◌≡◌, ℕ, List, length, Result, Ok, Err}
 use Rattle.record_codec.specs.declared.record.Record.{Record}
 use Rattle.record_codec.specs.declared.parse.CodecRefused.{CodecRefused}

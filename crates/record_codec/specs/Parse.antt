@@ -5,7 +5,8 @@ use Rattle.std.specs.Prelude.{◌≡◌, ℕ, zero, suc, ◌≤◌, ◌+◌, ◌
 use Rattle.std.specs.Int.{w32, w64, w128, from_be_bytes}
 use Rattle.basics.specs.Spelled.{IsName}
 use Rattle.change_id.specs.declared.ChangeId.{ChangeId}
-use Rattle.record_codec.specs.declared.record.TheConstants.{MAX_INTERVAL}
+use Rattle.basics.specs.declared.limits.TheConstants.{MAX_INTERVAL}
+use Rattle.record_codec.specs.declared.record.TheConstants.{MAX_WAY, MAX_HOW}
 use Rattle.record_codec.specs.declared.parse.CodecRefused.{CodecRefused}
 use Rattle.record_codec.specs.declared.parse.CodecRefused.TheVariants.{Bad, NoMemory}
 use Rattle.record_codec.specs.declared.record.Record.{Record}
@@ -88,11 +89,12 @@ fixed_record CancelAskedKind bytes = Some (CancelAsked (word_at bytes))
 fixed_record EndedKind bytes =
     Some (Ended (word_at bytes) (byte_at (drop 4 bytes)) (long_at (drop 1 (drop 4 bytes))))
 
+-- whether a record of such a kind keeps its rule; of the other kinds it tells nothing
 abbrev pub fixed_rule : Record → Bool
-fixed_rule (Chosen mig way at) = nat_le way 2
+fixed_rule (Chosen mig way at) = nat_le way MAX_WAY
 fixed_rule (CutoverSet plan has at) = has || at == 0
 fixed_rule (FinalSnapTaken mig snap mark place) = nat_lt place mark
-fixed_rule (Ended mig how place) = nat_le how 3 && (how == 0 || place == 0)
+fixed_rule (Ended mig how place) = nat_le how MAX_HOW && (how == 0 || place == 0)
 fixed_rule (MigrationStarted mig plan vm disks) = true
 fixed_rule (SnapTaken mig snap mark) = true
 fixed_rule (VolumesMade mig) = true
@@ -108,6 +110,7 @@ fixed_rule (CancelAsked mig) = true
 fixed_rule (PlanMade plan name interval vms) = true
 fixed_rule (IdsStored mig ids) = true
 
+-- the record, where it keeps its rule
 abbrev pub where_kept : Option Record → Option Record
 where_kept None = None
 where_kept (Some r) = if fixed_rule r then Some r else None

@@ -2,12 +2,14 @@
 -- else. Numbers are big-endian. `fields_of` is the table of kinds and fields; `KeepsRule` is what a
 -- record owes besides. What has a spelling has one, so the records of a journal are known by its
 -- bytes.
-use Rattle.std.specs.Prelude.{◌≡◌, ◌≢◌, ℕ, ◌+◌, ◌*◌, ◌^◌, ◌≤◌, ◌<◌, Bool, false, List, [], ◌∷◌, ◌++◌, length, map, if◌then◌else◌}
+use Rattle.std.specs.Prelude.{◌≡◌, ◌≢◌, ℕ, ◌+◌, ◌*◌, ◌^◌, ◌≤◌, ◌<◌, Bool, false, List, [], ◌∷◌, ◌++◌, length, map, Option, Some, None, if◌then◌else◌}
 use Rattle.std.specs.List.{concat, sum_by, AllByRecursion}
 use Rattle.std.specs.Int.{w32, w64, w128, to_be_bytes}
 use Rattle.basics.specs.Spelled.{IsName}
 use Rattle.change_id.specs.declared.ChangeId.{ChangeId}
-use Rattle.record_codec.specs.declared.record.TheConstants.{MAX_INTERVAL}
+use Rattle.change_id.specs.ChangeId.{IdHasRange}
+use Rattle.basics.specs.declared.limits.TheConstants.{MAX_INTERVAL}
+use Rattle.record_codec.specs.declared.record.TheConstants.{MAX_WAY, MAX_HOW}
 use Rattle.record_codec.specs.declared.record.Record.{Record}
 use Rattle.record_codec.specs.declared.record.Record.TheVariants.{PlanMade, MigrationStarted, Chosen, SnapTaken, IdsStored, VolumesMade, CheckpointAdded, StageBegun, StageDone, Paused, SnapRemoved, CutoverSet, PowerStored, PoweredOff, OffSeen, FinalSnapTaken, CancelAsked, Ended}
 use Rattle.record_codec.specs.declared.record.Kind.{Kind}
@@ -55,7 +57,7 @@ field_bytes (Text text) = length text ∷ text
 field_bytes (Words numbers) = word_bytes (length numbers) ++ all_word_bytes numbers
 field_bytes (Ids ids) = word_bytes (length ids) ++ all_id_bytes ids
 
--- how many bytes that takes
+-- how many bytes a field takes
 abbrev pub field_size : Field → ℕ
 field_size (Byte n) = 1
 field_size (Word n) = 4
@@ -64,9 +66,6 @@ field_size (Flag flag) = 1
 field_size (Text text) = 1 + length text
 field_size (Words numbers) = 4 + 4 * length numbers
 field_size (Ids ids) = 4 + 24 * length ids
-
-abbrev pub IdHasRange : ChangeId → Type 0
-IdHasRange id = (id.uuid < 2 ^ 128) × (id.seq < 2 ^ 64)
 
 -- each number of a field has the bits that it is given
 abbrev pub HasRange : Field → Type 0
@@ -98,6 +97,27 @@ kind_of (FinalSnapTaken mig snap mark place) = FinalSnapTakenKind
 kind_of (CancelAsked mig) = CancelAskedKind
 kind_of (Ended mig how place) = EndedKind
 
+-- the migration whose record it is; the records of plans are of none
+abbrev pub migration_of : Record → Option ℕ
+migration_of (PlanMade plan name interval vms) = None
+migration_of (MigrationStarted mig plan vm disks) = Some mig
+migration_of (Chosen mig way at) = Some mig
+migration_of (SnapTaken mig snap mark) = Some mig
+migration_of (IdsStored mig ids) = Some mig
+migration_of (VolumesMade mig) = Some mig
+migration_of (CheckpointAdded mig previous current last) = Some mig
+migration_of (StageBegun mig disk) = Some mig
+migration_of (StageDone mig disk written) = Some mig
+migration_of (Paused mig at) = Some mig
+migration_of (SnapRemoved mig snap) = Some mig
+migration_of (CutoverSet plan has at) = None
+migration_of (PowerStored mig on) = Some mig
+migration_of (PoweredOff mig) = Some mig
+migration_of (OffSeen mig off) = Some mig
+migration_of (FinalSnapTaken mig snap mark place) = Some mig
+migration_of (CancelAsked mig) = Some mig
+migration_of (Ended mig how place) = Some mig
+
 abbrev pub kind_byte : Kind → ℕ
 kind_byte PlanMadeKind = 1
 kind_byte MigrationStartedKind = 2
@@ -117,15 +137,6 @@ kind_byte OffSeenKind = 15
 kind_byte FinalSnapTakenKind = 16
 kind_byte CancelAskedKind = 17
 kind_byte EndedKind = 18
-
-abbrev pub all_kinds : List Kind
-all_kinds =
-    PlanMadeKind ∷ MigrationStartedKind ∷ ChosenKind
-    ∷ SnapTakenKind ∷ IdsStoredKind ∷ VolumesMadeKind
-    ∷ CheckpointAddedKind ∷ StageBegunKind ∷ StageDoneKind
-    ∷ PausedKind ∷ SnapRemovedKind ∷ CutoverSetKind
-    ∷ PowerStoredKind ∷ PoweredOffKind ∷ OffSeenKind
-    ∷ FinalSnapTakenKind ∷ CancelAskedKind ∷ EndedKind ∷ []
 
 abbrev pub fields_of : Record → List Field
 fields_of (PlanMade plan name interval vms) = Word plan ∷ Text name ∷ Word interval ∷ Words vms ∷ []
@@ -158,11 +169,11 @@ pub record IsPlan (name : List ℕ) (interval : ℕ) (vms : List ℕ) : Type 0 w
 
 abbrev pub KeepsRule : Record → Type 0
 KeepsRule (PlanMade plan name interval vms) = IsPlan name interval vms
-KeepsRule (Chosen mig way at) = way ≤ 2
+KeepsRule (Chosen mig way at) = way ≤ MAX_WAY
 KeepsRule (IdsStored mig ids) = length ids < 2 ^ 32
 KeepsRule (CutoverSet plan has at) = has ≡ false → at ≡ 0
 KeepsRule (FinalSnapTaken mig snap mark place) = place < mark
-KeepsRule (Ended mig how place) = (how ≤ 3) × (how ≢ 0 → place ≡ 0)
+KeepsRule (Ended mig how place) = (how ≤ MAX_HOW) × (how ≢ 0 → place ≡ 0)
 KeepsRule (MigrationStarted mig plan vm disks) = Unit {0}
 KeepsRule (SnapTaken mig snap mark) = Unit {0}
 KeepsRule (VolumesMade mig) = Unit {0}

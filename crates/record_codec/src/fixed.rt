@@ -1,9 +1,10 @@
-//! What a body is read to.
+//! The reading of the kinds whose fields have a fixed size. Their bytes are counted first, so that
+//! no read goes past the end.
 ghost use Rattle.std.specs.Prelude.{◌≡◌, length};
 ghost use Rattle.record_codec.specs.Parse.{fixed_size, fixed_record, fixed_rule, parse_fixed};
 
 use crate::fields::Fields;
-use crate::{Kind, Record};
+use crate::{Kind, MAX_HOW, MAX_WAY, Record};
 
 /// The record of a kind whose fields have a fixed size. None where the bytes are no such fields, or
 /// the record would break its rule.
@@ -73,14 +74,14 @@ fn fixed_record(kind: Kind, bytes: &[u8]) -> Option<Record>
     }
 }
 
-fn keeps_rule(kept: &Record) -> bool
-    ensures { result ≡ fixed_rule kept.now }
+fn keeps_rule(r: &Record) -> bool
+    ensures { result ≡ fixed_rule r.now }
 {
-    match kept {
-        Record::Chosen { way, .. } => *way <= 2,
+    match r {
+        Record::Chosen { way, .. } => *way <= MAX_WAY,
         Record::CutoverSet { has, at, .. } => *has || *at == 0,
         Record::FinalSnapTaken { mark, place, .. } => place < mark,
-        Record::Ended { how, place, .. } => *how <= 3 && (*how == 0 || *place == 0),
+        Record::Ended { how, place, .. } => *how <= MAX_HOW && (*how == 0 || *place == 0),
         Record::PlanMade { .. }
         | Record::MigrationStarted { .. }
         | Record::SnapTaken { .. }

@@ -16,5 +16,5 @@ mod variable;
 pub use basics::{Name, NoMemory, NumberList};
 pub use laws::{spelled_is_read, spellings_differ, spellings_have_their_size};
 pub use parse::{CodecRefused, decode};
-pub use record::{IdList, Kind, MAX_INTERVAL, Record};
-pub use spell::encode;
+pub use record::{IdList, Kind, MAX_HOW, MAX_WAY, Record};
+pub use spell::{encode, spelled_len};

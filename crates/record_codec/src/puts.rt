@@ -1,5 +1,7 @@
 //! The writing of one field. Each call needs the room that it takes, so none of them fails.
 ghost use Rattle.std.specs.Prelude.{◌≡◌, ◌≤◌, ◌<◌, ◌+◌, ◌*◌, ◌++◌, ◌∷◌, [], ◌^◌, length, vec_len, vec_capacity};
+ghost use Rattle.std.specs.List.{AllByRecursion};
+ghost use Rattle.change_id.specs.ChangeId.{IdHasRange};
 ghost use Rattle.record_codec.specs.Record.{word_bytes, long_bytes, uuid_bytes, id_bytes, flag_byte, all_word_bytes, all_id_bytes};
 
 use crate::{IdList, Name, NumberList};
@@ -19,6 +21,7 @@ fn put(out: &mut Vec<u8>, bytes: &[u8])
 pub(crate) fn put_byte(out: &mut Vec<u8>, byte: &u8)
     requires { vec_len out.old + 1 ≤ vec_capacity out.old }
     ensures items { out.new.items ≡ out.old.items ++ byte.now ∷ [] }
+    ensures fits { byte.now < 2 ^ 8 }
     ensures len { vec_len out.new ≡ vec_len out.old + 1 }
     ensures capacity { vec_capacity out.old ≤ vec_capacity out.new }
 {
@@ -38,6 +41,7 @@ pub(crate) fn put_flag(out: &mut Vec<u8>, flag: &bool)
 pub(crate) fn put_word(out: &mut Vec<u8>, number: &u32)
     requires { vec_len out.old + 4 ≤ vec_capacity out.old }
     ensures items { out.new.items ≡ out.old.items ++ word_bytes number.now }
+    ensures fits { number.now < 2 ^ 32 }
     ensures len { vec_len out.new ≡ vec_len out.old + 4 }
     ensures capacity { vec_capacity out.old ≤ vec_capacity out.new }
 {
@@ -50,6 +54,7 @@ pub(crate) fn put_word(out: &mut Vec<u8>, number: &u32)
 pub(crate) fn put_long(out: &mut Vec<u8>, number: &u64)
     requires { vec_len out.old + 8 ≤ vec_capacity out.old }
     ensures items { out.new.items ≡ out.old.items ++ long_bytes number.now }
+    ensures fits { number.now < 2 ^ 64 }
     ensures len { vec_len out.new ≡ vec_len out.old + 8 }
     ensures capacity { vec_capacity out.old ≤ vec_capacity out.new }
 {
@@ -73,6 +78,7 @@ fn put_uuid(out: &mut Vec<u8>, uuid: u128)
 fn put_id(out: &mut Vec<u8>, id: &ChangeId)
     requires { vec_len out.old + 24 ≤ vec_capacity out.old }
     ensures items { out.new.items ≡ out.old.items ++ id_bytes id.now }
+    ensures fits { IdHasRange id.now }
     ensures len { vec_len out.new ≡ vec_len out.old + 24 }
     ensures capacity { vec_capacity out.old ≤ vec_capacity out.new }
 {
@@ -96,6 +102,7 @@ pub(crate) fn put_words(out: &mut Vec<u8>, numbers: &NumberList)
     requires few { length numbers.now < 2 ^ 32 }
     ensures items { out.new.items
         ≡ out.old.items ++ word_bytes (length numbers.now) ++ all_word_bytes numbers.now }
+    ensures fit { AllByRecursion (λ number. number < 2 ^ 32) numbers.now }
     ensures len { vec_len out.new ≡ vec_len out.old + 4 + 4 * length numbers.now }
     ensures capacity { vec_capacity out.old ≤ vec_capacity out.new }
 {
@@ -120,6 +127,7 @@ pub(crate) fn put_ids(out: &mut Vec<u8>, ids: &IdList)
     requires few { length ids.now < 2 ^ 32 }
     ensures items { out.new.items
         ≡ out.old.items ++ word_bytes (length ids.now) ++ all_id_bytes ids.now }
+    ensures fit { AllByRecursion IdHasRange ids.now }
     ensures len { vec_len out.new ≡ vec_len out.old + 4 + 24 * length ids.now }
     ensures capacity { vec_capacity out.old ≤ vec_capacity out.new }
 {
@@ -131,6 +139,7 @@ pub(crate) fn put_ids(out: &mut Vec<u8>, ids: &IdList)
 fn put_each_id(out: &mut Vec<u8>, ids: &[ChangeId])
     requires { vec_len out.old + 24 * length ids.now ≤ vec_capacity out.old }
     ensures items { out.new.items ≡ out.old.items ++ all_id_bytes ids.now }
+    ensures fit { AllByRecursion IdHasRange ids.now }
     ensures len { vec_len out.new ≡ vec_len out.old + 24 * length ids.now }
     ensures capacity { vec_capacity out.old ≤ vec_capacity out.new }
 {

@@ -1,16 +1,19 @@
 //! What the journal keeps: the records of plans and of the steps of their migrations. The kind of a
 //! record is the first byte of its spelling.
-ghost use Rattle.std.specs.Prelude.{◌≡◌, ◌==◌, IfOk, IfSome};
-ghost use Rattle.std.specs.List.{find};
-ghost use Rattle.record_codec.specs.Record.{kind_of, kind_byte, all_kinds};
+ghost use Rattle.std.specs.Prelude.{◌≡◌, ◌≢◌, IfOk, IfSome, IfNone};
+ghost use Rattle.record_codec.specs.declared.record.Kind.{Kind};
+ghost use Rattle.record_codec.specs.Record.{kind_of, kind_byte, migration_of};
 
 use basics::{Name, NoMemory, NumberList};
 use change_id::ChangeId;
-use std::alloc::Global;
+use std::alloc::{AllocError, Global};
 use std::marker::Model;
 
-/// The longest interval between the copies of a plan, in minutes: a week.
-pub const MAX_INTERVAL: u32 = 10_080;
+/// The highest way of a choice, the cutover.
+pub const MAX_WAY: u8 = 2;
+
+/// The highest end of a migration, failed at a full log.
+pub const MAX_HOW: u8 = 3;
 
 /// Change identifiers, one a disk, in order.
 #[derive(Debug, Drop)]
@@ -51,13 +54,24 @@ impl IdList {
     }
 }
 
+impl Clone for IdList {
+    ghost use Rattle.std.specs.Prelude.{◌≡◌};
+
+    ghost is_clone = { λ list copy. copy ≡ list };
+
+    fn clone(&self) -> Result<IdList, AllocError> {
+        let ids = self.ids.clone()?;
+        Ok(IdList { ids })
+    }
+}
+
 /// One record of the journal. `mig`, `plan` and `vm` are the numbers of a migration, a plan and a
 /// machine; `snap`, `previous` and `current` those of snapshots, 0 for none; `mark` and `place`
 /// count entries of a machine's log; `at` is a moment in seconds since 1970.
-#[derive(Debug, Drop)]
+#[derive(Debug, Clone, Drop)]
 pub enum Record {
     /// A plan of these machines was made, with this interval in minutes between copies, 1 to
-    /// [`MAX_INTERVAL`].
+    /// [`MAX_INTERVAL`](basics::MAX_INTERVAL).
     PlanMade {
         plan: u32,
         name: Name,
@@ -71,7 +85,8 @@ pub enum Record {
         vm: u32,
         disks: u32,
     },
-    /// What comes next was chosen: 0 the first copy, 1 a further copy, 2 the cutover.
+    /// What comes next was chosen: 0 the first copy, 1 a further copy, 2 the cutover
+    /// ([`MAX_WAY`]).
     Chosen {
         mig: u32,
         way: u8,
@@ -151,8 +166,8 @@ pub enum Record {
     CancelAsked {
         mig: u32,
     },
-    /// The migration ended: 0 completed, 1 cancelled, 2 failed at a volume, 3 failed at a full log.
-    /// `place` is 0 unless it is completed.
+    /// The migration ended: 0 completed, 1 cancelled, 2 failed at a volume, 3 failed at a full log
+    /// ([`MAX_HOW`]). `place` is 0 unless it is completed.
     Ended {
         mig: u32,
         how: u8,
@@ -160,7 +175,7 @@ pub enum Record {
     },
 }
 
-/// What a record is about.
+/// What a record is. Which fields it has follows from it.
 #[derive(Clone, Copy, Debug, PartialEq, Eq)]
 pub enum Kind {
     PlanMade,
@@ -215,15 +230,20 @@ impl Kind {
 
     /// The kind of this byte. None where no kind has it.
     pub fn of(byte: u8) -> Option<Kind>
-        ensures first { result ≡ find (λ kind. kind_byte kind == byte) all_kinds }
         ensures found { IfSome result (λ kind. kind_byte kind ≡ byte) }
+        ensures none { IfNone result ((kind : Kind) → kind_byte kind ≢ byte) }
     {
-        KINDS.iter().copied().find(|kind| kind.byte() == byte)
+        for kind in &KINDS {
+            if kind.byte() == byte {
+                return Some(*kind);
+            }
+        }
+        None
     }
 }
 
 impl Record {
-    /// What the record is about.
+    /// What the record is.
     pub fn kind(&self) -> Kind
         ensures { result ≡ kind_of self.now }
     {
@@ -238,6 +258,25 @@ impl Record {
             PlanMade MigrationStarted Chosen SnapTaken IdsStored VolumesMade CheckpointAdded
             StageBegun StageDone Paused SnapRemoved CutoverSet PowerStored PoweredOff OffSeen
             FinalSnapTaken CancelAsked Ended
+        }
+    }
+
+    /// The number of the migration whose record it is. None for a plan's record.
+    pub fn migration(&self) -> Option<u32>
+        ensures { result ≡ migration_of self.now }
+    {
+        macro_rules! migrations {
+            ($($kind:ident)*) => {
+                match self {
+                    Record::PlanMade { .. } | Record::CutoverSet { .. } => None,
+                    $(Record::$kind { mig, .. } => Some(*mig),)*
+                }
+            };
+        }
+        migrations! {
+            MigrationStarted Chosen SnapTaken IdsStored VolumesMade CheckpointAdded StageBegun
+            StageDone Paused SnapRemoved PowerStored PoweredOff OffSeen FinalSnapTaken
+            CancelAsked Ended
         }
     }
 }

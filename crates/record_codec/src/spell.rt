@@ -1,29 +1,32 @@
 //! The writing of records. The memory for a record is taken first, in one growth, so that what
 //! comes after can't fail and leaves no record in part.
-ghost use Rattle.std.specs.Prelude.{◌≡◌, ◌≤◌, ◌+◌, ◌++◌, OnOk, OnErr, vec_len, vec_capacity};
-ghost use Rattle.record_codec.specs.Record.{KeepsRule, spelling, spelled_size};
+ghost use Rattle.std.specs.Prelude.{◌≡◌, ◌≤◌, ◌+◌, ◌++◌, OnOk, OnErr, length, vec_len, vec_capacity};
+ghost use Rattle.std.specs.List.{AllByRecursion};
+ghost use Rattle.record_codec.specs.Record.{HasRange, KeepsRule, fields_of, spelling, spelled_size, Spells};
 
 use crate::puts::{put_byte, put_flag, put_ids, put_long, put_name, put_word, put_words};
 use crate::{Kind, NoMemory, Record};
 
-/// Appends the one spelling of a record to `out`. It answers only want of memory, and then `out` is
-/// as before.
-pub fn encode(kept: &Record, out: &mut Vec<u8>) -> Result<(), NoMemory>
-    requires { KeepsRule kept.now }
-    ensures spelled { OnOk result (out.new.items ≡ out.old.items ++ spelling kept.now) }
+/// Appends the one spelling of a record to `out`, which [`crate::decode`] reads as that record. It
+/// answers only want of memory, and then `out` is as before.
+pub fn encode(r: &Record, out: &mut Vec<u8>) -> Result<(), NoMemory>
+    requires { KeepsRule r.now }
+    ensures spelled { OnOk result (out.new.items ≡ out.old.items ++ spelling r.now) }
+    ensures spells { OnOk result (Spells (spelling r.now) r.now) }
     ensures unchanged { OnErr result (out.new.items ≡ out.old.items) }
 {
-    out.reserve(spelled_len(kept))?;
-    put_record(out, kept);
+    out.reserve(spelled_len(r))?;
+    put_record(out, r);
     Ok(())
 }
 
-/// How many bytes the spelling of a record has.
-fn spelled_len(kept: &Record) -> usize
-    requires { KeepsRule kept.now }
-    ensures { result ≡ spelled_size kept.now }
+/// How many bytes the spelling of a record has. It takes no memory.
+#[tactic(auto, using(crate::proofs::Sizes::spellings_have_their_size))]
+pub fn spelled_len(r: &Record) -> usize
+    requires { KeepsRule r.now }
+    ensures { result ≡ length (spelling r.now) }
 {
-    match kept {
+    match r {
         Record::PlanMade { name, vms, .. } => 14 + name.as_str().len() + 4 * vms.as_slice().len(),
         Record::IdsStored { ids, .. } => 9 + 24 * ids.as_slice().len(),
         Record::VolumesMade { .. } | Record::PoweredOff { .. } | Record::CancelAsked { .. } => 5,
@@ -37,14 +40,15 @@ fn spelled_len(kept: &Record) -> usize
     }
 }
 
-fn put_record(out: &mut Vec<u8>, kept: &Record)
-    requires rule { KeepsRule kept.now }
-    requires room { vec_len out.old + spelled_size kept.now ≤ vec_capacity out.old }
-    ensures { out.new.items ≡ out.old.items ++ spelling kept.now }
+fn put_record(out: &mut Vec<u8>, r: &Record)
+    requires rule { KeepsRule r.now }
+    requires room { vec_len out.old + spelled_size r.now ≤ vec_capacity out.old }
+    ensures spelled { out.new.items ≡ out.old.items ++ spelling r.now }
+    ensures ranges { AllByRecursion HasRange (fields_of r.now) }
 {
     macro_rules! spell {
         ($($name:ident { $($field:ident: $put:ident),* })*) => {
-            match kept {
+            match r {
                 $(Record::$name { $($field),* } => {
                     put_byte(out, &Kind::$name.byte());
                     $($put(out, $field);)*

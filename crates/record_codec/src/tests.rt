@@ -1,5 +1,6 @@
 //! One record of each kind beside its bytes, and bodies that are no spelling.
-use crate::{CodecRefused, decode, encode};
+use crate::{CodecRefused, IdList, Record, decode, encode, spelled_len};
+use change_id::ChangeId;
 use std::test::Fail;
 
 /// One body of each kind. Those of a cancel, a pause, a cutover without a moment and a finished
@@ -26,7 +27,14 @@ const BODIES: [&[u8]; 18] = [
     b"\x12\0\0\0\x01\0\0\0\0\0\0\0\0\x08",
 ];
 
-/// Bodies that are the spelling of no record, each for another reason.
+/// The identifiers of two disks, put together by hand like the others.
+const TWO_IDS: &[u8] = b"\x05\0\0\0\x01\0\0\0\x02\
+    \0\0\0\0\0\0\0\0\0\0\0\0\0\0\0\x01\0\0\0\0\0\0\0\x07\
+    \0\0\0\0\0\0\0\0\0\0\0\0\0\0\0\x02\0\0\0\0\0\0\0\x08";
+
+/// Bodies that are the spelling of no record: no kind, an unknown one (0 and 19), a field that is
+/// cut, a byte left over, a flag of 2, a rule that is broken (of a choice, a cutover, a final
+/// snapshot, ends, a name, an interval), and a list that is cut.
 const OTHERS: [&[u8]; 14] = [
     b"",
     b"\0",
@@ -49,10 +57,52 @@ fn each_kind_is_read_and_written_back(rt: HostRuntime) -> Result<(), Fail> {
     for (at, body) in BODIES.iter().enumerate() {
         let kept = decode(rt.alloc(), body)?;
         assert_eq!(rt; kept.kind().byte() as usize, at + 1);
+        assert_eq!(rt; spelled_len(&kept), body.len());
         let mut out = vec![in rt.alloc(); 0xff]?;
         encode(&kept, &mut out).or(Err("no memory"))?;
         assert_eq!(rt; &out[1..], *body, "{kept:?}");
     }
+    Ok(())
+}
+
+#[test]
+fn each_record_but_those_of_plans_is_of_a_migration(rt: HostRuntime) -> Result<(), Fail> {
+    for (at, body) in BODIES.iter().enumerate() {
+        let migration = match at + 1 {
+            1 | 12 => None,
+            10 => Some(2),
+            _ => Some(1),
+        };
+        assert_eq!(rt;
+            decode(rt.alloc(), body)?.migration(),
+            migration,
+            "{body:?}"
+        );
+    }
+    Ok(())
+}
+
+#[test]
+fn a_copy_has_the_same_bytes(rt: HostRuntime) -> Result<(), Fail> {
+    for body in [BODIES[0], BODIES[4]] {
+        let copy = decode(rt.alloc(), body)?.clone()?;
+        let mut out = Vec::new(rt.alloc());
+        encode(&copy, &mut out).or(Err("no memory"))?;
+        assert_eq!(rt; out.as_slice(), body);
+    }
+    Ok(())
+}
+
+#[test]
+fn a_list_of_identifiers_is_made_of_a_slice(rt: HostRuntime) -> Result<(), Fail> {
+    let ids = [ChangeId { uuid: 1, seq: 7 }, ChangeId { uuid: 2, seq: 8 }];
+    let stored = Record::IdsStored {
+        mig: 1,
+        ids: IdList::of(rt.alloc(), &ids).or(Err("no memory"))?,
+    };
+    let mut out = Vec::new(rt.alloc());
+    encode(&stored, &mut out).or(Err("no memory"))?;
+    assert_eq!(rt; out.as_slice(), TWO_IDS);
     Ok(())
 }
 

@@ -4,8 +4,8 @@ ghost use Rattle.std.specs.Prelude.{◌≡◌, ◌*◌, MatchOption, IfOk, lengt
 ghost use Rattle.record_codec.specs.Parse.{PlanNeeds, IdsNeed, Reads, word_at, plan_name, plan_interval, plan_count, plan_vms, plan_at, ids_at, ids_count, ids_row, words_in, ids_in};
 
 use crate::fields::Fields;
-use crate::{CodecRefused, IdList, MAX_INTERVAL, Record};
-use basics::{Name, NumberList, is_name};
+use crate::{CodecRefused, IdList, Record};
+use basics::{MAX_INTERVAL, Name, NumberList, is_name};
 use change_id::ChangeId;
 use std::alloc::{AllocError, Global};
 

@@ -16,9 +16,8 @@ use Rattle.serde_json.specs.View.{items_of}
 use Rattle.serde_json.specs.Written.{compact_text, outline, items_outline, members_outline, number_text}
 use Rattle.serde_json.proofs.Numbers.{number_of-decimal}
 use Rattle.serde_json.proofs.Texts.{print-outline}
-use Rattle.reply_json.specs.Laws.{NumFits, NumbersFit, ItemsFit, MembersFit}
-use Rattle.reply_json.specs.ToJson.{array_of}
-use Rattle.reply_json.specs.Values.{number_of, or_null, pair_of}
+use Rattle.reply_json.specs.Fits.{NumFits, NumbersFit, ItemsFit, MembersFit}
+use Rattle.reply_json.specs.Values.{number_of, or_null, array_of, pair_of}
 
 -- ---- values
 

@@ -1,7 +1,7 @@
 -- Every reply reads back, form by form.
 use Rattle.std.proofs.Common.{◌≡◌, ℕ, suc, Bool, List, [], Option, Some, None, slice_index}
 use Rattle.serde_json.specs.Data.{Data, string}
-use Rattle.reply_json.specs.Laws.{NumbersFit}
+use Rattle.reply_json.specs.Fits.{NumbersFit}
 use Rattle.reply_json.specs.Values.{number_of, or_null, pair_of, id_data, snapshot_text, sector_data, digits_data, disturbed_data}
 use Rattle.reply_json.specs.Reply.{area_data, check_data, host_data, vm_data, guest_data, migration_data, refused_members, members_of, reply_data}
 use Rattle.reply_json.specs.declared.reply.Area.{Area}

@@ -1,36 +1,24 @@
 -- What holds of the text of every reply.
-use Rattle.std.specs.Prelude.{◌≡◌, ◌^◌, ◌<◌, ⊤, Some}
-use Rattle.serde_json.specs.Data.{Num, unsigned, negative, float, Data, null, boolean, number, string, array, object, Items, no_items, item, Members, no_members, member}
+use Rattle.std.specs.Prelude.{◌≡◌, ℕ, List, Contains, Some}
+use Rattle.std.specs.Str.{IsAscii}
+use Rattle.serde_json.specs.Data.{string}
 use Rattle.serde_json.specs.Read.{read}
 use Rattle.serde_json.specs.Written.{compact_text}
+use Rattle.reply_json.specs.Fits.{NumbersFit}
+use Rattle.reply_json.specs.Values.{digits_data}
 use Rattle.reply_json.specs.declared.reply.Reply.{Reply}
 use Rattle.reply_json.specs.Reply.{reply_data}
-
--- a number has no sign, no fraction and at most 64 bits, as each number of a reply in code has
-abbrev pub NumFits : Num → Type 0
-NumFits (unsigned n) = n < 2 ^ 64
-NumFits (negative z) = ⊥
-NumFits (float x) = ⊥
-
--- so has each number of a value
-abbrev mutual
-  pub NumbersFit : Data → Type 0
-  NumbersFit null = ⊤
-  NumbersFit (boolean b) = ⊤
-  NumbersFit (number n) = NumFits n
-  NumbersFit (string s) = ⊤
-  NumbersFit (array ds) = ItemsFit ds
-  NumbersFit (object ms) = MembersFit ms
-
-  pub ItemsFit : Items → Type 0
-  ItemsFit no_items = ⊤
-  ItemsFit (item d ds) = NumbersFit d × ItemsFit ds
-
-  pub MembersFit : Members → Type 0
-  MembersFit no_members = ⊤
-  MembersFit (member k d ms) = NumbersFit d × MembersFit ms
 
 -- the text of a reply reads back as the object that it means
 abbrev pub ReadsBack : Type 0
 ReadsBack = (reply : Reply) → NumbersFit (reply_data reply)
     → read (compact_text (reply_data reply)) ≡ Some (reply_data reply)
+
+-- it has no line feed, so lines that were written one after another can be cut in one way alone
+abbrev pub OneLine : Type 0
+OneLine = (reply : Reply) → NumbersFit (reply_data reply)
+    → ¬ (Contains (compact_text (reply_data reply)) 10)
+
+-- digits are the text that they show, as every list of ASCII is
+abbrev pub DigitsAreText : Type 0
+DigitsAreText = (digits : List ℕ) → IsAscii digits → digits_data digits ≡ string digits

@@ -1,4 +1,5 @@
 pub mod ToJson
 pub mod Values
 pub mod Reply
+pub mod Fits
 pub mod Laws

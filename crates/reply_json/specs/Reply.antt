@@ -3,8 +3,7 @@
 use Rattle.std.specs.Prelude.{ℕ, true, false, List, [], ◌∷◌, ◌++◌, codes}
 use Rattle.serde_json.specs.Data.{Data, boolean, string, object, Members, no_members, member}
 use Rattle.serde_json.specs.Written.{compact_text}
-use Rattle.reply_json.specs.ToJson.{array_of}
-use Rattle.reply_json.specs.Values.{number_of, or_null, pair_of, id_data, snapshot_text, sector_data, digits_data, disturbed_data}
+use Rattle.reply_json.specs.Values.{number_of, or_null, array_of, pair_of, id_data, snapshot_text, sector_data, digits_data, disturbed_data}
 use Rattle.reply_json.specs.declared.reply.Area.{Area}
 use Rattle.reply_json.specs.declared.reply.CheckLine.{CheckLine}
 use Rattle.reply_json.specs.declared.reply.HostLine.{HostLine}

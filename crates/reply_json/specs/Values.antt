@@ -1,11 +1,12 @@
 -- The values that stand in replies: the text of a change identifier and of a snapshot, the contents
 -- of a sector, and plain values as data of JSON.
-use Rattle.std.specs.Prelude.{ℕ, true, ◌==◌, List, [], ◌++◌, Option, Some, None, if◌then◌else◌, codes, decimal, slice_index, encode_utf8_all}
+use Rattle.std.specs.Prelude.{ℕ, true, ◌==◌, List, [], ◌++◌, map, Option, Some, None, if◌then◌else◌, codes, decimal, slice_index, encode_utf8_all}
 use Rattle.std.specs.List.{list_all}
 use Rattle.change_id.specs.declared.ChangeId.{ChangeId}
 use Rattle.change_id.specs.ChangeId.{spelling}
 use Rattle.hex.specs.Hex.{encode_lower}
 use Rattle.serde_json.specs.Data.{Data, null, boolean, number, unsigned, string, array, Items, no_items, item}
+use Rattle.serde_json.specs.View.{items_of}
 
 abbrev pub number_of : ℕ → Data
 number_of n = number (unsigned n)
@@ -14,6 +15,10 @@ number_of n = number (unsigned n)
 abbrev pub or_null : {T : Type 0} → (T → Data) → Option T → Data
 or_null data_of None = null
 or_null data_of (Some value) = data_of value
+
+-- a list of values, each as its own data
+abbrev pub array_of : {T : Type 0} → (T → Data) → List T → Data
+array_of data_of values = array (items_of (map data_of values))
 
 abbrev pub pair_of : Data → Data → Data
 pair_of first second = array (item first (item second no_items))

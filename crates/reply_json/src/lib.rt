@@ -7,14 +7,11 @@ mod line;
 mod lists;
 mod objects;
 mod reply;
-mod sequence;
 #[cfg(test)]
 mod tests;
-mod text;
 mod to_json;
 mod values;
 
-pub use line::{reads_back, reply_line};
+pub use basics::{Sequence, Text};
+pub use line::{digits_are_text, one_line, reads_back, reply_line};
 pub use reply::{Area, Carried, CheckLine, GuestDone, HostLine, MigLine, Reply, VmLine};
-pub use sequence::Sequence;
-pub use text::Text;

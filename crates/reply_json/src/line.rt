@@ -1,7 +1,10 @@
 //! The line of a reply, written in one pass into the caller's buffer.
-ghost use Rattle.std.specs.Prelude.{◌≡◌, ◌++◌, OnOk, OnErr, length, take};
-ghost use Rattle.reply_json.specs.Laws.{ReadsBack};
-ghost use Rattle.reply_json.specs.Reply.{line_of};
+ghost use Rattle.std.specs.Prelude.{◌≡◌, ◌++◌, Contains, OnOk, OnErr, Some, length, take};
+ghost use Rattle.serde_json.specs.Read.{read};
+ghost use Rattle.serde_json.specs.Written.{compact_text};
+ghost use Rattle.reply_json.specs.Fits.{NumbersFit};
+ghost use Rattle.reply_json.specs.Laws.{ReadsBack, OneLine, DigitsAreText};
+ghost use Rattle.reply_json.specs.Reply.{line_of, reply_data};
 
 use crate::Reply;
 use crate::to_json::ToJson;
@@ -9,10 +12,14 @@ use basics::NoMemory;
 use json::Writer;
 use std::mem;
 
-/// Writes the line of a reply after what `out` has, its line feed included. It answers only want
-/// of memory, and then `out` has what it had.
+/// Writes the line of a reply after what `out` has, its line feed included. A reader of JSON has
+/// the reply back from it, and no line feed stands before its end. It answers only want of memory,
+/// and then `out` has what it had.
 pub fn reply_line(reply: &Reply, out: &mut Vec<u8>) -> Result<(), NoMemory>
     ensures line { OnOk result (out.new.items ≡ out.old.items ++ line_of reply.now) }
+    ensures reads { OnOk result
+        (read (compact_text (reply_data reply.now)) ≡ Some (reply_data reply.now)) }
+    ensures one_line { OnOk result (¬ (Contains (compact_text (reply_data reply.now)) 10)) }
     ensures unchanged { OnErr result (out.new.items ≡ out.old.items) }
 {
     let start = out.len();
@@ -26,6 +33,7 @@ pub fn reply_line(reply: &Reply, out: &mut Vec<u8>) -> Result<(), NoMemory>
 // The same, but that a front of the line may stand where memory ran out.
 fn append_line(reply: &Reply, out: &mut Vec<u8>) -> Result<(), NoMemory>
     ensures line { OnOk result (out.new.items ≡ out.old.items ++ line_of reply.now) }
+    ensures fits { OnOk result (NumbersFit (reply_data reply.now)) }
     ensures kept { take (length out.old.items) out.new.items ≡ out.old.items }
 {
     let alloc = *out.allocator();
@@ -41,4 +49,14 @@ fn append_line(reply: &Reply, out: &mut Vec<u8>) -> Result<(), NoMemory>
 /// of its members once.
 pub fn reads_back()
     ensures { ReadsBack }
+{}
+
+/// The text of a reply has no line feed, so lines that follow one another can be told apart.
+pub fn one_line()
+    ensures { OneLine }
+{}
+
+/// The digits of a digest, as those of any ASCII, are the text that stands in the line.
+pub fn digits_are_text()
+    ensures { DigitsAreText }
 {}

@@ -1,4 +1,6 @@
 //! Lists, whose items are written one after another.
+ghost use Rattle.std.specs.Prelude.{OnOk};
+ghost use Rattle.reply_json.specs.Fits.{NumbersFit};
 ghost use Rattle.reply_json.specs.ToJson.{Puts, tokens_of};
 ghost use Rattle.reply_json.specs.Values.{disturbed_data};
 
@@ -11,7 +13,7 @@ use json::Writer;
 use std::alloc::Global;
 
 impl<T: ToJson> ToJson for Sequence<T> {
-    ghost use Rattle.reply_json.specs.ToJson.{array_of};
+    ghost use Rattle.reply_json.specs.Values.{array_of};
 
     ghost json = { array_of T.json };
 
@@ -30,8 +32,7 @@ impl<T: ToJson> ToJson for Sequence<T> {
 pub(crate) struct Disturbed<'a>(pub(crate) &'a Sequence<Option<Text>>);
 
 impl ToJson for Disturbed<'_> {
-    ghost use Rattle.reply_json.specs.ToJson.{array_of};
-    ghost use Rattle.reply_json.specs.Values.{disturbed_data};
+    ghost use Rattle.reply_json.specs.Values.{array_of, disturbed_data};
 
     ghost json = { λ list. array_of disturbed_data list.0.now };
 
@@ -46,7 +47,8 @@ impl ToJson for Disturbed<'_> {
 }
 
 fn put_disturbed(alloc: Global, writer: &mut Writer, refusal: &Option<Text>) -> Result<(), NoMemory>
-    ensures { Puts result writer.old writer.new (tokens_of (disturbed_data refusal.now)) }
+    ensures puts { Puts result writer.old writer.new (tokens_of (disturbed_data refusal.now)) }
+    ensures fits { OnOk result (NumbersFit (disturbed_data refusal.now)) }
 {
     match refusal {
         None => true.put(alloc, writer),

@@ -1,11 +1,12 @@
 //! The members of replies and of the objects in them, in ascending order of their names.
-ghost use Rattle.std.specs.Prelude.{◌∷◌, true, codes};
+ghost use Rattle.std.specs.Prelude.{◌∷◌, OnOk, true, codes};
 ghost use Rattle.json.specs.Token.{key};
 ghost use Rattle.json.specs.Tree.{members_tokens};
 ghost use Rattle.serde_json.specs.Data.{boolean, no_members};
 ghost use Rattle.serde_json.specs.Data as Members;
 ghost use Rattle.serde_json.specs.Written.{members_outline};
 ghost use Rattle.reply_json.specs.declared.reply.Reply.TheVariants.{Done, Moved, Snapshot, Query, Inventory, Ran, Digest};
+ghost use Rattle.reply_json.specs.Fits.{NumbersFit, MembersFit};
 ghost use Rattle.reply_json.specs.Reply.{members_of, refused_members};
 ghost use Rattle.reply_json.specs.ToJson.{Puts, tokens_of};
 
@@ -103,8 +104,9 @@ impl ToJson for Reply {
 
 // The members of a reply, and the end of its object.
 fn put_members(alloc: Global, writer: &mut Writer, reply: &Reply) -> Result<(), NoMemory>
-    ensures { Puts result writer.old writer.new
+    ensures puts { Puts result writer.old writer.new
         (members_tokens (members_outline (members_of reply.now))) }
+    ensures fits { OnOk result (MembersFit (members_of reply.now)) }
 {
     match reply {
         Reply::Done => put_done(alloc, writer),
@@ -134,8 +136,9 @@ fn put_members(alloc: Global, writer: &mut Writer, reply: &Reply) -> Result<(), 
 }
 
 fn put_done(alloc: Global, writer: &mut Writer) -> Result<(), NoMemory>
-    ensures { Puts result writer.old writer.new
+    ensures puts { Puts result writer.old writer.new
         (members_tokens (members_outline (members_of Done))) }
+    ensures fits { OnOk result (MembersFit (members_of Done)) }
 {
     member(alloc, writer, "ok", &true)?;
     writer.end_object()?;
@@ -149,9 +152,10 @@ fn put_and_ok<T: ToJson>(
     name: &str,
     value: &T,
 ) -> Result<(), NoMemory>
-    ensures { Puts result writer.old writer.new (members_tokens (members_outline (
+    ensures puts { Puts result writer.old writer.new (members_tokens (members_outline (
         Members.member name.now (T.json value.now) (
         Members.member (codes "ok") (boolean true) no_members)))) }
+    ensures fits { OnOk result (NumbersFit (T.json value.now)) }
 {
     member(alloc, writer, name, value)?;
     member(alloc, writer, "ok", &true)?;
@@ -166,9 +170,10 @@ fn put_ok_and<T: ToJson>(
     name: &str,
     value: &T,
 ) -> Result<(), NoMemory>
-    ensures { Puts result writer.old writer.new (members_tokens (members_outline (
+    ensures puts { Puts result writer.old writer.new (members_tokens (members_outline (
         Members.member (codes "ok") (boolean true) (
         Members.member name.now (T.json value.now) no_members)))) }
+    ensures fits { OnOk result (NumbersFit (T.json value.now)) }
 {
     member(alloc, writer, "ok", &true)?;
     member(alloc, writer, name, value)?;
@@ -177,8 +182,9 @@ fn put_ok_and<T: ToJson>(
 }
 
 fn put_moved(alloc: Global, writer: &mut Writer, writes: u64, written: u64) -> Result<(), NoMemory>
-    ensures { Puts result writer.old writer.new
+    ensures puts { Puts result writer.old writer.new
         (members_tokens (members_outline (members_of (Moved writes written)))) }
+    ensures fits { OnOk result (MembersFit (members_of (Moved writes written))) }
 {
     member(alloc, writer, "ok", &true)?;
     member(alloc, writer, "state", &"complete")?;
@@ -194,8 +200,9 @@ fn put_snapshot(
     snapshot: u32,
     ids: &Sequence<Option<ChangeId>>,
 ) -> Result<(), NoMemory>
-    ensures { Puts result writer.old writer.new
+    ensures puts { Puts result writer.old writer.new
         (members_tokens (members_outline (members_of (Snapshot snapshot ids.now)))) }
+    ensures fits { OnOk result (MembersFit (members_of (Snapshot snapshot ids.now))) }
 {
     member(alloc, writer, "ids", ids)?;
     member(alloc, writer, "ok", &true)?;
@@ -212,8 +219,9 @@ fn put_query(
     start: u64,
     length: u64,
 ) -> Result<(), NoMemory>
-    ensures { Puts result writer.old writer.new
+    ensures puts { Puts result writer.old writer.new
         (members_tokens (members_outline (members_of (Query areas.now id.now start length)))) }
+    ensures fits { OnOk result (MembersFit (members_of (Query areas.now id.now start length))) }
 {
     member(alloc, writer, "areas", areas)?;
     member(alloc, writer, "id", id)?;
@@ -230,8 +238,9 @@ fn put_inventory(
     hosts: &Sequence<HostLine>,
     vms: &Sequence<VmLine>,
 ) -> Result<(), NoMemory>
-    ensures { Puts result writer.old writer.new
+    ensures puts { Puts result writer.old writer.new
         (members_tokens (members_outline (members_of (Inventory hosts.now vms.now)))) }
+    ensures fits { OnOk result (MembersFit (members_of (Inventory hosts.now vms.now))) }
 {
     member(alloc, writer, "hosts", hosts)?;
     member(alloc, writer, "ok", &true)?;
@@ -248,8 +257,10 @@ fn put_ran(
     migrations: &Sequence<MigLine>,
     peaks: &Sequence<u64>,
 ) -> Result<(), NoMemory>
-    ensures { Puts result writer.old writer.new (members_tokens (members_outline
+    ensures puts { Puts result writer.old writer.new (members_tokens (members_outline
         (members_of (Ran disturbed.now guests.now migrations.now peaks.now)))) }
+    ensures fits { OnOk result (MembersFit
+        (members_of (Ran disturbed.now guests.now migrations.now peaks.now))) }
 {
     member(alloc, writer, "disturbed", &Disturbed(disturbed))?;
     member(alloc, writer, "guests", guests)?;
@@ -266,8 +277,9 @@ fn put_digest(
     digest: &[u8; 64],
     sectors: u64,
 ) -> Result<(), NoMemory>
-    ensures { Puts result writer.old writer.new
+    ensures puts { Puts result writer.old writer.new
         (members_tokens (members_outline (members_of (Digest digest.now sectors)))) }
+    ensures fits { OnOk result (MembersFit (members_of (Digest digest.now sectors))) }
 {
     member(alloc, writer, "digest", &Digits(digest))?;
     member(alloc, writer, "ok", &true)?;
@@ -282,8 +294,9 @@ fn put_refused(
     error: &Text,
     carried: &Carried,
 ) -> Result<(), NoMemory>
-    ensures { Puts result writer.old writer.new
+    ensures puts { Puts result writer.old writer.new
         (members_tokens (members_outline (refused_members error.now carried.now))) }
+    ensures fits { OnOk result (MembersFit (refused_members error.now carried.now)) }
 {
     match carried {
         Carried::Nothing => {
@@ -322,7 +335,8 @@ fn member<T: ToJson>(
     name: &str,
     value: &T,
 ) -> Result<(), NoMemory>
-    ensures { Puts result writer.old writer.new (key name.now ∷ tokens_of (T.json value.now)) }
+    ensures puts { Puts result writer.old writer.new (key name.now ∷ tokens_of (T.json value.now)) }
+    ensures fits { OnOk result (NumbersFit (T.json value.now)) }
 {
     writer.key(name)?;
     value.put(alloc, writer)

@@ -146,7 +146,8 @@ pub struct MigLine {
     pub mig: u32,
     /// The name of its phase.
     pub phase: Text,
-    /// The place of the last entry that powered its machine off, once it is complete.
+    /// The place of the last entry before its final snapshot that powered its machine off, once it
+    /// is complete.
     pub place: Option<u64>,
     /// The name of its plan.
     pub plan: Text,

@@ -49,7 +49,7 @@ fn a_moved_volume_is_complete(rt: HostRuntime) -> Result<(), Fail> {
 }
 
 fn started(alloc: Global) -> Result<Reply, Fail> {
-    Ok(Reply::Started(Sequence::of(vec![in alloc; 1, 2]?)))
+    Ok(Reply::Started(Sequence::from_vec(vec![in alloc; 1, 2]?)))
 }
 
 #[test]
@@ -137,7 +137,7 @@ fn texts_have_the_shortest_escapes(rt: HostRuntime) -> Result<(), Fail> {
 }
 
 fn snapshot(alloc: Global) -> Result<Reply, Fail> {
-    let ids = Sequence::of(vec![in alloc; None, Some(id(1, 1))]?);
+    let ids = Sequence::from_vec(vec![in alloc; None, Some(id(1, 1))]?);
     Ok(Reply::Snapshot { snapshot: 3, ids })
 }
 
@@ -150,7 +150,7 @@ fn a_snapshot_has_an_identifier_or_null_for_each_disk(rt: HostRuntime) -> Result
 
 fn query(areas: Vec<Area>, id: Option<ChangeId>) -> Reply {
     Reply::Query {
-        areas: Sequence::of(areas),
+        areas: Sequence::from_vec(areas),
         id,
         start: 0,
         length: 131072,
@@ -182,7 +182,7 @@ fn a_query_may_find_no_area(rt: HostRuntime) -> Result<(), Fail> {
 
 fn filled(alloc: Global) -> Result<Reply, Fail> {
     let sectors = vec![in alloc; [0; 512], [171; 512]]?;
-    Ok(Reply::Sectors(Sequence::of(sectors)))
+    Ok(Reply::Sectors(Sequence::from_vec(sectors)))
 }
 
 #[test]
@@ -194,7 +194,7 @@ fn a_filled_sector_is_one_number(rt: HostRuntime) -> Result<(), Fail> {
 fn mixed(alloc: Global) -> Result<Reply, Fail> {
     let mut sector = [90; 512];
     sector[1] = 0xAF;
-    Ok(Reply::Sectors(Sequence::of(vec![in alloc; sector]?)))
+    Ok(Reply::Sectors(Sequence::from_vec(vec![in alloc; sector]?)))
 }
 
 fn mixed_text(alloc: Global) -> Result<String, Fail> {
@@ -215,8 +215,8 @@ fn a_mixed_sector_is_all_its_digits(rt: HostRuntime) -> Result<(), Fail> {
 
 fn inventory(hosts: Vec<HostLine>, vms: Vec<VmLine>) -> Reply {
     Reply::Inventory {
-        hosts: Sequence::of(hosts),
-        vms: Sequence::of(vms),
+        hosts: Sequence::from_vec(hosts),
+        vms: Sequence::from_vec(vms),
     }
 }
 
@@ -227,7 +227,7 @@ fn host(alloc: Global) -> Result<HostLine, Fail> {
 
 fn vm(alloc: Global) -> Result<VmLine, Fail> {
     Ok(VmLine {
-        disks: Sequence::of(vec![in alloc; 83886080, 209715200]?),
+        disks: Sequence::from_vec(vec![in alloc; 83886080, 209715200]?),
         host: Text::of(alloc, "h")?,
         name: Text::of(alloc, "a")?,
         number: 1,
@@ -272,10 +272,10 @@ fn disturbed(alloc: Global) -> Result<Vec<Option<Text>>, Fail> {
 
 fn ran(alloc: Global) -> Result<Reply, Fail> {
     Ok(Reply::Ran {
-        disturbed: Sequence::of(disturbed(alloc)?),
-        guests: Sequence::of(vec![in alloc; guest(alloc)?]?),
-        migrations: Sequence::of(Vec::new(alloc)),
-        peaks: Sequence::of(vec![in alloc; 0, 4]?),
+        disturbed: Sequence::from_vec(disturbed(alloc)?),
+        guests: Sequence::from_vec(vec![in alloc; guest(alloc)?]?),
+        migrations: Sequence::from_vec(Vec::new(alloc)),
+        peaks: Sequence::from_vec(vec![in alloc; 0, 4]?),
     })
 }
 
@@ -289,10 +289,10 @@ fn a_run_tells_guests_and_disturbances(rt: HostRuntime) -> Result<(), Fail> {
 
 fn ran_quietly(migrations: Vec<MigLine>, alloc: Global) -> Reply {
     Reply::Ran {
-        disturbed: Sequence::of(Vec::new(alloc)),
-        guests: Sequence::of(Vec::new(alloc)),
-        migrations: Sequence::of(migrations),
-        peaks: Sequence::of(Vec::new(alloc)),
+        disturbed: Sequence::from_vec(Vec::new(alloc)),
+        guests: Sequence::from_vec(Vec::new(alloc)),
+        migrations: Sequence::from_vec(migrations),
+        peaks: Sequence::from_vec(Vec::new(alloc)),
     }
 }
 
@@ -301,7 +301,7 @@ fn first_checkpoint(alloc: Global) -> Result<Sequence<CheckLine>, Fail> {
         previous: 0,
         current: 2,
     };
-    Ok(Sequence::of(vec![in alloc; first]?))
+    Ok(Sequence::from_vec(vec![in alloc; first]?))
 }
 
 fn paused(alloc: Global) -> Result<MigLine, Fail> {
@@ -309,7 +309,7 @@ fn paused(alloc: Global) -> Result<MigLine, Fail> {
         cause: None,
         checkpoints: first_checkpoint(alloc)?,
         dv: Text::of(alloc, "Paused")?,
-        marks: Sequence::of(vec![in alloc; 4]?),
+        marks: Sequence::from_vec(vec![in alloc; 4]?),
         mig: 1,
         phase: Text::of(alloc, "CopyingPaused")?,
         place: None,
@@ -317,7 +317,7 @@ fn paused(alloc: Global) -> Result<MigLine, Fail> {
         state: Text::of(alloc, "paused")?,
         vm: Text::of(alloc, "a")?,
         writes: None,
-        written: Sequence::of(vec![in alloc; 256]?),
+        written: Sequence::from_vec(vec![in alloc; 256]?),
     })
 }
 
@@ -330,28 +330,52 @@ fn a_run_tells_migrations(rt: HostRuntime) -> Result<(), Fail> {
     shows(&rt, rt.alloc(), &reply, text)
 }
 
-fn later_checkpoint(alloc: Global) -> Result<Sequence<CheckLine>, Fail> {
-    let later = CheckLine {
-        previous: 2,
-        current: 3,
-    };
-    Ok(Sequence::of(vec![in alloc; later]?))
+fn checkpoint(previous: u32, current: u32) -> CheckLine {
+    CheckLine { previous, current }
 }
 
-fn ended(alloc: Global, cause: Option<Text>) -> Result<Reply, Fail> {
+fn all_checkpoints(alloc: Global) -> Result<Sequence<CheckLine>, Fail> {
+    let checks = vec![in alloc; checkpoint(0, 2), checkpoint(2, 3), checkpoint(3, 4)]?;
+    Ok(Sequence::from_vec(checks))
+}
+
+fn completed(alloc: Global) -> Result<MigLine, Fail> {
     let mut line = paused(alloc)?;
-    line.cause = cause;
-    line.checkpoints = later_checkpoint(alloc)?;
+    line.checkpoints = all_checkpoints(alloc)?;
+    line.dv = Text::of(alloc, "Succeeded")?;
+    line.marks = Sequence::from_vec(vec![in alloc; 4, 7, 11]?);
+    line.phase = Text::of(alloc, "Completed")?;
     line.place = Some(9);
+    line.state = Text::of(alloc, "complete")?;
     line.writes = Some(3);
-    Ok(Reply::Status(Sequence::of(vec![in alloc; line]?)))
+    line.written = Sequence::from_vec(vec![in alloc; 256, 128, 128]?);
+    Ok(line)
+}
+
+fn failed(alloc: Global) -> Result<MigLine, Fail> {
+    let mut line = paused(alloc)?;
+    line.cause = Some(Text::of(alloc, "volume")?);
+    line.phase = Text::of(alloc, "Failed")?;
+    line.state = Text::of(alloc, "failed")?;
+    Ok(line)
+}
+
+fn status(alloc: Global, line: MigLine) -> Result<Reply, Fail> {
+    Ok(Reply::Status(Sequence::from_vec(vec![in alloc; line]?)))
 }
 
 #[test]
-fn a_migration_may_have_a_place_and_a_cause(rt: HostRuntime) -> Result<(), Fail> {
-    let cause = Text::of(rt.alloc(), "volume")?;
-    let reply = ended(rt.alloc(), Some(cause))?;
+fn a_completed_migration_has_a_place_and_no_cause(rt: HostRuntime) -> Result<(), Fail> {
+    let reply = status(rt.alloc(), completed(rt.alloc())?)?;
     let text =
-        r#"{"migrations":[{"cause":"volume","checkpoints":[["snapshot-2","snapshot-3"]],"dv":"Paused","marks":[4],"mig":1,"phase":"CopyingPaused","place":9,"plan":"p","state":"paused","vm":"a","writes":3,"written":[256]}],"ok":true}"#;
+        r#"{"migrations":[{"cause":null,"checkpoints":[["","snapshot-2"],["snapshot-2","snapshot-3"],["snapshot-3","snapshot-4"]],"dv":"Succeeded","marks":[4,7,11],"mig":1,"phase":"Completed","place":9,"plan":"p","state":"complete","vm":"a","writes":3,"written":[256,128,128]}],"ok":true}"#;
+    shows(&rt, rt.alloc(), &reply, text)
+}
+
+#[test]
+fn a_failed_migration_has_a_cause_and_no_place(rt: HostRuntime) -> Result<(), Fail> {
+    let reply = status(rt.alloc(), failed(rt.alloc())?)?;
+    let text =
+        r#"{"migrations":[{"cause":"volume","checkpoints":[["","snapshot-2"]],"dv":"Paused","marks":[4],"mig":1,"phase":"Failed","place":null,"plan":"p","state":"failed","vm":"a","writes":null,"written":[256]}],"ok":true}"#;
     shows(&rt, rt.alloc(), &reply, text)
 }

@@ -1,21 +1,19 @@
 //! Numbers, truth values, texts, sectors, and values that may be missing.
 ghost use Rattle.std.specs.Prelude.{◌≡◌, ◌==◌, ◌++◌, IfOk, OnOk, string_bytes, decimal, encode_utf8_all};
 ghost use Rattle.std.specs.List.{list_all};
-ghost use Rattle.change_id.specs.ChangeId.{spelling};
 ghost use Rattle.reply_json.specs.Values.{snapshot_text as text_of_snapshot};
 
 use crate::Text;
 use crate::to_json::ToJson;
 use basics::NoMemory;
-use change_id::ChangeId;
+use change_id::{ChangeId, MAX_ID_BYTES, write_to};
 use json::Writer;
 use std::alloc::Global;
-use uuid::Uuid;
 
 impl ToJson for u64 {
-    ghost use Rattle.serde_json.specs.Data.{number, unsigned};
+    ghost use Rattle.reply_json.specs.Values.{number_of};
 
-    ghost json = { λ n. number (unsigned n) };
+    ghost json = { number_of };
 
     fn put(&self, _alloc: Global, writer: &mut Writer) -> Result<(), NoMemory> {
         writer.u64(*self)?;
@@ -24,9 +22,9 @@ impl ToJson for u64 {
 }
 
 impl ToJson for u32 {
-    ghost use Rattle.serde_json.specs.Data.{number, unsigned};
+    ghost use Rattle.reply_json.specs.Values.{number_of};
 
-    ghost json = { λ n. number (unsigned n) };
+    ghost json = { number_of };
 
     fn put(&self, _alloc: Global, writer: &mut Writer) -> Result<(), NoMemory> {
         writer.u64(u64::from(*self))?;
@@ -88,25 +86,15 @@ impl ToJson for ChangeId {
 
     ghost json = { id_data };
 
-    fn put(&self, alloc: Global, writer: &mut Writer) -> Result<(), NoMemory> {
-        let text = id_text(alloc, self)?;
-        writer.string(text.as_str())?;
+    fn put(&self, _alloc: Global, writer: &mut Writer) -> Result<(), NoMemory> {
+        let mut spelled = [0; MAX_ID_BYTES];
+        let len = write_to(self, &mut spelled);
+        let Ok(text) = std::str::from_utf8(&spelled[..len]) else {
+            unreachable!()
+        };
+        writer.string(text)?;
         Ok(())
     }
-}
-
-// The spelling of an identifier, also of one whose number is 0.
-fn id_text(alloc: Global, id: &ChangeId) -> Result<String, NoMemory>
-    ensures { IfOk result (λ text. string_bytes text ≡ spelling id.now.uuid id.now.seq) }
-{
-    let mut buffer = [0; 36];
-    let uuid = Uuid::from_u128(id.uuid)
-        .hyphenated()
-        .encode_lower(&mut buffer);
-    let mut text = String::from_str(alloc, uuid)?;
-    text.push_str("/")?;
-    push_number(&mut text, id.seq)?;
-    Ok(text)
 }
 
 /// The text of a snapshot by its id.

@@ -13,6 +13,10 @@ slice_get-back (x ∷ xs) ys k =
     let next : ◌≡◌ {A = ℕ} (suc (length xs) + k) (suc (length xs + k)) = omega arith in
     ap (slice_get (x ∷ (xs ++ ys))) next ∙ slice_get-back xs ys k
 
+pub slice_get-last : {X : Type 0} (xs : List X) (x : X) → slice_get (xs ++ x ∷ []) (length xs) ≡ Some x
+slice_get-last [] x = refl
+slice_get-last (y ∷ ys) x = slice_get-last ys x
+
 pub slice_get-take : {X : Type 0} (xs : List X) (n k : ℕ) → k < n → slice_get (take n xs) k ≡ slice_get xs k
 slice_get-take xs zero k h = absurd (omega arith)
 slice_get-take [] (suc n) k h = refl

@@ -8,7 +8,7 @@ pub mod NextRun
 pub mod PageLaws
 pub mod PageWithin
 pub mod PageSectors
-pub mod PageFilled
+pub mod PageMade
 pub mod Touched
 pub mod Volumes
 pub mod NextAt

@@ -12,7 +12,7 @@ use Rattle.std.proofs.lemmas.List.Sums.{sum_by-cons}
 use Rattle.std.proofs.lemmas.List.Elements.{recursion_from_All}
 use Rattle.sector_model.specs.Disk.{replaced}
 use Rattle.sector_model.specs.Run.{end_of, has, in_runs, AreSpaced, AreSpacedFrom}
-use Rattle.sector_model.specs.VolumeContents.{fill_loose}
+use Rattle.sector_model.specs.VolumeContents.{with_found}
 use Rattle.sector_model.specs.LooseRuns.{flags_of, RunsAreUnique, LooseRunsCount, LooseRunsGrow, NoLooseRuns}
 use Rattle.sector_model.specs.declared.run.Run.{Run}
 use Rattle.sector_model.specs.declared.sector.Sector.{Sector}
@@ -65,31 +65,31 @@ runs_are_unique a b one two same = unique-from 0 a b one two same
 -- ---- flags sector by sector
 
 -- a stretch without loose sectors is kept by a filling
-fill-tight : (b : Bool) (loose : List Bool) (x : Sector) (xs filling : List Sector) → b ≡ false → fill_loose (b ∷ loose) (x ∷ xs) filling ≡ x ∷ fill_loose loose xs filling
+fill-tight : (b : Bool) (loose : List Bool) (x : Sector) (xs filling : List Sector) → b ≡ false → with_found (b ∷ loose) (x ∷ xs) filling ≡ x ∷ with_found loose xs filling
 fill-tight false loose x xs filling is = refl
 fill-tight true loose x xs filling is = absurd (false≢true (sym is))
 
-fill-one : (b : Bool) (loose : List Bool) (x f : Sector) (xs filling : List Sector) → b ≡ true → fill_loose (b ∷ loose) (x ∷ xs) (f ∷ filling) ≡ f ∷ fill_loose loose xs filling
+fill-one : (b : Bool) (loose : List Bool) (x f : Sector) (xs filling : List Sector) → b ≡ true → with_found (b ∷ loose) (x ∷ xs) (f ∷ filling) ≡ f ∷ with_found loose xs filling
 fill-one true loose x f xs filling is = refl
 fill-one false loose x f xs filling is = absurd (false≢true is)
 
 pub fill-gap : (test : ℕ → Bool) (gap zs filling : List Sector) (a m b n : ℕ) → length gap + n ≡ m → a + length gap ≡ b → ((s : ℕ) → a ≤ s → s < b → test s ≡ false)
-    → fill_loose (map test (range_with_len a m)) (gap ++ zs) filling ≡ gap ++ fill_loose (map test (range_with_len b n)) zs filling
+    → with_found (map test (range_with_len a m)) (gap ++ zs) filling ≡ gap ++ with_found (map test (range_with_len b n)) zs filling
 fill-gap test [] zs filling a m b n long ends none =
     let one : m ≡ n = omega (arith, long) in
     let two : a ≡ b = omega (arith, ends) in
-    ap (λ k. fill_loose (map test (range_with_len a k)) zs filling) one ∙ ap (λ k. fill_loose (map test (range_with_len k n)) zs filling) two
+    ap (λ k. with_found (map test (range_with_len a k)) zs filling) one ∙ ap (λ k. with_found (map test (range_with_len k n)) zs filling) two
 fill-gap test (x ∷ gap) zs filling a zero b n long ends none = absurd (omega (arith, long))
 fill-gap test (x ∷ gap) zs filling a (suc m) b n long ends none =
     fill-tight (test a) (map test (range_with_len (a + 1) m)) x (gap ++ zs) filling (none a (omega arith) (omega (arith, ends)))
     ∙ ap (λ (rest : List Sector). x ∷ rest) (fill-gap test gap zs filling (a + 1) m b n (omega (arith, long)) (omega (arith, ends)) (λ s low less. none s (omega (arith, low)) less))
 
 pub fill-run : (test : ℕ → Bool) (mid zs new filling : List Sector) (a m b n : ℕ) → length mid ≡ length new → length mid + n ≡ m → a + length mid ≡ b → ((s : ℕ) → a ≤ s → s < b → test s ≡ true)
-    → fill_loose (map test (range_with_len a m)) (mid ++ zs) (new ++ filling) ≡ new ++ fill_loose (map test (range_with_len b n)) zs filling
+    → with_found (map test (range_with_len a m)) (mid ++ zs) (new ++ filling) ≡ new ++ with_found (map test (range_with_len b n)) zs filling
 fill-run test [] zs [] filling a m b n same long ends all =
     let one : m ≡ n = omega (arith, long) in
     let two : a ≡ b = omega (arith, ends) in
-    ap (λ k. fill_loose (map test (range_with_len a k)) zs filling) one ∙ ap (λ k. fill_loose (map test (range_with_len k n)) zs filling) two
+    ap (λ k. with_found (map test (range_with_len a k)) zs filling) one ∙ ap (λ k. with_found (map test (range_with_len k n)) zs filling) two
 fill-run test [] zs (f ∷ new) filling a m b n same long ends all = absurd (omega (arith, same))
 fill-run test (x ∷ mid) zs [] filling a m b n same long ends all = absurd (omega (arith, same))
 fill-run test (x ∷ mid) zs (f ∷ new) filling a zero b n same long ends all = absurd (omega (arith, long))
@@ -106,9 +106,9 @@ flags-same test other a (suc n) same =
 
 -- ---- a filling, run by run
 
-abbrev pub fill_runs : List Run → (sectors filling : List Sector) → List Sector
-fill_runs [] sectors filling = sectors
-fill_runs (r ∷ rs) sectors filling = fill_runs rs (replaced sectors r.first (take r.count filling)) (drop r.count filling)
+abbrev pub take_runs : List Run → (sectors filling : List Sector) → List Sector
+take_runs [] sectors filling = sectors
+take_runs (r ∷ rs) sectors filling = take_runs rs (replaced sectors r.first (take r.count filling)) (drop r.count filling)
 
 -- a list in three parts
 pub record Parts (a k : ℕ) (xs gap mid rest : List Sector) : Type 0 where
@@ -133,19 +133,19 @@ replaced-part pre gap mid rest new first at long =
     let n : length front ≡ first = length-append pre gap ∙ at in
     let before : take first xs ≡ front = ap (take first) shape ∙ ap (λ k. take k (front ++ (mid ++ rest))) (sym n) ∙ take-append_seam front (mid ++ rest) in
     let behind : drop (first + length new) xs ≡ rest =
-        ap (drop (first + length new)) (shape ∙ sym (append_assoc front mid rest))
-        ∙ ap (λ k. drop k ((front ++ mid) ++ rest)) (let m : first + length new ≡ length (front ++ mid) = omega (arith, n, long, length-append front mid) in m)
-        ∙ drop-append_seam (front ++ mid) rest in
+    ap (drop (first + length new)) (shape ∙ sym (append_assoc front mid rest))
+    ∙ ap (λ k. drop k ((front ++ mid) ++ rest)) (let m : first + length new ≡ length (front ++ mid) = omega (arith, n, long, length-append front mid) in m)
+    ∙ drop-append_seam (front ++ mid) rest in
     ap (λ (ys : List Sector). ys ++ new ++ drop (first + length new) xs) before ∙ ap (λ (ys : List Sector). front ++ new ++ ys) behind
     ∙ ap (λ (ys : List Sector). ys ++ rest) (append_assoc pre gap new)
 
-fill_runs-at : (rs : List Run) (m : ℕ) (pre suf filling : List Sector) → AreSpacedFrom m rs → length pre ≡ m → AllByRecursion (λ r. end_of r ≤ m + length suf) rs
-    → length filling ≡ sum_by (λ (r : Run). r.count) rs → fill_runs rs (pre ++ suf) filling ≡ pre ++ fill_loose (map (in_runs rs) (range_with_len m (length suf))) suf filling
-fill_runs-at [] m pre suf filling spaced at ends long =
+take_runs-at : (rs : List Run) (m : ℕ) (pre suf filling : List Sector) → AreSpacedFrom m rs → length pre ≡ m → AllByRecursion (λ r. end_of r ≤ m + length suf) rs
+    → length filling ≡ sum_by (λ (r : Run). r.count) rs → take_runs rs (pre ++ suf) filling ≡ pre ++ with_found (map (in_runs rs) (range_with_len m (length suf))) suf filling
+take_runs-at [] m pre suf filling spaced at ends long =
     ap (λ (ys : List Sector). pre ++ ys) (sym (
-    ap (λ (ys : List Sector). fill_loose (map (in_runs []) (range_with_len m (length suf))) ys filling) (sym (append-nil suf))
+    ap (λ (ys : List Sector). with_found (map (in_runs []) (range_with_len m (length suf))) ys filling) (sym (append-nil suf))
     ∙ fill-gap (in_runs []) suf [] filling m (length suf) (m + length suf) 0 (omega arith) refl (λ s low less. refl) ∙ append-nil suf))
-fill_runs-at (r ∷ rs) m pre suf filling spaced at ends long =
+take_runs-at (r ∷ rs) m pre suf filling spaced at ends long =
     let a : ℕ = r.first - m in
     let sum = sum_by-cons (λ (q : Run). q.count) r rs in
     let fits : a + r.count ≤ length suf = omega (arith, ends.0, spaced.0) in
@@ -160,33 +160,33 @@ fill_runs-at (r ∷ rs) m pre suf filling spaced at ends long =
     let new_long : length new ≡ r.count = omega (arith, length-take r.count filling, long, sum) in
     let rest_long : length suf ≡ a + r.count + length rest = sym (ap (λ (ys : List Sector). length ys) parts.all) ∙ length-append gap (mid ++ rest) ∙ (let l = length-append mid rest in omega (arith, l, gap_long, mid_long)) in
     let made : replaced (pre ++ suf) r.first new ≡ (pre ++ (gap ++ new)) ++ rest =
-        ap (λ (ys : List Sector). replaced (pre ++ ys) r.first new) (sym parts.all)
-        ∙ replaced-part pre gap mid rest new r.first (omega (arith, at, gap_long, spaced.0)) (omega (arith, mid_long, new_long)) in
+    ap (λ (ys : List Sector). replaced (pre ++ ys) r.first new) (sym parts.all)
+    ∙ replaced-part pre gap mid rest new r.first (omega (arith, at, gap_long, spaced.0)) (omega (arith, mid_long, new_long)) in
     let front_long : length (pre ++ (gap ++ new)) ≡ end_of r = length-append pre (gap ++ new) ∙ (let l = length-append gap new in omega (arith, l, at, gap_long, new_long, spaced.0)) in
     let ends_rest : AllByRecursion (λ q. end_of q ≤ end_of r + length rest) rs =
-        subst (λ n. AllByRecursion (λ q. end_of q ≤ n) rs) (let same : m + length suf ≡ end_of r + length rest = omega (arith, rest_long, spaced.0) in same) ends.1 in
-    let on = fill_runs-at rs (end_of r) (pre ++ (gap ++ new)) rest more (from_earlier (end_of r + 1) (end_of r) rs spaced.2 (omega arith)) front_long ends_rest
-        (omega (arith, length-drop r.count filling, long, sum)) in
+    subst (λ n. AllByRecursion (λ q. end_of q ≤ n) rs) (let same : m + length suf ≡ end_of r + length rest = omega (arith, rest_long, spaced.0) in same) ends.1 in
+    let on = take_runs-at rs (end_of r) (pre ++ (gap ++ new)) rest more (from_earlier (end_of r + 1) (end_of r) rs spaced.2 (omega arith)) front_long ends_rest
+    (omega (arith, length-drop r.count filling, long, sum)) in
     let later : map (in_runs rs) (range_with_len (end_of r) (length rest)) ≡ map (in_runs (r ∷ rs)) (range_with_len (end_of r) (length rest)) =
-        flags-same (in_runs rs) (in_runs (r ∷ rs)) (end_of r) (length rest) (λ s low less. sym (past_first r rs s low)) in
-    let told : fill_loose (map (in_runs (r ∷ rs)) (range_with_len m (length suf))) suf filling
-        ≡ gap ++ (new ++ fill_loose (map (in_runs (r ∷ rs)) (range_with_len (end_of r) (length rest))) rest more) =
-        ap (λ (ys : List Sector). fill_loose (map (in_runs (r ∷ rs)) (range_with_len m (length suf))) ys filling) (sym parts.all)
-        ∙ fill-gap (in_runs (r ∷ rs)) gap (mid ++ rest) filling m (length suf) r.first (r.count + length rest) (omega (arith, gap_long, rest_long)) (omega (arith, gap_long, spaced.0))
-        (λ s low less. none_in_gap m r rs s spaced less)
-        ∙ ap (λ (ys : List Sector). gap ++ ys) (
-        ap (λ (ys : List Sector). fill_loose (map (in_runs (r ∷ rs)) (range_with_len r.first (r.count + length rest))) (mid ++ rest) ys) (sym (take-append-drop r.count filling))
-        ∙ fill-run (in_runs (r ∷ rs)) mid rest new more r.first (r.count + length rest) (end_of r) (length rest) (omega (arith, mid_long, new_long)) (omega (arith, mid_long)) (omega (arith, mid_long))
-        (λ s low less. in_first r rs s low less)) in
-    ap (λ (ys : List Sector). fill_runs rs ys more) made ∙ on
-    ∙ append_assoc pre (gap ++ new) (fill_loose (map (in_runs rs) (range_with_len (end_of r) (length rest))) rest more)
-    ∙ ap (λ (ys : List Sector). pre ++ ys) (append_assoc gap new (fill_loose (map (in_runs rs) (range_with_len (end_of r) (length rest))) rest more)
-    ∙ ap (λ (l : List Bool). gap ++ (new ++ fill_loose l rest more)) later ∙ sym told)
+    flags-same (in_runs rs) (in_runs (r ∷ rs)) (end_of r) (length rest) (λ s low less. sym (past_first r rs s low)) in
+    let told : with_found (map (in_runs (r ∷ rs)) (range_with_len m (length suf))) suf filling
+    ≡ gap ++ (new ++ with_found (map (in_runs (r ∷ rs)) (range_with_len (end_of r) (length rest))) rest more) =
+    ap (λ (ys : List Sector). with_found (map (in_runs (r ∷ rs)) (range_with_len m (length suf))) ys filling) (sym parts.all)
+    ∙ fill-gap (in_runs (r ∷ rs)) gap (mid ++ rest) filling m (length suf) r.first (r.count + length rest) (omega (arith, gap_long, rest_long)) (omega (arith, gap_long, spaced.0))
+    (λ s low less. none_in_gap m r rs s spaced less)
+    ∙ ap (λ (ys : List Sector). gap ++ ys) (
+    ap (λ (ys : List Sector). with_found (map (in_runs (r ∷ rs)) (range_with_len r.first (r.count + length rest))) (mid ++ rest) ys) (sym (take-append-drop r.count filling))
+    ∙ fill-run (in_runs (r ∷ rs)) mid rest new more r.first (r.count + length rest) (end_of r) (length rest) (omega (arith, mid_long, new_long)) (omega (arith, mid_long)) (omega (arith, mid_long))
+    (λ s low less. in_first r rs s low less)) in
+    ap (λ (ys : List Sector). take_runs rs ys more) made ∙ on
+    ∙ append_assoc pre (gap ++ new) (with_found (map (in_runs rs) (range_with_len (end_of r) (length rest))) rest more)
+    ∙ ap (λ (ys : List Sector). pre ++ ys) (append_assoc gap new (with_found (map (in_runs rs) (range_with_len (end_of r) (length rest))) rest more)
+    ∙ ap (λ (l : List Bool). gap ++ (new ++ with_found l rest more)) later ∙ sym told)
 
-pub fill_runs-is : (rs : List Run) (sectors filling : List Sector) → AreSpaced rs → AllByRecursion (λ r. end_of r ≤ length sectors) rs → length filling ≡ sum_by (λ (r : Run). r.count) rs
-    → fill_runs rs sectors filling ≡ fill_loose (flags_of (length sectors) rs) sectors filling
-fill_runs-is rs sectors filling spaced ends long =
-    fill_runs-at rs 0 [] sectors filling spaced refl (subst (λ n. AllByRecursion (λ r. end_of r ≤ n) rs) (let same : length sectors ≡ 0 + length sectors = omega arith in same) ends) long
+pub take_runs-is : (rs : List Run) (sectors filling : List Sector) → AreSpaced rs → AllByRecursion (λ r. end_of r ≤ length sectors) rs → length filling ≡ sum_by (λ (r : Run). r.count) rs
+    → take_runs rs sectors filling ≡ with_found (flags_of (length sectors) rs) sectors filling
+take_runs-is rs sectors filling spaced ends long =
+    take_runs-at rs 0 [] sectors filling spaced refl (subst (λ n. AllByRecursion (λ r. end_of r ≤ n) rs) (let same : length sectors ≡ 0 + length sectors = omega arith in same) ends) long
 
 -- ---- how many are loose
 
@@ -236,7 +236,7 @@ counted-at (r ∷ rs) m n spaced ends =
     let start : m + a ≡ r.first = omega (arith, spaced.0) in
     let sum = sum_by-cons (λ (q : Run). q.count) r rs in
     let on = counted-at rs (end_of r) k (from_earlier (end_of r + 1) (end_of r) rs spaced.2 (omega arith))
-        (subst (λ x. AllByRecursion (λ q. end_of q ≤ x) rs) (let same : m + n ≡ end_of r + k = omega (arith, ends.0) in same) ends.1) in
+    (subst (λ x. AllByRecursion (λ q. end_of q ≤ x) rs) (let same : m + n ≡ end_of r + k = omega (arith, ends.0) in same) ends.1) in
     let later = ap (λ (l : List Bool). count_by (λ (b : Bool). b) l) (flags-same (in_runs (r ∷ rs)) (in_runs rs) (end_of r) k (λ s low less. past_first r rs s low)) in
     let run = count-run (in_runs (r ∷ rs)) r.first r.count k (λ s low less. in_first r rs s low less) in
     ap (λ x. count_by (λ (b : Bool). b) (map (in_runs (r ∷ rs)) (range_with_len m x))) split
@@ -292,9 +292,9 @@ loose_runs_grow sectors loose new first written fits grown =
     let room : first + length (replicate count true) ≤ length (flags_of n loose) = omega (arith, fits, long, length-flags n loose) in
     let kept : length (replaced sectors first written) ≡ n = length-replaced sectors written first fits in
     let same : flags_of n new ≡ replaced (flags_of n loose) first (replicate count true) =
-        same_flags (flags_of n new) (replaced (flags_of n loose) first (replicate count true))
-        (length-flags n new ∙ sym (length-replaced (flags_of n loose) (replicate count true) first room ∙ length-flags n loose))
-        (λ k less. grown-at n loose new first count k fits (omega (arith, less, length-flags n new)) grown) in
+    same_flags (flags_of n new) (replaced (flags_of n loose) first (replicate count true))
+    (length-flags n new ∙ sym (length-replaced (flags_of n loose) (replicate count true) first room ∙ length-flags n loose))
+    (λ k less. grown-at n loose new first count k fits (omega (arith, less, length-flags n new)) grown) in
     ap (λ (l : List Bool). record { sectors = replaced sectors first written; loose = l }) (ap (λ k. flags_of k new) kept ∙ same)
 
 none-flagged : (a n : ℕ) → map (in_runs []) (range_with_len a n) ≡ replicate n false

@@ -1,13 +1,14 @@
 -- The next run of a list of runs: where it begins and ends, found sector by sector, and what it leaves of the areas.
-use Rattle.std.proofs.Common.{◌≡◌, ℕ, ◌+◌, ◌-◌, ◌<◌, ◌≤◌, List, [], ◌∷◌, Bool, true, false, cond, ltb, Some, None, refl, sym, ap, subst, ◌∙◌, arith, ◌⊎◌, inl, inr}
-use Rattle.std.specs.List.{AllByRecursion}
+use Rattle.std.proofs.Common.{◌≡◌, ℕ, ◌+◌, ◌-◌, ◌<◌, ◌≤◌, List, [], ◌∷◌, Bool, true, false, cond, ltb, Option, Some, None, MatchOption, refl, sym, ap, subst, ◌∙◌, arith, ◌⊎◌, inl, inr}
+use Rattle.std.specs.List.{AllByRecursion, All}
 use Rattle.std.proofs.lemmas.Bool.{lt-ltb, le-ltb, cases_lt, ltb-true, ltb-false, false≢true}
 use Rattle.std.proofs.lemmas.Option.{none-some, same_Some}
-use Rattle.sector_model.specs.Run.{end_of, from_sector, next_run, in_runs, AreSpacedFrom}
+use Rattle.std.proofs.lemmas.List.Elements.{recursion_from_All}
+use Rattle.sector_model.specs.Run.{end_of, from_sector, next_run, in_runs, AreSpacedFrom, AreSpaced, NoneFrom, IsNext}
 use Rattle.sector_model.specs.Page.{areas_from}
 use Rattle.sector_model.specs.declared.run.Run.{Run}
 use Rattle.sector_model.proofs.Spacing.{none_before, none_in_gap, in_first, past_first}
-use Rattle.sector_model.proofs.PageLaws.{kept, dropped, areas_from-later}
+use Rattle.sector_model.proofs.PageLaws.{clip_end, kept, dropped, areas_from-later}
 
 pub run_is : (a b m n : ℕ) → a ≡ b → m ≡ n → ◌≡◌ {A = Run} (record { first = a; count = m }) (record { first = b; count = n })
 run_is a b m n same long = ap (λ x. record { first = x; count = m }) same ∙ ap (λ y. record { first = b; count = y }) long
@@ -83,45 +84,80 @@ next_none m (r ∷ rs) at spaced none =
       | inr over ↦ next_dropped r rs at over ∙ next_none (end_of r + 1) rs at spaced.2 (λ s from. sym (past_first r rs s (omega arith)) ∙ none s from)
     ]
 
--- where the next run lies, and that the areas from the sector on are it and those from its end on
+-- the next run, and that the areas from the sector on are it and those from its end on
 pub record Next (rs : List Run) (at c : ℕ) (r : Run) : Type 0 where
-  pub from : at ≤ r.first
-  pub some : 0 < r.count
-  pub ends : end_of r ≤ c
+  pub is : IsNext rs at c r
   pub areas : areas_from at rs ≡ r ∷ areas_from (end_of r) rs
 
-clip_facts : (b : Bool) (r : Run) (at : ℕ) → ltb r.first at ≡ b → at < end_of r → 0 < r.count
-    → (at ≤ (cond b (record { first = at; count = end_of r - at }) r).first) × (0 < (cond b (record { first = at; count = end_of r - at }) r).count)
-    × (end_of (cond b (record { first = at; count = end_of r - at }) r) ≡ end_of r)
-clip_facts true r at is past some = (omega arith, omega arith, omega arith)
-clip_facts false r at is past some = let from = ltb-false r.first at is in (omega arith, some, refl)
-
-kept_next : (m : ℕ) (r : Run) (rs : List Run) (at c : ℕ) → AreSpacedFrom m (r ∷ rs) → end_of r ≤ c → at < end_of r → Next (r ∷ rs) at c (from_sector at r)
-kept_next m r rs at c spaced ends past =
-    let facts = clip_facts (ltb r.first at) r at refl past spaced.1 in
+next_clipped : (b : Bool) (m at c : ℕ) (r : Run) (rs : List Run) → ltb r.first at ≡ b → AreSpacedFrom m (r ∷ rs) → end_of r ≤ c → at < end_of r
+    → IsNext (r ∷ rs) at c (cond b (record { first = at; count = end_of r - at }) r)
+next_clipped true m at c r rs is spaced inside past =
+    let before = ltb-true r.first at is in
     record {
-      from = facts.0;
-      some = facts.1;
-      ends = omega (arith, facts.2);
+      from = omega arith;
+      some = omega arith;
+      inside = omega arith;
+      held = λ s from less. in_first r rs s (omega arith) (omega arith);
+      gap = λ s from less. absurd (omega arith);
+    }
+next_clipped false m at c r rs is spaced inside past =
+    let behind = ltb-false r.first at is in
+    record {
+      from = omega arith;
+      some = spaced.1;
+      inside = inside;
+      held = λ s from less. in_first r rs s from less;
+      gap = λ s from less. none_in_gap m r rs s spaced less;
+    }
+
+first_next : (m : ℕ) (r : Run) (rs : List Run) (at c : ℕ) → AreSpacedFrom m (r ∷ rs) → end_of r ≤ c → at < end_of r → Next (r ∷ rs) at c (from_sector at r)
+first_next m r rs at c spaced inside past =
+    let ends = clip_end r at past in
+    record {
+      is = next_clipped (ltb r.first at) m at c r rs refl spaced inside past;
       areas = kept at r rs past ∙ ap (λ (more : List Run). from_sector at r ∷ more)
-          (areas_from-later at (end_of r + 1) rs spaced.2 (omega arith) ∙ sym (dropped (end_of (from_sector at r)) r rs (omega (arith, facts.2)) ∙ areas_from-later (end_of (from_sector at r)) (end_of r + 1) rs spaced.2 (omega (arith, facts.2))));
+          (areas_from-later at (end_of r + 1) rs spaced.2 (omega arith) ∙ sym (dropped (end_of (from_sector at r)) r rs (omega (arith, ends)) ∙ areas_from-later (end_of (from_sector at r)) (end_of r + 1) rs spaced.2 (omega (arith, ends))));
+    }
+
+later_next : (x : Run) (rs : List Run) (at c : ℕ) (r : Run) → end_of x ≤ at → Next rs at c r → Next (x ∷ rs) at c r
+later_next x rs at c r over next =
+    let from = next.is.from in
+    record {
+      is = record {
+        from = from;
+        some = next.is.some;
+        inside = next.is.inside;
+        held = λ s f less. past_first x rs s (omega arith) ∙ next.is.held s f less;
+        gap = λ s f less. past_first x rs s (omega arith) ∙ next.is.gap s f less;
+      };
+      areas = dropped at x rs over ∙ next.areas ∙ ap (λ (more : List Run). r ∷ more) (sym (dropped (end_of r) x rs (omega (arith, from))));
     }
 
 pub next_is : (m c : ℕ) (rs : List Run) (at : ℕ) (r : Run) → AreSpacedFrom m rs → AllByRecursion (λ x. end_of x ≤ c) rs → next_run at rs ≡ Some r → Next rs at c r
 next_is m c [] at r spaced ends next = absurd (none-some r next)
 next_is m c (x ∷ rs) at r spaced ends next =
     elim (cases_lt at (end_of x)) [
-      | inl past ↦ subst (Next (x ∷ rs) at c) (same_Some (from_sector at x) r (sym (next_kept x rs at past) ∙ next)) (kept_next m x rs at c spaced ends.0 past)
+      | inl past ↦ subst (Next (x ∷ rs) at c) (same_Some (from_sector at x) r (sym (next_kept x rs at past) ∙ next)) (first_next m x rs at c spaced ends.0 past)
+      | inr over ↦ later_next x rs at c r over (next_is (end_of x + 1) c rs at r spaced.2 ends.1 (sym (next_dropped x rs at over) ∙ next))
+    ]
+
+none_next : (rs : List Run) (at : ℕ) → next_run at rs ≡ None → NoneFrom rs at × (areas_from at rs ≡ [])
+none_next [] at none = (λ s from. refl, refl)
+none_next (r ∷ rs) at none =
+    elim (cases_lt at (end_of r)) [
+      | inl past ↦ absurd (none-some (from_sector at r) (sym none ∙ next_kept r rs at past))
       | inr over ↦
-          let rest : Next rs at c r = next_is (end_of x + 1) c rs at r spaced.2 ends.1 (sym (next_dropped x rs at over) ∙ next) in
-          let later : end_of x ≤ end_of r = omega (arith, rest.from) in
-          record { from = rest.from; some = rest.some; ends = rest.ends; areas = dropped at x rs over ∙ rest.areas ∙ ap (λ (more : List Run). r ∷ more) (sym (dropped (end_of r) x rs later)) }
+          let rest = none_next rs at (sym (next_dropped r rs at over) ∙ none) in
+          (λ s from. past_first r rs s (omega arith) ∙ rest.0 s from, dropped at r rs over ∙ rest.1)
     ]
 
 pub areas_from-none : (rs : List Run) (at : ℕ) → next_run at rs ≡ None → areas_from at rs ≡ []
-areas_from-none [] at none = refl
-areas_from-none (r ∷ rs) at none =
-    elim (cases_lt at (end_of r)) [
-      | inl past ↦ absurd (none-some (from_sector at r) (sym none ∙ next_kept r rs at past))
-      | inr over ↦ dropped at r rs over ∙ areas_from-none rs at (sym (next_dropped r rs at over) ∙ none)
-    ]
+areas_from-none rs at none = (none_next rs at none).1
+
+found_is : (at c : ℕ) (rs : List Run) (found : Option Run) → next_run at rs ≡ found → AreSpaced rs → All (λ r. end_of r ≤ c) rs → MatchOption found (NoneFrom rs at) (IsNext rs at c)
+found_is at c rs None is spaced within = (none_next rs at is).0
+found_is at c rs (Some r) is spaced within = (next_is 0 c rs at r spaced (recursion_from_All (λ r. end_of r ≤ c) rs within) is).is
+
+-- what is found there, in terms of the sectors that the runs have
+pub next_found : (at c : ℕ) (rs : List Run) (found : Option Run) → found ≡ next_run at rs → AreSpaced rs → All (λ r. end_of r ≤ c) rs → MatchOption found (NoneFrom rs at) (IsNext rs at c)
+next_found at c rs found is spaced within = found_is at c rs found (sym is) spaced within

@@ -5,7 +5,7 @@ use Rattle.std.proofs.lemmas.Bool.{le-ltb, lt-ltb, ltb-true, ltb-false, cases_lt
 use Rattle.std.proofs.lemmas.List.{take-append-drop, take_all, append-nil}
 use Rattle.std.proofs.lemmas.List.Elements.{recursion_from_All}
 use Rattle.sector_model.specs.Run.{end_of, from_sector, AreSpacedFrom, AreSpaced}
-use Rattle.sector_model.specs.Page.{PageContents, areas_from, page_of, ArePages}
+use Rattle.sector_model.specs.Page.{PageContents, areas_from, page_from, ArePages}
 use Rattle.sector_model.specs.declared.run.Run.{Run}
 use Rattle.sector_model.proofs.Spacing.{from_earlier, ends_past}
 
@@ -54,7 +54,7 @@ clip_end_at : (b : Bool) (r : Run) (start : ℕ) → start < end_of r → end_of
 clip_end_at true r start past = omega arith
 clip_end_at false r start past = refl
 
-clip_end : (r : Run) (start : ℕ) → start < end_of r → end_of (from_sector start r) ≡ end_of r
+pub clip_end : (r : Run) (start : ℕ) → start < end_of r → end_of (from_sector start r) ≡ end_of r
 clip_end r start past = clip_end_at (ltb r.first start) r start past
 
 behind_first : (start : ℕ) (r : Run) (rs : List Run) (k : ℕ) (d : Run) → start < end_of r → k < length (from_sector start r ∷ areas_from start rs)
@@ -140,12 +140,12 @@ page_then false c areas start e spaced ends before =
     sym (ap (λ xs. take 1024 rest ++ xs) left ∙ append-nil (take 1024 rest) ∙ take_all 1024 rest few)
 
 pub page_then_rest : (c : ℕ) (areas : List Run) (start : ℕ) → AreSpaced areas → All (λ r. end_of r ≤ c) areas → start < c
-    → areas_from start areas ≡ (page_of c areas start).areas ++ areas_from (start + (page_of c areas start).covered) areas
+    → areas_from start areas ≡ (page_from c areas start).areas ++ areas_from (start + (page_from c areas start).length) areas
 page_then_rest c areas start spaced ends before = page_then (ltb 1024 (length (areas_from start areas))) c areas start refl spaced ends before
 
 pub pages_joined : (c : ℕ) (areas : List Run) (start : ℕ) (pages : List PageContents) → AreSpaced areas → All (λ r. end_of r ≤ c) areas
     → ArePages c areas start pages → flat_map (λ p. p.areas) pages ≡ areas_from start areas
 pages_joined c areas start [] spaced ends all = sym (rw all (areas_from-capacity c areas (recursion_from_All (λ r. end_of r ≤ c) areas ends)))
 pages_joined c areas start (p ∷ ps) spaced ends all =
-    let more = pages_joined c areas (start + p.covered) ps spaced ends all.2 in
-    ap (λ xs. p.areas ++ xs) more ∙ ap (λ (q : PageContents). q.areas ++ areas_from (start + q.covered) areas) all.1 ∙ sym (page_then_rest c areas start spaced ends all.0)
+    let more = pages_joined c areas (start + p.length) ps spaced ends all.2 in
+    ap (λ xs. p.areas ++ xs) more ∙ ap (λ (q : PageContents). q.areas ++ areas_from (start + q.length) areas) all.1 ∙ sym (page_then_rest c areas start spaced ends all.0)

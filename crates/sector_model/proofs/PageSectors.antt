@@ -7,7 +7,7 @@ use Rattle.std.proofs.lemmas.Bool.Decides.{nat_tests}
 use Rattle.std.proofs.lemmas.List.Elements.{recursion_from_All}
 use Rattle.std.proofs.lemmas.List.Folds.{list_any-append}
 use Rattle.sector_model.specs.Run.{end_of, has, in_runs, from_sector}
-use Rattle.sector_model.specs.Page.{areas_from, page_of}
+use Rattle.sector_model.specs.Page.{areas_from, page_from}
 use Rattle.sector_model.specs.Laws.{AreasFromAreExact, PagesAreExact}
 use Rattle.sector_model.specs.declared.run.Run.{Run}
 use Rattle.sector_model.proofs.PageLaws.{kept, dropped, page_then_rest}
@@ -48,8 +48,8 @@ none-behind e s (r ∷ rs) ends past =
 
 pub pages_are_exact : PagesAreExact
 pages_are_exact capacity areas start s spaced ends before =
-    let page = page_of capacity areas start in
-    let e : ℕ = start + page.covered in
+    let page = page_from capacity areas start in
+    let e : ℕ = start + page.length in
     let all : (in_runs page.areas s || in_runs (areas_from e areas) s) ≡ (leb start s && in_runs areas s) =
     sym (ap (λ (xs : List Run). in_runs xs s) (page_then_rest capacity areas start spaced ends before) ∙ list_any-append (has s) page.areas (areas_from e areas)) ∙ areas_from_are_exact areas start s in
     elim (cases_lt s e) [

@@ -4,7 +4,7 @@ use Rattle.std.specs.List.{AllByRecursion, All}
 use Rattle.std.proofs.lemmas.Bool.{ltb-true, ltb-false, cases_lt}
 use Rattle.std.proofs.lemmas.List.Elements.{recursion_from_All, All-from_recursion}
 use Rattle.sector_model.specs.Run.{end_of, AreSpacedFrom, AreSpaced}
-use Rattle.sector_model.specs.Page.{areas_from, page_of, LiesWithin}
+use Rattle.sector_model.specs.Page.{areas_from, page_from, LiesWithin}
 use Rattle.sector_model.specs.declared.run.Run.{Run}
 use Rattle.sector_model.proofs.Spacing.{ends_rise}
 use Rattle.sector_model.specs.declared.page.TheConstants.{PAGE_AREAS}
@@ -97,11 +97,11 @@ ends_at false c start areas few spaced ends before =
       areas = each-take (λ q. end_of q ≤ c) PAGE_AREAS rest (seconds (λ q. start ≤ q.first) (λ q. end_of q ≤ c) rest (areas_from-inside c start areas ends));
     }
 
-pub page_lies_within : (c : ℕ) (areas : List Run) (start : ℕ) → AreSpaced areas → All (λ r. end_of r ≤ c) areas → start < c → LiesWithin c (page_of c areas start)
+pub page_lies_within : (c : ℕ) (areas : List Run) (start : ℕ) → AreSpaced areas → All (λ r. end_of r ≤ c) areas → start < c → LiesWithin c (page_from c areas start)
 page_lies_within c areas start spaced all before =
     let ends = recursion_from_All (λ r. end_of r ≤ c) areas all in
     let rest = areas_from start areas in
-    let e : ℕ = start + (page_of c areas start).covered in
+    let e : ℕ = start + (page_from c areas start).length in
     let h = ends_at (ltb PAGE_AREAS (length rest)) c start areas refl spaced ends before in
     record {
       some = omega (arith, h.above);

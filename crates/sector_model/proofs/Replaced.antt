@@ -1,7 +1,7 @@
 -- A list with a range replaced, item by item; and one sector of a disk after a write, and after several.
-use Rattle.std.proofs.Common.{◌≡◌, ℕ, ◌+◌, ◌-◌, ◌*◌, ◌/◌, ◌<◌, ◌≤◌, List, [], ◌∷◌, ◌++◌, length, take, drop, Bool, true, false, ◌||◌, min, max, ap, refl, ◌∙◌, arith, length-append, length-take, length-drop, ◌⊎◌, inl, inr}
+use Rattle.std.proofs.Common.{◌≡◌, ℕ, ◌+◌, ◌-◌, ◌*◌, ◌/◌, ◌<◌, ◌≤◌, List, [], ◌∷◌, ◌++◌, length, take, drop, false, min, max, ap, refl, ◌∙◌, arith, length-append, length-take, length-drop, ◌⊎◌, inl, inr}
 use Rattle.std.specs.List.{fold, slice_get, list_any, AllByRecursion}
-use Rattle.std.proofs.lemmas.Bool.{ltb-false, cases_lt}
+use Rattle.std.proofs.lemmas.Bool.{or_parts, ltb-false, cases_lt}
 use Rattle.sector_model.specs.Disk.{Write, Fits, replaced, after_write}
 use Rattle.sector_model.specs.Run.{touches}
 use Rattle.sector_model.specs.declared.sector.Sector.{Sector}
@@ -47,14 +47,6 @@ misses s w apart =
     let bound : min (128 * (s / BLOCK_SECTORS) + 128) (w.first + length w.sectors) ≤ max (128 * (s / BLOCK_SECTORS)) w.first = ltb-false (max (128 * (s / BLOCK_SECTORS)) w.first) (min (128 * (s / BLOCK_SECTORS) + 128) (w.first + length w.sectors)) apart in
     elim (cases_lt s w.first) [ inl less ↦ inl less | inr from ↦ inr (omega arith) ]
 
-or_left : (a b : Bool) → (a || b) ≡ false → a ≡ false
-or_left true b h = h
-or_left false b h = refl
-
-or_right : (a b : Bool) → (a || b) ≡ false → b ≡ false
-or_right true b h = absurd (cc)
-or_right false b h = h
-
 pub length-after_writes : (c : ℕ) (disk : List Sector) (ws : List Write) → length disk ≡ c → AllByRecursion (Fits c) ws → length (fold after_write disk ws) ≡ c
 length-after_writes c disk [] long fit = long
 length-after_writes c disk (w ∷ ws) long fit =
@@ -66,5 +58,5 @@ pub untouched : (c : ℕ) (disk : List Sector) (ws : List Write) (s : ℕ) → l
 untouched c disk [] s long fit none = refl
 untouched c disk (w ∷ ws) s long fit none =
     let within : w.first + length w.sectors ≤ length disk = omega (arith, long, fit.0) in
-    untouched c (after_write disk w) ws s (length-replaced disk w.sectors w.first within ∙ long) fit.1 (or_right (touches (s / BLOCK_SECTORS) w) (list_any (touches (s / BLOCK_SECTORS)) ws) none)
-    ∙ replaced-outside disk w.sectors w.first within s (misses s w (or_left (touches (s / BLOCK_SECTORS) w) (list_any (touches (s / BLOCK_SECTORS)) ws) none))
+    untouched c (after_write disk w) ws s (length-replaced disk w.sectors w.first within ∙ long) fit.1 (or_parts (touches (s / BLOCK_SECTORS) w) (list_any (touches (s / BLOCK_SECTORS)) ws) none).1
+    ∙ replaced-outside disk w.sectors w.first within s (misses s w (or_parts (touches (s / BLOCK_SECTORS) w) (list_any (touches (s / BLOCK_SECTORS)) ws) none).0)

@@ -11,7 +11,7 @@ EndBy n runs = AllByRecursion (λ r. end_of r ≤ n) runs
 
 -- ---- what is made of sectors
 
-pub record Kept (m n : ℕ) (runs : List Run) : Type 0 where
+pub record SpacedWithin (m n : ℕ) (runs : List Run) : Type 0 where
   pub spaced : AreSpacedFrom m runs
   pub ends : AllByRecursion (λ r. end_of r ≤ n) runs
 
@@ -20,7 +20,7 @@ later_ends [] n h = tt
 later_ends (r ∷ rs) n h = (omega arith, later_ends rs n h.1)
 
 grown_last : (b : Bool) (m : ℕ) (r : Run) (n : ℕ) → eqb (end_of r) n ≡ b → m ≤ r.first → 0 < r.count → end_of r ≤ n → suc n < 2 ^ 64
-    → Kept m (suc n) (cond b (record { first = r.first; count = r.count + 1 } ∷ []) (r ∷ record { first = n; count = 1 } ∷ []))
+    → SpacedWithin m (suc n) (cond b (record { first = r.first; count = r.count + 1 } ∷ []) (r ∷ record { first = n; count = 1 } ∷ []))
 grown_last true m r n e from some ends fits =
     let here : end_of r ≡ n = eqb-true _ _ e in
     record { spaced = (from, omega arith, omega arith); ends = (omega arith, tt) }
@@ -29,24 +29,24 @@ grown_last false m r n e from some ends fits =
     record { spaced = (from, some, (omega arith, omega arith, omega arith)); ends = (omega arith, (omega arith, tt)) }
 
 grown : (m : ℕ) (r : Run) (rs : List Run) (n : ℕ) → AreSpacedFrom m (r ∷ rs) → AllByRecursion (λ q. end_of q ≤ n) (r ∷ rs) → suc n < 2 ^ 64
-    → Kept m (suc n) (with_sector (r ∷ rs) n)
+    → SpacedWithin m (suc n) (with_sector (r ∷ rs) n)
 grown m r [] n spaced ends fits = grown_last (eqb (end_of r) n) m r n refl spaced.0 spaced.1 ends.0 fits
 grown m r (q ∷ rs) n spaced ends fits =
     let more = grown (end_of r + 1) q rs n spaced.2 ends.1 fits in
     record { spaced = (spaced.0, spaced.1, more.spaced); ends = (omega arith, more.ends) }
 
-grown_any : (rs : List Run) (n : ℕ) → Kept 0 n rs → suc n < 2 ^ 64 → Kept 0 (suc n) (with_sector rs n)
+grown_any : (rs : List Run) (n : ℕ) → SpacedWithin 0 n rs → suc n < 2 ^ 64 → SpacedWithin 0 (suc n) (with_sector rs n)
 grown_any [] n h fits = record { spaced = (omega arith, omega arith, omega arith); ends = (omega arith, tt) }
 grown_any (r ∷ rs) n h fits = grown 0 r rs n h.spaced h.ends fits
 
-kept_step : (b : Bool) (rs : List Run) (n : ℕ) → Kept 0 n rs → suc n < 2 ^ 64 → Kept 0 (suc n) (cond b (with_sector rs n) rs)
-kept_step true rs n h fits = grown_any rs n h fits
-kept_step false rs n h fits = record { spaced = h.spaced; ends = later_ends rs n h.ends }
+spaced_step : (b : Bool) (rs : List Run) (n : ℕ) → SpacedWithin 0 n rs → suc n < 2 ^ 64 → SpacedWithin 0 (suc n) (cond b (with_sector rs n) rs)
+spaced_step true rs n h fits = grown_any rs n h fits
+spaced_step false rs n h fits = record { spaced = h.spaced; ends = later_ends rs n h.ends }
 
-pub runs_of-kept : (test : ℕ → Bool) (n : ℕ) → n < 2 ^ 64 → Kept 0 n (runs_of test n)
+pub runs_of-spaced : (test : ℕ → Bool) (n : ℕ) → n < 2 ^ 64 → SpacedWithin 0 n (runs_of test n)
 unfolding runs_of
-runs_of-kept test zero fits = record { spaced = omega arith; ends = tt }
-runs_of-kept test (suc n) fits = kept_step (test n) (runs_of test n) n (runs_of-kept test n (omega arith)) fits
+runs_of-spaced test zero fits = record { spaced = omega arith; ends = tt }
+runs_of-spaced test (suc n) fits = spaced_step (test n) (runs_of test n) n (runs_of-spaced test n (omega arith)) fits
 
 -- ---- sums
 

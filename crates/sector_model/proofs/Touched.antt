@@ -1,7 +1,7 @@
 -- Blocks that a list of writes touches, and writes that lie within a disk.
 use Rattle.std.proofs.Common.{◌≡◌, ℕ, zero, suc, ◌+◌, ◌/◌, ◌<◌, ◌≤◌, List, [], ◌∷◌, ◌++◌, map, Bool, true, false, ◌||◌, ◌&&◌, nat_eq, sym, ap, refl, ◌∙◌, arith, inl, inr}
 use Rattle.std.specs.List.{filter, list_any, range_with_len, AllByRecursion}
-use Rattle.std.proofs.Math.Bool.{or-true}
+use Rattle.std.proofs.Math.Bool.{and-true, or-true}
 use Rattle.std.proofs.lemmas.Bool.{cases_eq, eqb-true, eq-eqb}
 use Rattle.std.proofs.lemmas.List.Elements.{filter_agree}
 use Rattle.std.proofs.lemmas.Map.Views.{any-filter_same}
@@ -36,10 +36,6 @@ pub fits-back : (c : ℕ) (xs ys : List Write) → AllByRecursion (Fits c) (xs +
 fits-back c [] ys h = h
 fits-back c (x ∷ xs) ys h = fits-back c xs ys h.1
 
-and_true : (a k : Bool) → k ≡ true → (a && k) ≡ false → a ≡ false
-and_true true k is h = sym is ∙ h
-and_true false k is h = refl
-
 pub any_below : (b a n : ℕ) → a ≤ b → b < a + n → list_any (nat_eq b) (range_with_len a n) ≡ true
 any_below b a zero from less = absurd (omega arith)
 any_below b a (suc n) from less =
@@ -51,4 +47,5 @@ any_below b a (suc n) from less =
 pub not_touched : (c s : ℕ) (ws : List Write) → s < c → in_blocks (touched_blocks c ws) s ≡ false → list_any (touches (s / BLOCK_SECTORS)) ws ≡ false
 not_touched c s ws less none =
     let inside : s / BLOCK_SECTORS < 0 + block_count c = omega arith in
-    and_true (list_any (touches (s / BLOCK_SECTORS)) ws) (list_any (nat_eq (s / BLOCK_SECTORS)) (range_with_len 0 (block_count c))) (any_below (s / BLOCK_SECTORS) 0 (block_count c) (omega arith) inside) (sym (in_touched c s ws) ∙ none)
+    let known = any_below (s / BLOCK_SECTORS) 0 (block_count c) (omega arith) inside in
+    sym (and-true (list_any (touches (s / BLOCK_SECTORS)) ws)) ∙ ap (λ b. list_any (touches (s / BLOCK_SECTORS)) ws && b) (sym known) ∙ sym (in_touched c s ws) ∙ none

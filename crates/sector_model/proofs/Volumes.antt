@@ -1,5 +1,5 @@
--- What a volume holds after a write, a flush, a filling and a failed write.
-use Rattle.std.proofs.Common.{◌≡◌, ℕ, zero, suc, ◌+◌, ◌-◌, ◌<◌, ◌≤◌, List, [], ◌∷◌, length, replicate, Bool, true, false, cond, leb, ltb, ◌&&◌, ◌||◌, get_or, ◌⊎◌, Option, unwrap_or, Some, refl, sym, ap, ◌∙◌, arith, inl, inr}
+-- What a volume holds after a write, a flush, a stop and a failed write.
+use Rattle.std.proofs.Common.{◌≡◌, ℕ, zero, suc, ◌+◌, ◌-◌, ◌<◌, ◌≤◌, List, [], ◌∷◌, length, replicate, Bool, true, false, cond, leb, ltb, ◌&&◌, ◌||◌, get_or, ◌⊎◌, Option, unwrap_or, Some, refl, sym, ap, subst, ◌∙◌, arith, inl, inr}
 use Rattle.std.specs.List.{slice_get, count_by}
 use Rattle.std.proofs.Math.Bool.{or-true, or-false}
 use Rattle.std.proofs.lemmas.Bool.{cases_lt, le-ltb, lt-ltb, le-leb, lt-leb, and_right}
@@ -8,8 +8,8 @@ use Rattle.std.proofs.lemmas.List.{length-replicate}
 use Rattle.std.proofs.lemmas.List.Sums.{sum_by-cons}
 use Rattle.sector_model.specs.Sector.{zero_sector}
 use Rattle.sector_model.specs.Disk.{replaced}
-use Rattle.sector_model.specs.VolumeContents.{VolumeContents, IsSized, IsFlushed, loose_count, volume_written, IsBrokenAt, fill_loose, volume_filled, loose_of, loose_sectors, DiffersOnlyWhereLoose}
-use Rattle.sector_model.specs.Laws.{VolumesKeepTheirSize, IsFilling, DiffersInARow, FlushedIsNoneLoose, LooseThen}
+use Rattle.sector_model.specs.VolumeContents.{VolumeContents, IsSized, IsFlushed, loose_count, volume_written, volume_zeroed, IsBrokenAt, with_found, volume_stopped, loose_of, loose_sectors, DiffersOnlyWhereLoose}
+use Rattle.sector_model.specs.Laws.{VolumesKeepTheirSize, IsStopped, DiffersInARow, FlushedIsNoneLoose, LooseThen}
 use Rattle.sector_model.specs.declared.sector.Sector.{Sector}
 use Rattle.sector_model.proofs.ItemAt.{slice_get-take, slice_get-drop, slice_get-replicate}
 use Rattle.sector_model.proofs.Replaced.{length-replaced, replaced-before, replaced-within, replaced-behind}
@@ -24,12 +24,12 @@ written-sized capacity first sectors v sized fits =
       length-replaced v.loose (replicate (length sectors) true) first (omega (arith, sized.1, n)) ∙ sized.1,
     )
 
-pub length-fill_loose : (loose : List Bool) (sectors filling : List Sector) → length (fill_loose loose sectors filling) ≡ length sectors
-length-fill_loose [] sectors filling = refl
-length-fill_loose (b ∷ loose) [] filling = refl
-length-fill_loose (false ∷ loose) (s ∷ sectors) filling = let more = length-fill_loose loose sectors filling in omega arith
-length-fill_loose (true ∷ loose) (s ∷ sectors) [] = refl
-length-fill_loose (true ∷ loose) (s ∷ sectors) (f ∷ filling) = let more = length-fill_loose loose sectors filling in omega arith
+pub length-with_found : (loose : List Bool) (sectors found : List Sector) → length (with_found loose sectors found) ≡ length sectors
+length-with_found [] sectors found = refl
+length-with_found (b ∷ loose) [] found = refl
+length-with_found (false ∷ loose) (s ∷ sectors) found = let more = length-with_found loose sectors found in omega arith
+length-with_found (true ∷ loose) (s ∷ sectors) [] = refl
+length-with_found (true ∷ loose) (s ∷ sectors) (f ∷ found) = let more = length-with_found loose sectors found in omega arith
 
 broken-sized : (capacity first count : ℕ) (old new : VolumeContents) → IsSized capacity old → first + count ≤ capacity → IsBrokenAt first count old new → IsSized capacity new
 broken-sized capacity first count old new sized fits broken =
@@ -41,37 +41,37 @@ keep_their_size capacity v sized = record {
   written = λ first sectors fits. written-sized capacity first sectors v sized fits;
   zeroed = λ first count fits. written-sized capacity first (replicate count zero_sector) v sized (let n : length (replicate count zero_sector) ≡ count = length-replicate count zero_sector in omega (arith, n, fits));
   flushed = (sized.0, length-replicate (length v.loose) false ∙ sized.1);
-  filled = λ filling. (length-fill_loose v.loose v.sectors filling ∙ sized.0, sized.1);
+  stopped = λ found. (length-with_found v.loose v.sectors found ∙ sized.0, sized.1);
   broken = λ first count new fits broken. broken-sized capacity first count v new sized fits broken;
 }
 
--- ---- fillings
+-- ---- stops
 
-fill_nothing : (n : ℕ) (sectors filling : List Sector) → fill_loose (replicate n false) sectors filling ≡ sectors
-fill_nothing zero sectors filling = refl
-fill_nothing (suc n) [] filling = refl
-fill_nothing (suc n) (s ∷ sectors) filling = ap (λ (rest : List Sector). s ∷ rest) (fill_nothing n sectors filling)
+found_nowhere : (n : ℕ) (sectors found : List Sector) → with_found (replicate n false) sectors found ≡ sectors
+found_nowhere zero sectors found = refl
+found_nowhere (suc n) [] found = refl
+found_nowhere (suc n) (s ∷ sectors) found = ap (λ (rest : List Sector). s ∷ rest) (found_nowhere n sectors found)
 
-pub filling_nothing : (capacity : ℕ) (v : VolumeContents) (filling : List Sector) → IsSized capacity v → IsFlushed v → volume_filled filling v ≡ v
-filling_nothing capacity v filling sized flushed =
-    let same : fill_loose v.loose v.sectors filling ≡ v.sectors =
-    ap (λ (loose : List Bool). fill_loose loose v.sectors filling) flushed ∙ fill_nothing (length v.sectors) v.sectors filling in
+pub stop_leaves_flushed : (capacity : ℕ) (v : VolumeContents) (found : List Sector) → IsSized capacity v → IsFlushed v → volume_stopped found v ≡ v
+stop_leaves_flushed capacity v found sized flushed =
+    let same : with_found v.loose v.sectors found ≡ v.sectors =
+    ap (λ (loose : List Bool). with_found loose v.sectors found) flushed ∙ found_nowhere (length v.sectors) v.sectors found in
     ap (λ (sectors : List Sector). record { sectors = sectors; loose = v.loose }) same
 
-fill_others : (loose : List Bool) (sectors filling : List Sector) (s : ℕ) → slice_get loose s ≡ Some false → slice_get (fill_loose loose sectors filling) s ≡ slice_get sectors s
-fill_others [] sectors filling s tight = refl
-fill_others (b ∷ loose) [] filling s tight = refl
-fill_others (false ∷ loose) (x ∷ sectors) filling zero tight = refl
-fill_others (false ∷ loose) (x ∷ sectors) filling (suc s) tight = fill_others loose sectors filling s tight
-fill_others (true ∷ loose) (x ∷ sectors) [] s tight = refl
-fill_others (true ∷ loose) (x ∷ sectors) (f ∷ filling) zero tight = absurd (cc)
-fill_others (true ∷ loose) (x ∷ sectors) (f ∷ filling) (suc s) tight = fill_others loose sectors filling s tight
+found_leaves_others : (loose : List Bool) (sectors found : List Sector) (s : ℕ) → slice_get loose s ≡ Some false → slice_get (with_found loose sectors found) s ≡ slice_get sectors s
+found_leaves_others [] sectors found s tight = refl
+found_leaves_others (b ∷ loose) [] found s tight = refl
+found_leaves_others (false ∷ loose) (x ∷ sectors) found zero tight = refl
+found_leaves_others (false ∷ loose) (x ∷ sectors) found (suc s) tight = found_leaves_others loose sectors found s tight
+found_leaves_others (true ∷ loose) (x ∷ sectors) [] s tight = refl
+found_leaves_others (true ∷ loose) (x ∷ sectors) (f ∷ found) zero tight = absurd (cc)
+found_leaves_others (true ∷ loose) (x ∷ sectors) (f ∷ found) (suc s) tight = found_leaves_others loose sectors found s tight
 
-pub filling_leaves_others : (capacity : ℕ) (v : VolumeContents) (filling : List Sector) → IsSized capacity v → DiffersOnlyWhereLoose v (volume_filled filling v)
-filling_leaves_others capacity v filling sized = record {
+pub stop_leaves_others : (capacity : ℕ) (v : VolumeContents) (found : List Sector) → IsSized capacity v → DiffersOnlyWhereLoose v (volume_stopped found v)
+stop_leaves_others capacity v found sized = record {
   same_loose = refl;
-  long = length-fill_loose v.loose v.sectors filling;
-  others = fill_others v.loose v.sectors filling;
+  long = length-with_found v.loose v.sectors found;
+  others = found_leaves_others v.loose v.sectors found;
 }
 
 abbrev volume : List Sector → List Bool → VolumeContents
@@ -83,17 +83,17 @@ Same loose old new = (s : ℕ) → slice_get loose s ≡ Some false → slice_ge
 some_same : (x y : Sector) → Some x ≡ Some y → x ≡ y
 some_same x y h = cc
 
-refill : (loose : List Bool) (old new : List Sector) → length loose ≡ length old → length new ≡ length old → Same loose old new → new ≡ fill_loose loose old (loose_of loose new)
-refill [] [] [] sized long same = refl
-refill [] [] (y ∷ new) sized long same = absurd (omega arith)
-refill [] (x ∷ old) new sized long same = absurd (omega arith)
-refill (b ∷ loose) [] new sized long same = absurd (omega arith)
-refill (b ∷ loose) (x ∷ old) [] sized long same = absurd (omega arith)
-refill (false ∷ loose) (x ∷ old) (y ∷ new) sized long same =
+found_again : (loose : List Bool) (old new : List Sector) → length loose ≡ length old → length new ≡ length old → Same loose old new → new ≡ with_found loose old (loose_of loose new)
+found_again [] [] [] sized long same = refl
+found_again [] [] (y ∷ new) sized long same = absurd (omega arith)
+found_again [] (x ∷ old) new sized long same = absurd (omega arith)
+found_again (b ∷ loose) [] new sized long same = absurd (omega arith)
+found_again (b ∷ loose) (x ∷ old) [] sized long same = absurd (omega arith)
+found_again (false ∷ loose) (x ∷ old) (y ∷ new) sized long same =
     ap (λ (z : Sector). z ∷ new) (some_same y x (same 0 refl))
-    ∙ ap (λ (rest : List Sector). x ∷ rest) (refill loose old new (omega arith) (omega arith) (λ s tight. same (suc s) tight))
-refill (true ∷ loose) (x ∷ old) (y ∷ new) sized long same =
-    ap (λ (rest : List Sector). y ∷ rest) (refill loose old new (omega arith) (omega arith) (λ s tight. same (suc s) tight))
+    ∙ ap (λ (rest : List Sector). x ∷ rest) (found_again loose old new (omega arith) (omega arith) (λ s tight. same (suc s) tight))
+found_again (true ∷ loose) (x ∷ old) (y ∷ new) sized long same =
+    ap (λ (rest : List Sector). y ∷ rest) (found_again loose old new (omega arith) (omega arith) (λ s tight. same (suc s) tight))
 
 length-loose_of : (loose : List Bool) (sectors : List Sector) → length loose ≡ length sectors → length (loose_of loose sectors) ≡ count_by (λ is_loose. is_loose) loose
 length-loose_of [] sectors sized = refl
@@ -107,18 +107,18 @@ length-loose_of (true ∷ loose) (x ∷ sectors) sized =
     let one = sum_by-cons (λ (b : Bool). cond b 1 0) true loose in
     omega (arith, more, one)
 
-filling_at : (old new : List Sector) (loose now : List Bool) → length loose ≡ length old → length new ≡ length old → now ≡ loose → Same loose old new
-    → (◌≡◌ {A = VolumeContents} (record { sectors = new; loose = now }) (record { sectors = fill_loose loose old (loose_of now new); loose = loose }))
+stopped_at : (old new : List Sector) (loose now : List Bool) → length loose ≡ length old → length new ≡ length old → now ≡ loose → Same loose old new
+    → (◌≡◌ {A = VolumeContents} (record { sectors = new; loose = now }) (record { sectors = with_found loose old (loose_of now new); loose = loose }))
     × (length (loose_of now new) ≡ count_by (λ is_loose. is_loose) loose)
-filling_at old new loose now sized long is same = (
+stopped_at old new loose now sized long is same = (
   ap (λ (l : List Bool). record { sectors = new; loose = l }) is
-      ∙ ap (λ (xs : List Sector). volume xs loose) (refill loose old new sized long same ∙ ap (λ (l : List Bool). fill_loose loose old (loose_of l new)) (sym is)),
+      ∙ ap (λ (xs : List Sector). volume xs loose) (found_again loose old new sized long same ∙ ap (λ (l : List Bool). with_found loose old (loose_of l new)) (sym is)),
   ap (λ (l : List Bool). length (loose_of l new)) is ∙ length-loose_of loose new (omega arith),
 )
 
-pub each_is_a_filling : (capacity : ℕ) (old new : VolumeContents) → IsSized capacity old → DiffersOnlyWhereLoose old new → IsFilling old new
-each_is_a_filling capacity old new sized differs =
-    let h = filling_at old.sectors new.sectors old.loose new.loose (sized.1 ∙ sym sized.0) differs.long differs.same_loose differs.others in
+pub each_is_a_stop : (capacity : ℕ) (old new : VolumeContents) → IsSized capacity old → DiffersOnlyWhereLoose old new → IsStopped old new
+each_is_a_stop capacity old new sized differs =
+    let h = stopped_at old.sectors new.sectors old.loose new.loose (sized.1 ∙ sym sized.0) differs.long differs.same_loose differs.others in
     record { same = h.0; long = h.1 }
 
 -- ---- a write that failed
@@ -160,25 +160,32 @@ broken_is_written capacity first sectors old new sized fits broken =
       others = broken_others capacity first sectors old new sized fits broken;
     }
 
--- ---- fillings in order and in a row
+-- a zeroing is a write of zero sectors
+pub broken_is_zeroed : (capacity first count : ℕ) (old new : VolumeContents) → IsSized capacity old → first + count ≤ capacity
+    → IsBrokenAt first count old new → DiffersOnlyWhereLoose (volume_zeroed first count old) new
+broken_is_zeroed capacity first count old new sized fits broken =
+    let n : length (replicate count zero_sector) ≡ count = length-replicate count zero_sector in
+    broken_is_written capacity first (replicate count zero_sector) old new sized (omega (arith, n, fits)) (subst (λ k. IsBrokenAt first k old new) (sym n) broken)
 
-pick : (loose : List Bool) (sectors filling : List Sector) → length loose ≡ length sectors → length filling ≡ count_by (λ loose. loose) loose → loose_of loose (fill_loose loose sectors filling) ≡ filling
+-- ---- stops in order and in a row
+
+pick : (loose : List Bool) (sectors found : List Sector) → length loose ≡ length sectors → length found ≡ count_by (λ loose. loose) loose → loose_of loose (with_found loose sectors found) ≡ found
 pick [] sectors [] sized long = refl
-pick [] sectors (f ∷ filling) sized long = absurd (omega arith)
-pick (b ∷ loose) [] filling sized long = absurd (omega arith)
-pick (false ∷ loose) (s ∷ sectors) filling sized long =
-    let none = sum_by-cons (λ (b : Bool). cond b 1 0) false loose in pick loose sectors filling (omega arith) (omega (arith, none, long))
+pick [] sectors (f ∷ found) sized long = absurd (omega arith)
+pick (b ∷ loose) [] found sized long = absurd (omega arith)
+pick (false ∷ loose) (s ∷ sectors) found sized long =
+    let none = sum_by-cons (λ (b : Bool). cond b 1 0) false loose in pick loose sectors found (omega arith) (omega (arith, none, long))
 pick (true ∷ loose) (s ∷ sectors) [] sized long =
     let one = sum_by-cons (λ (b : Bool). cond b 1 0) true loose in absurd (omega (arith, one, long))
-pick (true ∷ loose) (s ∷ sectors) (f ∷ filling) sized long =
+pick (true ∷ loose) (s ∷ sectors) (f ∷ found) sized long =
     let one = sum_by-cons (λ (b : Bool). cond b 1 0) true loose in
-    ap (λ (rest : List Sector). f ∷ rest) (pick loose sectors filling (omega arith) (omega (arith, one, long)))
+    ap (λ (rest : List Sector). f ∷ rest) (pick loose sectors found (omega arith) (omega (arith, one, long)))
 
-pub fillings_are_read : (capacity : ℕ) (v : VolumeContents) (filling : List Sector) → IsSized capacity v → length filling ≡ loose_count v → loose_sectors (volume_filled filling v) ≡ filling
-fillings_are_read capacity v filling sized long = pick v.loose v.sectors filling (sized.1 ∙ sym sized.0) long
+pub found_are_read : (capacity : ℕ) (v : VolumeContents) (found : List Sector) → IsSized capacity v → length found ≡ loose_count v → loose_sectors (volume_stopped found v) ≡ found
+found_are_read capacity v found sized long = pick v.loose v.sectors found (sized.1 ∙ sym sized.0) long
 
 differs-flushed : (capacity : ℕ) (a b : VolumeContents) → IsSized capacity a → IsFlushed a → DiffersOnlyWhereLoose a b → b ≡ a
-differs-flushed capacity a b sized flushed differs = (each_is_a_filling capacity a b sized differs).same ∙ filling_nothing capacity a (loose_sectors b) sized flushed
+differs-flushed capacity a b sized flushed differs = (each_is_a_stop capacity a b sized differs).same ∙ stop_leaves_flushed capacity a (loose_sectors b) sized flushed
 
 pub differs_in_a_row : (a b c : VolumeContents) → DiffersInARow a b c
 differs_in_a_row a b c = record {
@@ -245,7 +252,10 @@ get_or-none (suc n) (suc s) = get_or-none n s
 pub loose_then : (capacity : ℕ) (v : VolumeContents) (s : ℕ) → IsSized capacity v → LooseThen capacity v s
 loose_then capacity v s sized = record {
   written = λ first sectors fits. loose-at v.loose first (length sectors) s (omega (arith, sized.1, fits));
+  zeroed = λ first count fits.
+      let n : length (replicate count zero_sector) ≡ count = length-replicate count zero_sector in
+      loose-at v.loose first (length (replicate count zero_sector)) s (omega (arith, n, sized.1, fits)) ∙ ap (λ k. get_or v.loose s false || leb first s && ltb s (first + k)) n;
   flushed = get_or-none (length v.loose) s;
-  filled = λ filling. refl;
+  stopped = λ found. refl;
   broken = λ first count new fits broken. ap (λ (l : List Bool). get_or l s false) broken.loose ∙ loose-at v.loose first count s (omega (arith, sized.1, fits));
 }

@@ -4,8 +4,8 @@ use Rattle.std.specs.Prelude.{◌≡◌, ℕ, ◌+◌, ◌<◌, ◌≤◌, ◌^�
 use Rattle.std.specs.List.{fold, flat_map, All}
 use Rattle.sector_model.specs.Disk.{Write, after_write, fold_writes}
 use Rattle.sector_model.specs.Run.{end_of, in_runs, runs_of, AreSpaced, met_blocks, range_of, touched_blocks}
-use Rattle.sector_model.specs.Page.{PageContents, areas_from, page_of, ArePages, LiesWithin}
-use Rattle.sector_model.specs.VolumeContents.{VolumeContents, IsSized, IsFlushed, is_loose, loose_count, volume_written, volume_zeroed, volume_flushed, IsBrokenAt, volume_filled, loose_sectors, DiffersOnlyWhereLoose}
+use Rattle.sector_model.specs.Page.{PageContents, areas_from, page_from, ArePages, LiesWithin}
+use Rattle.sector_model.specs.VolumeContents.{VolumeContents, IsSized, IsFlushed, is_loose, loose_count, volume_written, volume_zeroed, volume_flushed, IsBrokenAt, volume_stopped, loose_sectors, DiffersOnlyWhereLoose}
 use Rattle.sector_model.specs.declared.run.Run.{Run}
 use Rattle.sector_model.specs.declared.sector.Sector.{Sector}
 
@@ -45,7 +45,7 @@ PagesJoin = (capacity : ℕ) (areas : List Run) (start : ℕ) (pages : List Page
 abbrev pub PagesLieWithin : Type 0
 PagesLieWithin = (capacity : ℕ) (areas : List Run) (start : ℕ)
     → AreSpaced areas → All (λ r. end_of r ≤ capacity) areas
-    → start < capacity → LiesWithin capacity (page_of capacity areas start)
+    → start < capacity → LiesWithin capacity (page_from capacity areas start)
 
 -- the areas from a start on have the areas' sectors from there on, and a page those up to its end
 abbrev pub AreasFromAreExact : Type 0
@@ -55,16 +55,16 @@ AreasFromAreExact = (areas : List Run) (start s : ℕ)
 abbrev pub PagesAreExact : Type 0
 PagesAreExact = (capacity : ℕ) (areas : List Run) (start s : ℕ)
     → AreSpaced areas → All (λ r. end_of r ≤ capacity) areas → start < capacity
-    → in_runs (page_of capacity areas start).areas s
-    ≡ (nat_le start s && nat_lt s (start + (page_of capacity areas start).covered)
+    → in_runs (page_from capacity areas start).areas s
+    ≡ (nat_le start s && nat_lt s (start + (page_from capacity areas start).length)
     && in_runs areas s)
 
 -- what follows a page are the areas from its end on
 abbrev pub PageThenRest : Type 0
 PageThenRest = (capacity : ℕ) (areas : List Run) (start : ℕ)
     → AreSpaced areas → All (λ r. end_of r ≤ capacity) areas → start < capacity
-    → areas_from start areas ≡ (page_of capacity areas start).areas
-    ++ areas_from (start + (page_of capacity areas start).covered) areas
+    → areas_from start areas ≡ (page_from capacity areas start).areas
+    ++ areas_from (start + (page_from capacity areas start).length) areas
 
 -- what is done to a volume keeps its size
 pub record VolumesKeepTheirSize (capacity : ℕ) (v : VolumeContents) : Type 0 where
@@ -73,37 +73,37 @@ pub record VolumesKeepTheirSize (capacity : ℕ) (v : VolumeContents) : Type 0 w
   pub zeroed : (first count : ℕ) → first + count ≤ capacity
       → IsSized capacity (volume_zeroed first count v)
   pub flushed : IsSized capacity (volume_flushed v)
-  pub filled : (filling : List Sector) → IsSized capacity (volume_filled filling v)
+  pub stopped : (found : List Sector) → IsSized capacity (volume_stopped found v)
   pub broken : (first count : ℕ) (new : VolumeContents) → first + count ≤ capacity
       → IsBrokenAt first count v new → IsSized capacity new
 
--- a filling of a volume where nothing is loose leaves it, and any filling leaves each sector that
--- isn't loose
-abbrev pub FillingNothing : Type 0
-FillingNothing = (capacity : ℕ) (v : VolumeContents) (filling : List Sector)
-    → IsSized capacity v → IsFlushed v → volume_filled filling v ≡ v
+-- a stop of a volume where nothing is loose leaves it, and any stop leaves each sector that isn't
+-- loose
+abbrev pub StopLeavesFlushed : Type 0
+StopLeavesFlushed = (capacity : ℕ) (v : VolumeContents) (found : List Sector)
+    → IsSized capacity v → IsFlushed v → volume_stopped found v ≡ v
 
-abbrev pub FillingLeavesOthers : Type 0
-FillingLeavesOthers = (capacity : ℕ) (v : VolumeContents) (filling : List Sector)
-    → IsSized capacity v → DiffersOnlyWhereLoose v (volume_filled filling v)
+abbrev pub StopLeavesOthers : Type 0
+StopLeavesOthers = (capacity : ℕ) (v : VolumeContents) (found : List Sector)
+    → IsSized capacity v → DiffersOnlyWhereLoose v (volume_stopped found v)
 
--- and whatever differs from it only there is one of its fillings, by as many sectors as are loose
-pub record IsFilling (old new : VolumeContents) : Type 0 where
-  pub same : new ≡ volume_filled (loose_sectors new) old
+-- and whatever differs from it only there is what a stop leaves, by as many sectors as are loose
+pub record IsStopped (old new : VolumeContents) : Type 0 where
+  pub same : new ≡ volume_stopped (loose_sectors new) old
   pub long : length (loose_sectors new) ≡ loose_count old
 
-abbrev pub EachIsAFilling : Type 0
-EachIsAFilling = (capacity : ℕ) (old new : VolumeContents)
-    → IsSized capacity old → DiffersOnlyWhereLoose old new → IsFilling old new
+abbrev pub EachIsAStop : Type 0
+EachIsAStop = (capacity : ℕ) (old new : VolumeContents)
+    → IsSized capacity old → DiffersOnlyWhereLoose old new → IsStopped old new
 
--- a filling of as many sectors as are loose is what is read there then, so that two fillings leave
--- two contents
-abbrev pub FillingsAreRead : Type 0
-FillingsAreRead = (capacity : ℕ) (v : VolumeContents) (filling : List Sector)
-    → IsSized capacity v → length filling ≡ loose_count v
-    → loose_sectors (volume_filled filling v) ≡ filling
+-- as many sectors as are loose are what is read there after a stop that leaves them, so that stops
+-- that leave others leave other contents
+abbrev pub FoundAreRead : Type 0
+FoundAreRead = (capacity : ℕ) (v : VolumeContents) (found : List Sector)
+    → IsSized capacity v → length found ≡ loose_count v
+    → loose_sectors (volume_stopped found v) ≡ found
 
--- fillings one after another are one, and none where nothing is loose
+-- stops one after another are one, and none where nothing is loose
 pub record DiffersInARow (a b c : VolumeContents) : Type 0 where
   pub none : DiffersOnlyWhereLoose a a
   pub two : DiffersOnlyWhereLoose a b → DiffersOnlyWhereLoose b c → DiffersOnlyWhereLoose a c
@@ -121,15 +121,24 @@ pub record LooseThen (capacity : ℕ) (v : VolumeContents) (s : ℕ) : Type 0 wh
   pub written : (first : ℕ) (sectors : List Sector) → first + length sectors ≤ capacity
       → is_loose s (volume_written first sectors v)
       ≡ (is_loose s v || nat_le first s && nat_lt s (first + length sectors))
+  pub zeroed : (first count : ℕ) → first + count ≤ capacity
+      → is_loose s (volume_zeroed first count v)
+      ≡ (is_loose s v || nat_le first s && nat_lt s (first + count))
   pub flushed : is_loose s (volume_flushed v) ≡ false
-  pub filled : (filling : List Sector) → is_loose s (volume_filled filling v) ≡ is_loose s v
+  pub stopped : (found : List Sector) → is_loose s (volume_stopped found v) ≡ is_loose s v
   pub broken : (first count : ℕ) (new : VolumeContents) → first + count ≤ capacity
       → IsBrokenAt first count v new
       → is_loose s new ≡ (is_loose s v || nat_le first s && nat_lt s (first + count))
 
--- a write that failed leaves what the whole write would, but for loose sectors
+-- a write or a zeroing that failed leaves what the whole one would, but for loose sectors
 abbrev pub BrokenIsWritten : Type 0
 BrokenIsWritten = (capacity first : ℕ) (sectors : List Sector) (old new : VolumeContents)
     → IsSized capacity old → first + length sectors ≤ capacity
     → IsBrokenAt first (length sectors) old new
     → DiffersOnlyWhereLoose (volume_written first sectors old) new
+
+abbrev pub BrokenIsZeroed : Type 0
+BrokenIsZeroed = (capacity first count : ℕ) (old new : VolumeContents)
+    → IsSized capacity old → first + count ≤ capacity
+    → IsBrokenAt first count old new
+    → DiffersOnlyWhereLoose (volume_zeroed first count old) new

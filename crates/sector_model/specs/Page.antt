@@ -9,7 +9,7 @@ use Rattle.sector_model.specs.declared.run.Run.{Run}
 -- where a page starts, how many sectors it speaks of, and the areas among these
 pub record PageContents : Type 0 where
   pub start : ℕ
-  pub covered : ℕ
+  pub length : ℕ
   pub areas : List Run
 
 -- the areas from sector `start` on; one that holds it is clipped
@@ -25,10 +25,10 @@ page_end capacity rest =
     else capacity
 
 -- the page of the areas of a disk, from sector `start` on
-abbrev pub page_of : (capacity : ℕ) (areas : List Run) (start : ℕ) → PageContents
-page_of capacity areas start = record {
+abbrev pub page_from : (capacity : ℕ) (areas : List Run) (start : ℕ) → PageContents
+page_from capacity areas start = record {
   start = start;
-  covered = page_end capacity (areas_from start areas) - start;
+  length = page_end capacity (areas_from start areas) - start;
   areas = take PAGE_AREAS (areas_from start areas);
 }
 
@@ -36,15 +36,15 @@ page_of capacity areas start = record {
 abbrev pub ArePages : (capacity : ℕ) (areas : List Run) (start : ℕ) → List PageContents → Type 0
 ArePages capacity areas start [] = start ≡ capacity
 ArePages capacity areas start (p ∷ ps) =
-    (start < capacity) × (p ≡ page_of capacity areas start)
-    × ArePages capacity areas (start + p.covered) ps
+    (start < capacity) × (p ≡ page_from capacity areas start)
+    × ArePages capacity areas (start + p.length) ps
 
 -- a page that speaks of some sectors below the capacity, whose areas lie in it, none empty,
 -- ascending and apart
 pub record LiesWithin (capacity : ℕ) (page : PageContents) : Type 0 where
-  pub some : 0 < page.covered
-  pub within : page.start + page.covered ≤ capacity
+  pub some : 0 < page.length
+  pub within : page.start + page.length ≤ capacity
   pub few : length page.areas ≤ PAGE_AREAS
   pub spaced : AreSpaced page.areas
   pub begin_inside : All (λ r. page.start ≤ r.first) page.areas
-  pub end_inside : All (λ r. end_of r ≤ page.start + page.covered) page.areas
+  pub end_inside : All (λ r. end_of r ≤ page.start + page.length) page.areas

@@ -1,7 +1,7 @@
 -- Runs of sectors, and blocks of 128 sectors, in which a tracker remembers what changed. A set of
 -- sectors is told as its maximal runs, ascending; they are defined sector by sector here, so that
 -- no program's way of joining and clipping areas is taken for granted.
-use Rattle.std.specs.Prelude.{ℕ, zero, suc, ◌+◌, ◌-◌, ◌*◌, ◌/◌, ◌<◌, ◌≤◌, ◌^◌, min, max, List, [], ◌∷◌, length, Bool, not, ◌==◌, ◌&&◌, nat_eq, nat_lt, nat_le, if◌then◌else◌, Option, option_map}
+use Rattle.std.specs.Prelude.{◌≡◌, ℕ, zero, suc, ◌+◌, ◌-◌, ◌*◌, ◌/◌, ◌<◌, ◌≤◌, ◌^◌, min, max, List, [], ◌∷◌, length, Bool, true, false, not, ◌==◌, ◌&&◌, nat_eq, nat_lt, nat_le, if◌then◌else◌, Option, option_map}
 use Rattle.std.specs.List.{filter, find, list_any, range_with_len}
 use Rattle.sector_model.specs.Disk.{Write}
 use Rattle.sector_model.specs.declared.run.TheConstants.{BLOCK_SECTORS}
@@ -97,3 +97,16 @@ from_sector at r = if nat_lt r.first at then record { first = at; count = end_of
 -- the first run that reaches past a sector, from there on
 abbrev pub next_run : (at : ℕ) (runs : List Run) → Option Run
 next_run at runs = option_map (from_sector at) (find (λ r. nat_lt at (end_of r)) runs)
+
+-- no run has a sector from `at` on
+abbrev pub NoneFrom : (runs : List Run) (at : ℕ) → Type 0
+NoneFrom runs at = (sector : ℕ) → at ≤ sector → in_runs runs sector ≡ false
+
+-- the run is what the runs have next from sector `at` on, and it ends within the capacity: it is
+-- not empty, all of it is theirs, and nothing before it
+pub record IsNext (runs : List Run) (at capacity : ℕ) (r : Run) : Type 0 where
+  pub from : at ≤ r.first
+  pub some : 0 < r.count
+  pub inside : end_of r ≤ capacity
+  pub held : (sector : ℕ) → r.first ≤ sector → sector < end_of r → in_runs runs sector ≡ true
+  pub gap : (sector : ℕ) → at ≤ sector → sector < r.first → in_runs runs sector ≡ false

@@ -50,18 +50,18 @@ pub record IsBrokenAt (first count : ℕ) (old new : VolumeContents) : Type 0 wh
   pub long : length new.sectors ≡ length old.sectors
   pub loose : new.loose ≡ replaced old.loose first (replicate count true)
 
--- the sectors, where each loose one is the next of the filling while it reaches
-abbrev pub fill_loose : (loose : List Bool) (sectors filling : List Sector) → List Sector
-fill_loose [] sectors filling = sectors
-fill_loose (first ∷ loose) [] filling = []
-fill_loose (false ∷ loose) (s ∷ sectors) filling = s ∷ fill_loose loose sectors filling
-fill_loose (true ∷ loose) (s ∷ sectors) [] = s ∷ sectors
-fill_loose (true ∷ loose) (s ∷ sectors) (f ∷ filling) = f ∷ fill_loose loose sectors filling
+-- the sectors, but each loose one is the next of those found while they reach
+abbrev pub with_found : (loose : List Bool) (sectors found : List Sector) → List Sector
+with_found [] sectors found = sectors
+with_found (first ∷ loose) [] found = []
+with_found (false ∷ loose) (s ∷ sectors) found = s ∷ with_found loose sectors found
+with_found (true ∷ loose) (s ∷ sectors) [] = s ∷ sectors
+with_found (true ∷ loose) (s ∷ sectors) (f ∷ found) = f ∷ with_found loose sectors found
 
--- what a filling leaves: the loose sectors take those of the filling in order, and stay loose
-abbrev pub volume_filled : (filling : List Sector) → VolumeContents → VolumeContents
-volume_filled filling v =
-    record { sectors = fill_loose v.loose v.sectors filling; loose = v.loose }
+-- what a stop leaves, after which these are found in the loose sectors, in order: they stay loose
+abbrev pub volume_stopped : (found : List Sector) → VolumeContents → VolumeContents
+volume_stopped found v =
+    record { sectors = with_found v.loose v.sectors found; loose = v.loose }
 
 -- those of the sectors that are loose, in order
 abbrev pub loose_of : (loose : List Bool) (sectors : List Sector) → List Sector

@@ -1,6 +1,6 @@
 //! Laws of the definitions. Each function's contract is the law, and its body does nothing.
 ghost use Rattle.std.specs.Prelude.{ℕ};
-ghost use Rattle.sector_model.specs.Laws.{FoldsJoin, TouchedAreMet, RunsAreSpaced, RunsAreExact, RunsEndWithin, PagesJoin, PageThenRest, AreasFromAreExact, PagesAreExact, PagesLieWithin, VolumesKeepTheirSize, FillingNothing, FillingLeavesOthers, EachIsAFilling, FillingsAreRead, DiffersInARow, LooseThen, FlushedIsNoneLoose, BrokenIsWritten};
+ghost use Rattle.sector_model.specs.Laws.{FoldsJoin, TouchedAreMet, RunsAreSpaced, RunsAreExact, RunsEndWithin, PagesJoin, PageThenRest, AreasFromAreExact, PagesAreExact, PagesLieWithin, VolumesKeepTheirSize, StopLeavesFlushed, StopLeavesOthers, EachIsAStop, FoundAreRead, DiffersInARow, LooseThen, FlushedIsNoneLoose, BrokenIsWritten, BrokenIsZeroed};
 ghost use Rattle.sector_model.specs.VolumeContents.{VolumeContents, IsSized};
 
 /// What a list of writes leaves is what its later part leaves of what its earlier part left.
@@ -35,23 +35,23 @@ pub fn pages_lie_within()
     ensures { PagesLieWithin }
 {}
 
-/// A write, a zeroing, a flush, a filling and a failed write keep the size of what a volume holds.
+/// A write, a zeroing, a flush, a stop and a failed write keep the size of what a volume holds.
 pub fn volumes_keep_their_size()
     ensures { (capacity : ℕ) (v : VolumeContents) → IsSized capacity v
         → VolumesKeepTheirSize capacity v }
 {}
 
-/// Fillings of the loose sectors are exactly what differs from a volume's contents there alone.
-pub fn volume_fillings()
-    ensures nothing { FillingNothing }
-    ensures others { FillingLeavesOthers }
-    ensures each { EachIsAFilling }
-    ensures in_order { FillingsAreRead }
+/// What a stop may leave is exactly what differs from a volume's contents in loose sectors alone.
+pub fn volume_stops()
+    ensures nothing { StopLeavesFlushed }
+    ensures others { StopLeavesOthers }
+    ensures each { EachIsAStop }
+    ensures in_order { FoundAreRead }
     ensures in_a_row { (a b c : VolumeContents) → DiffersInARow a b c }
 {}
 
-/// Which sectors are loose after a write, a flush, a filling and a failed write, and that a volume
-/// is flushed exactly where none is.
+/// Which sectors are loose after a write, a zeroing, a flush, a stop and a failed write, and that a
+/// volume is flushed exactly where none is.
 pub fn loose_sectors_after()
     ensures each { (capacity : ℕ) (v : VolumeContents) (s : ℕ) → IsSized capacity v
         → LooseThen capacity v s }
@@ -59,7 +59,8 @@ pub fn loose_sectors_after()
         → FlushedIsNoneLoose capacity v }
 {}
 
-/// A write that failed leaves what the whole write would, but for loose sectors.
+/// A write or a zeroing that failed leaves what the whole one would, but for loose sectors.
 pub fn broken_volumes()
-    ensures { BrokenIsWritten }
+    ensures written { BrokenIsWritten }
+    ensures zeroed { BrokenIsZeroed }
 {}

@@ -15,7 +15,7 @@ mod tests;
 
 pub use laws::{
     broken_volumes, folds_join, loose_sectors_after, pages_join, pages_lie_within, runs_are_exact,
-    touched_blocks_are_met, volume_fillings, volumes_keep_their_size,
+    touched_blocks_are_met, volume_stops, volumes_keep_their_size,
 };
 pub use loose_runs::loose_runs_tell;
 pub use page::{PAGE_AREAS, Page};

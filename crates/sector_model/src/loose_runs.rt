@@ -1,22 +1,22 @@
 //! Loose sectors of a volume, kept as runs.
 ghost use Rattle.std.specs.Prelude.{◌≡◌, ◌≤◌, length, All};
 ghost use Rattle.sector_model.specs.Run.{end_of};
-ghost use Rattle.sector_model.specs.VolumeContents.{fill_loose, loose_count};
+ghost use Rattle.sector_model.specs.VolumeContents.{with_found, loose_count};
 ghost use Rattle.sector_model.specs.LooseRuns.{flags_of, volume_of, RunsAreUnique, LooseRunsCount, LooseRunsGrow, NoLooseRuns};
 
 use crate::{Runs, Sector, SectorList};
 
 impl SectorList {
-    /// Puts the sectors of a filling, in order, in place of those of the runs. It takes no memory.
-    pub fn fill_loose(&mut self, loose: &Runs, filling: &[Sector])
+    /// Puts what is found in the loose sectors, in order, in their place. It takes no memory.
+    pub fn take_found(&mut self, loose: &Runs, found: &[Sector])
         requires within { All (λ run. end_of run ≤ length self.old) loose.now }
-        requires long { length filling.now ≡ loose_count (volume_of self.old loose.now) }
-        ensures { self.new ≡ fill_loose (flags_of (length self.old) loose.now) self.old filling.now }
+        requires long { length found.now ≡ loose_count (volume_of self.old loose.now) }
+        ensures { self.new ≡ with_found (flags_of (length self.old) loose.now) self.old found.now }
     {
         let mut at = 0;
         for run in loose.as_slice() {
             let end = at + run.count as usize;
-            self.replace(run.first as usize, &filling[at..end]);
+            self.replace(run.first as usize, &found[at..end]);
             at = end;
         }
     }

@@ -1,4 +1,4 @@
-//! A page of changed areas, which is filled without taking memory.
+//! A page of changed areas, which takes no memory once it was made.
 ghost use Rattle.std.specs.Prelude.{◌≡◌, ◌<◌, ◌++◌, ◌∷◌, [], length, IfOk};
 
 use crate::{NoMemory, Run};
@@ -15,7 +15,7 @@ pub const PAGE_AREAS: usize = 1024;
 #[derive(Debug, Drop)]
 pub struct Page {
     start: u64,
-    covered: u64,
+    length: u64,
     runs: Vec<Run>,
 }
 
@@ -27,7 +27,7 @@ impl Model for Page {
 
     ghost Value = { PageContents };
 
-    ghost view = { λ a. record { start = a.start; covered = a.covered; areas = a.runs.items } };
+    ghost view = { λ a. record { start = a.start; length = a.length; areas = a.runs.items } };
 
     ghost invariant = { λ a. PAGE_AREAS ≤ vec_capacity a.runs };
 }
@@ -35,12 +35,12 @@ impl Model for Page {
 impl Page {
     /// An empty page at sector 0, with room for 1,024 areas. It answers only want of memory.
     pub fn new(alloc: Global) -> Result<Page, NoMemory>
-        ensures { IfOk result (λ page. page ≡ record { start = 0; covered = 0; areas = [] }) }
+        ensures { IfOk result (λ page. page ≡ record { start = 0; length = 0; areas = [] }) }
     {
         let runs = Vec::with_capacity(alloc, PAGE_AREAS)?;
         Ok(Page {
             start: 0,
-            covered: 0,
+            length: 0,
             runs,
         })
     }
@@ -54,9 +54,9 @@ impl Page {
 
     /// How many sectors the page speaks of.
     pub fn length(&self) -> u64
-        ensures { result ≡ self.now.covered }
+        ensures { result ≡ self.now.length }
     {
-        self.covered
+        self.length
     }
 
     /// The areas, in the order in which they were pushed.
@@ -68,11 +68,11 @@ impl Page {
 
     /// Empties the page, and lets it start at a sector.
     pub fn clear(&mut self, start: u64)
-        ensures { self.new ≡ record { start = start; covered = 0; areas = [] } }
+        ensures { self.new ≡ record { start = start; length = 0; areas = [] } }
     {
         self.runs.clear();
         self.start = start;
-        self.covered = 0;
+        self.length = 0;
     }
 
     /// Adds an area behind the others. It takes no memory.
@@ -85,8 +85,8 @@ impl Page {
 
     /// Sets how many sectors the page speaks of.
     pub fn cover(&mut self, length: u64)
-        ensures { self.new ≡ record self.old { covered = length } }
+        ensures { self.new ≡ record self.old { length = length } }
     {
-        self.covered = length;
+        self.length = length;
     }
 }

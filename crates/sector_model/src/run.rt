@@ -7,9 +7,8 @@ ghost use Rattle.sector_model.specs.Run.{end_of, with_run};
 mod joined;
 mod loose;
 
-pub use joined::next_run;
-
 use crate::NoMemory;
+pub use joined::next_run;
 use std::alloc::Global;
 use std::marker::Model;
 

@@ -3,13 +3,13 @@ ghost use Rattle.std.specs.List.Sorted.{IsStrictlyIncreasing};
 ghost use Rattle.sector_model.specs.Sector.{filled, zero_sector};
 ghost use Rattle.sector_model.specs.Disk.{fold_writes};
 ghost use Rattle.sector_model.specs.Run.{touched_blocks, met_blocks, areas_of, complement_of, next_run, end_of};
-ghost use Rattle.sector_model.specs.Page.{page_of};
-ghost use Rattle.sector_model.specs.VolumeContents.{volume_written, volume_zeroed, volume_flushed, volume_filled};
+ghost use Rattle.sector_model.specs.Page.{page_from};
+ghost use Rattle.sector_model.specs.VolumeContents.{volume_written, volume_zeroed, volume_flushed, volume_stopped};
 
 use crate::{
     Page, Run, Runs, SECTOR_BYTES, Sector, SectorList, broken_volumes, folds_join,
-    loose_sectors_after, pages_join, pages_lie_within, runs_are_exact,
-    touched_blocks_are_met, volume_fillings, volumes_keep_their_size,
+    loose_sectors_after, pages_join, pages_lie_within, runs_are_exact, touched_blocks_are_met,
+    volume_stops, volumes_keep_their_size,
 };
 use std::process::Abort;
 use std::test::Fail;
@@ -48,16 +48,16 @@ fn definitions_on_small_disks()
         ≡ Some (record { first = 5; count = 3 }) }
     ensures behind { next_run 8 (record { first = 0; count = 8 } ∷ []) ≡ None }
     // A page whose start lies within an area.
-    ensures page { page_of 256
+    ensures page { page_from 256
         (record { first = 0; count = 128 } ∷ record { first = 200; count = 8 } ∷ []) 100
         ≡ record {
           start = 100;
-          covered = 156;
+          length = 156;
           areas = record { first = 100; count = 28 } ∷ record { first = 200; count = 8 } ∷ [];
         } }
 {}
 
-/// What a volume of three sectors holds after a write, a flush, a zeroing and a filling.
+/// What a volume of three sectors holds after a write, a flush, a zeroing and a stop.
 fn contents_of_a_small_volume()
     ensures written { volume_written 1 (filled 2 ∷ [])
         (record {
@@ -74,7 +74,7 @@ fn contents_of_a_small_volume()
     ensures flushed { volume_flushed
         (record { sectors = filled 1 ∷ filled 2 ∷ []; loose = false ∷ true ∷ [] })
         ≡ record { sectors = filled 1 ∷ filled 2 ∷ []; loose = false ∷ false ∷ [] } }
-    ensures filled { volume_filled (filled 8 ∷ filled 9 ∷ [])
+    ensures stopped { volume_stopped (filled 8 ∷ filled 9 ∷ [])
         (record { sectors = filled 1 ∷ filled 2 ∷ filled 3 ∷ []; loose = true ∷ false ∷ true ∷ [] })
         ≡ record {
           sectors = filled 8 ∷ filled 2 ∷ filled 9 ∷ [];
@@ -102,7 +102,7 @@ fn the_definitions_compute_on_small_disks() {
 fn the_contents_of_a_volume_compute_on_three_sectors() {
     contents_of_a_small_volume();
     volumes_keep_their_size();
-    volume_fillings();
+    volume_stops();
     loose_sectors_after();
     broken_volumes();
 }
@@ -145,7 +145,7 @@ fn the_next_run_begins_at_the_place_asked_for(rt: HostRuntime) -> Result<(), Fai
 }
 
 #[test]
-fn a_page_is_filled_and_emptied(rt: HostRuntime) -> Result<(), Fail> {
+fn a_page_takes_areas_and_is_emptied(rt: HostRuntime) -> Result<(), Fail> {
     let mut page = Page::new(rt.alloc())?;
     page.clear(100);
     page.push(run(100, 28));

@@ -1,5 +1,5 @@
 -- Steps on a list of layers.
-use Rattle.std.proofs.Common.{◌≡◌, ℕ, zero, suc, ◌+◌, ◌<◌, ◌≤◌, List, [], ◌∷◌, length, set, get_or, take, drop, ◌++◌, Bool, true, false, cond, ◌&&◌, leb, nat_eq, Option, Some, None, IfSome, Result, Ok, Err, length-set, sym, ap, subst, refl, ◌∙◌, arith}
+use Rattle.std.proofs.Common.{◌≡◌, ℕ, zero, suc, ◌+◌, ◌<◌, ◌≤◌, List, [], ◌∷◌, length, set, get_or, Bool, true, false, cond, ◌&&◌, leb, nat_eq, Option, Some, None, Result, Ok, Err, length-set, sym, ap, subst, refl, ◌∙◌, arith}
 use Rattle.std.specs.List.{remove, position, AllByRecursion}
 use Rattle.std.specs.Result.{IsErrAnd, IfErr}
 use Rattle.basics.specs.Refusal.{IsRefusedBy, IsRefusedOr}
@@ -7,13 +7,13 @@ use Rattle.sector_model.specs.declared.sector.Sector.{Sector}
 use Rattle.snapshot_chain.specs.declared.chain.ChainRefused.{ChainRefused}
 use Rattle.snapshot_chain.specs.declared.chain.ChainRefused.TheVariants.{UnknownSnap, Range, NoMemory}
 use Rattle.snapshot_chain.specs.Chain.{ChainState, after_merging, contents_of, is_within, read_refusal}
-use Rattle.snapshot_chain.specs.Kept.{state_of, AreIds, HasMergeRoom}
+use Rattle.snapshot_chain.specs.Kept.{state_of, AreIds}
 use Rattle.snapshot_chain.proofs.Keeping.{all-set, all-at, all-remove}
-use Rattle.snapshot_chain.proofs.States.{raised_state, merged_state}
-use Rattle.std.proofs.lemmas.List.{take_all, drop_all, append-nil, get_or-set_same, get_or-set_other, get_or_default}
+use Rattle.snapshot_chain.proofs.States.{merged_state}
+use Rattle.std.proofs.lemmas.List.{get_or-set_same, get_or_default}
 use Rattle.std.proofs.lemmas.Bool.{leb-true, false≢true}
-use Rattle.snapshot_chain.specs.Layer.{LayerState, IsWithin, HasSameOver, IsMerged, HasPlacesFor}
-use Rattle.snapshot_chain.specs.Layers.{layer_at, RaisedAt, MergedAt}
+use Rattle.snapshot_chain.specs.Layer.{LayerState, IsWithin, IsMerged}
+use Rattle.snapshot_chain.specs.Layers.{layer_at, MergedAt}
 
 pub fits : (c first count : ℕ) → (leb 1 count && leb (first + count) c) ≡ true → first + count ≤ c
 fits c first count is = leb-true (first + count) c (second (leb 1 count) (leb (first + count) c) is)
@@ -21,30 +21,6 @@ fits c first count is = leb-true (first + count) c (second (leb 1 count) (leb (f
     second : (a b : Bool) → (a && b) ≡ true → b ≡ true
     second true b h = h
     second false b h = absurd (false≢true h)
-
--- a layer is taken out while the one above it changes, and is put back
-put_back : (xs : List LayerState) (i : ℕ) (none made : LayerState) → suc i < length xs → set (set (set xs i none) (suc i) made) i (layer_at xs i) ≡ set xs (suc i) made
-put_back [] i none made less = absurd (omega (arith, less))
-put_back (x ∷ []) i none made less = absurd (omega (arith, less))
-put_back (x ∷ y ∷ xs) zero none made less = refl
-put_back (x ∷ y ∷ xs) (suc i) none made less = ap (λ (ls : List LayerState). x ∷ ls) (put_back (y ∷ xs) i none made (omega (arith, less)))
-
-pub raised_at : (xs : List LayerState) (i : ℕ) (none lower d e made : LayerState) → i + 1 < length xs → lower ≡ get_or xs i d
-    → HasSameOver lower (get_or (set xs i none) (i + 1) e) made → ((c : ℕ) → IsWithin c lower → IsWithin c (get_or (set xs i none) (i + 1) e) → IsWithin c made) → RaisedAt i xs (set (set (set xs i none) (i + 1) made) i lower)
-raised_at xs i none lower d e made less low same within =
-    let upper : LayerState = get_or (set xs i none) (i + 1) e in
-    let next : i + 1 ≡ suc i = omega arith in
-    let lower_is : lower ≡ layer_at xs i = low ∙ get_or_default xs i d [] (omega (arith, less)) in
-    let upper_is : upper ≡ layer_at xs (i + 1) = get_or-set_other xs i (i + 1) none e (λ q. omega (arith, q)) ∙ get_or_default xs (i + 1) e [] less in
-    let all : set (set (set xs i none) (i + 1) made) i lower ≡ set xs (i + 1) made =
-    (let P : ℕ → Type 0 = λ n. set (set (set xs i none) n made) i lower ≡ set xs n made in
-    subst P (sym next) (ap (set (set (set xs i none) (suc i) made) i) lower_is ∙ put_back xs i none made (omega (arith, less)))) in
-    let at : layer_at (set (set (set xs i none) (i + 1) made) i lower) (i + 1) ≡ made = ap (λ (ls : List LayerState). layer_at ls (i + 1)) all ∙ get_or-set_same xs (i + 1) made [] less in
-    record {
-      others = all ∙ ap (set xs (i + 1)) (sym at);
-      same = rw (at, ← lower_is, ← upper_is) same;
-      within = λ c low_within up_within. rw at (within c (rw (← lower_is) at low_within) (rw (← upper_is) at up_within));
-    }
 
 -- the layer behind the one that is taken out
 behind : (xs : List LayerState) (i : ℕ) → layer_at (remove xs i) i ≡ layer_at xs (suc i)
@@ -58,6 +34,9 @@ length-remove [] i less = absurd (omega (arith, less))
 length-remove (x ∷ xs) zero less = omega arith
 length-remove (x ∷ xs) (suc i) less = omega (arith, length-remove xs i (omega (arith, less)))
 
+pub rest_long : (xs rest : List LayerState) (i : ℕ) → i + 1 < length xs → rest ≡ remove xs i → i < length rest
+rest_long xs rest i less cut = omega (arith, less, ap length cut, length-remove xs i (omega (arith, less)))
+
 pub upper_is : (xs rest : List LayerState) (i : ℕ) (upper : LayerState) → i + 1 < length xs → rest ≡ remove xs i → upper ≡ get_or rest i upper → upper ≡ layer_at xs (i + 1)
 upper_is xs rest i upper less cut up =
     let long : i < length (remove xs i) = omega (arith, less, length-remove xs i (omega (arith, less))) in
@@ -67,7 +46,7 @@ pub lower_is : (xs : List LayerState) (i : ℕ) (lower : LayerState) → i + 1 <
 lower_is xs i lower less low = low ∙ get_or_default xs i lower [] (omega (arith, less))
 
 pub merged_at : (xs rest : List LayerState) (i : ℕ) (lower upper new : LayerState) → i + 1 < length xs → rest ≡ remove xs i → lower ≡ get_or xs i lower → upper ≡ get_or rest i upper
-    → IsMerged lower upper new → ((c : ℕ) → IsWithin c upper → IsWithin c new) → MergedAt i xs (set rest i new)
+    → IsMerged lower upper new → ((c : ℕ) → IsWithin c lower → IsWithin c upper → IsWithin c new) → MergedAt i xs (set rest i new)
 merged_at xs rest i lower upper new less cut low up merged within =
     let long : i < length (remove xs i) = omega (arith, less, length-remove xs i (omega (arith, less))) in
     let lower_same : lower ≡ layer_at xs i = lower_is xs i lower less low in
@@ -77,29 +56,18 @@ merged_at xs rest i lower upper new less cut low up merged within =
     record {
       others = all ∙ ap (set (remove xs i) i) (sym at);
       merged = rw (at, ← lower_same, ← upper_same) merged;
-      within = λ c up_within. rw at (within c (rw (← upper_same) at up_within));
+      within = λ c low_within up_within. rw at (within c (rw (← lower_same) at low_within) (rw (← upper_same) at up_within));
     }
 
 pub element : (xs : List LayerState) (n m : ℕ) (x : LayerState) → n ≡ m → m < length xs → x ≡ get_or xs n x → x ≡ layer_at xs m
 element xs n m x same less is = is ∙ ap (λ (k : ℕ). get_or xs k x) same ∙ get_or_default xs m x [] less
 
--- ---- what an upper layer that was raised leaves
+pub set_twice : (xs : List LayerState) (i : ℕ) (x y : LayerState) → set (set xs i x) i y ≡ set xs i y
+set_twice [] i x y = refl
+set_twice (z ∷ xs) zero x y = refl
+set_twice (z ∷ xs) (suc i) x y = ap (λ (ls : List LayerState). z ∷ ls) (set_twice xs i x y)
 
-pub raised_long : (i : ℕ) (old new : List LayerState) → RaisedAt i old new → length new ≡ length old
-raised_long i old new raised = ap length raised.others ∙ length-set old (i + 1) (layer_at new (i + 1))
-
-pub raised_within : (c i : ℕ) (old new : List LayerState) → RaisedAt i old new → i + 1 < length old → AllByRecursion (IsWithin c) old → AllByRecursion (IsWithin c) new
-raised_within c i old new raised less within =
-    let made : AllByRecursion (IsWithin c) (set old (i + 1) (layer_at new (i + 1))) =
-    all-set (IsWithin c) old (i + 1) (layer_at new (i + 1)) within
-    (raised.within c (all-at (IsWithin c) old i [] within (omega (arith, less))) (all-at (IsWithin c) old (i + 1) [] within less)) in
-    let P : List LayerState → Type 0 = λ ls. AllByRecursion (IsWithin c) ls in subst P (sym raised.others) made
-
-pub raised_holds : (c : ℕ) (ids : List ℕ) (free : ℕ) (freeze_room : Bool) (merge_room : Option ℕ) (i : ℕ) (old new : List LayerState) → RaisedAt i old new → i + 1 < length old
-    → state_of c new ids free freeze_room merge_room ≡ state_of c old ids free freeze_room merge_room
-raised_holds c ids free freeze_room merge_room i old new raised less =
-    ap (λ (ls : List LayerState). state_of c ls ids free freeze_room merge_room) raised.others
-    ∙ raised_state c old ids free freeze_room merge_room i (layer_at new (i + 1)) raised.same less
+-- ---- what a merge leaves
 
 pub merged_long : (i : ℕ) (old new : List LayerState) → MergedAt i old new → i < length old → length new + 1 ≡ length old
 merged_long i old new merged less =
@@ -109,7 +77,7 @@ merged_long i old new merged less =
 pub merged_within : (c i : ℕ) (old new : List LayerState) → MergedAt i old new → i + 1 < length old → AllByRecursion (IsWithin c) old → AllByRecursion (IsWithin c) new
 merged_within c i old new merged less within =
     let made : AllByRecursion (IsWithin c) (set (remove old i) i (layer_at new i)) =
-    all-set (IsWithin c) (remove old i) i (layer_at new i) (all-remove (IsWithin c) old i within) (merged.within c (all-at (IsWithin c) old (i + 1) [] within less)) in
+    all-set (IsWithin c) (remove old i) i (layer_at new i) (all-remove (IsWithin c) old i within) (merged.within c (all-at (IsWithin c) old i [] within (omega (arith, less))) (all-at (IsWithin c) old (i + 1) [] within less)) in
     let P : List LayerState → Type 0 = λ ls. AllByRecursion (IsWithin c) ls in subst P (sym merged.others) made
 
 pub merged_holds : (c bound : ℕ) (ids : List ℕ) (free : ℕ) (freeze_room : Bool) (merge_room : Option ℕ) (id i : ℕ) (old new : List LayerState) → MergedAt i old new
@@ -118,12 +86,6 @@ pub merged_holds : (c bound : ℕ) (ids : List ℕ) (free : ℕ) (freeze_room : 
 merged_holds c bound ids free freeze_room merge_room id i old new merged long are at =
     ap (λ (ls : List LayerState). state_of c ls (remove ids i) free freeze_room None) merged.others
     ∙ merged_state c bound old ids free freeze_room merge_room id i (layer_at new i) long are at merged.merged
-
--- a slice that was lent whole
-pub whole_items : {X : Type 0} (n : ℕ) (old new : List X) → n ≡ length old → length new ≡ length old → take n (new ++ drop (length new) old) ≡ new
-whole_items {X = X} n old new long same =
-    let none : drop (length new) old ≡ [] = drop_all (length new) old (omega (arith, same)) in
-    ap (λ (xs : List X). take n (new ++ xs)) none ∙ ap (take n) (append-nil new) ∙ take_all n new (omega (arith, long, same))
 
 -- ---- refusals
 
@@ -138,29 +100,6 @@ refuse_unknown T false is = refl
 pub only_memory : {T : Type 0} (result : Result T ChainRefused) → IsErrAnd result (λ why. why ≡ NoMemory) → IfErr result (λ why. why ≡ NoMemory)
 only_memory (Ok answer) is = tt
 only_memory (Err why) is = is
-
--- the room for a merge, at the place of the snapshot
-pub room_at : (layers : List LayerState) (ids : List ℕ) (room : Option ℕ) (id i : ℕ) → IfSome room (HasMergeRoom layers ids) → room ≡ Some id → position (nat_eq id) ids ≡ Some i
-    → HasPlacesFor (layer_at layers i) (layer_at layers (i + 1))
-room_at layers ids None id i has is at = absurd (cc)
-room_at layers ids (Some other) id i has is at =
-    let same : other ≡ id = cc in
-    let here : HasMergeRoom layers ids id = rw same at has in
-    let place : here.0 ≡ i = (let e : ◌≡◌ {A = Option ℕ} (Some here.0) (Some i) = sym here.1 ∙ at in cc) in
-    let P : ℕ → Type 0 = λ n. HasPlacesFor (layer_at layers n) (layer_at layers (n + 1)) in subst P place here.2
-
-pub no_room : (layers : List LayerState) (ids : List ℕ) (room : Option ℕ) (id : ℕ) → IfSome room (HasMergeRoom layers ids) → room ≡ Some id → position (nat_eq id) ids ≡ None → ⊥
-no_room layers ids None id has is none = cc
-no_room layers ids (Some other) id has is none =
-    let same : other ≡ id = cc in
-    let here : HasMergeRoom layers ids id = rw same at has in
-    let e : ◌≡◌ {A = Option ℕ} None (Some here.0) = sym none ∙ here.1 in cc
-
-pub room_place : (layers : List LayerState) (ids : List ℕ) (room : Option ℕ) (id : ℕ) → IfSome room (HasMergeRoom layers ids) → room ≡ Some id → (i : ℕ) × (position (nat_eq id) ids ≡ Some i)
-room_place layers ids None id has is = absurd (cc)
-room_place layers ids (Some other) id has is =
-    let same : other ≡ id = cc in
-    let here : HasMergeRoom layers ids id = rw same at has in (here.0, here.1)
 
 pub read_unknown : (T : Type 0) (chain : ChainState) (id : Option ℕ) (first count : ℕ) → contents_of id chain ≡ None → IsRefusedBy {T = T} (read_refusal chain id first count) (Err UnknownSnap)
 read_unknown T chain id first count none = rw none refl

@@ -1,5 +1,6 @@
 pub mod Masks
-pub mod Places
+pub mod Options
+pub mod Slots
 pub mod Writes
 pub mod Stacks
 pub mod States

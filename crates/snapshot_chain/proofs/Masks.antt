@@ -1,19 +1,17 @@
 -- The mask of a page: what one more bit above the others changes, and where a sector stands.
-use Rattle.std.proofs.Common.{Bor, is_some, ◌||◌, ◌≡◌, ℕ, zero, suc, ◌+◌, ◌-◌, ◌*◌, ◌/◌, ◌%◌, ◌<◌, ◌≤◌, ◌^◌, Bool, true, false, cond, List, [], ◌∷◌, ◌++◌, length, ◌≢◌, Option, Some, None, pow_pos, length-append, sym, ap, subst, refl, ◌∙◌, arith, inl, inr}
+use Rattle.std.proofs.Common.{Bor, set, not, eqb, is_some, ◌||◌, ◌≡◌, ℕ, zero, suc, ◌+◌, ◌-◌, ◌*◌, ◌/◌, ◌%◌, ◌<◌, ◌≤◌, ◌^◌, Bool, true, false, cond, List, [], ◌∷◌, ◌++◌, length, ◌≢◌, Option, Some, None, pow_pos, length-append, sym, ap, subst, refl, ◌∙◌, arith, inl, inr}
 use Rattle.std.specs.Int.{bit_at, w128, trailing_zeros}
 use Rattle.std.specs.Int.RustNames.{bit_and, bit_or, count_ones}
 use Rattle.std.specs.List.{slice_get, list_any, range_with_len}
-use Rattle.std.specs.Option.{option_copied}
-use Rattle.std.specs.Slice.{IsItemAt}
-use Rattle.std.proofs.lemmas.Option.{slice_get_past, slice_get_read}
+use Rattle.std.specs.Option.{option_copied, option_map, option_or}
 use Rattle.std.specs.Int.Count.{ones}
 use Rattle.std.proofs.Math.Pow.{pow_mono}
 use Rattle.std.proofs.lemmas.Nat.{ones_cat, one_shl, mod-pow-add, mod-mul-add, mod_below, and_mask, zero_from_ones, pow-add, div-add-mod'}
 use Rattle.std.proofs.lemmas.Nat.Bits.{bit_at_cat_low, bit_at_cat_high, bit_at_above, bit_at-lt, and_pow, bit_at-trailing_zeros}
 use Rattle.std.specs.Int.Bits.{or_shifted_r}
-use Rattle.std.proofs.lemmas.Bool.{cases_eq, cases_lt, eqb-true}
+use Rattle.std.proofs.lemmas.Bool.{cases_eq, cases_lt, eqb-true, eq-eqb, ne_eqb}
 use Rattle.sector_model.specs.declared.sector.Sector.{Sector}
-use Rattle.snapshot_chain.specs.Page128.{PageState, has_place, rank, sector_at, with_sector, IsPage}
+use Rattle.snapshot_chain.specs.Page128.{PageState, no_sectors, has_offset, rank, sector_at, with_sector, IsPage, IsReplaced}
 
 -- one more bit above the others
 pub set_bit : (m p : ℕ) → p < 128 → m < 2 ^ p → bit_or m (1 * 2 ^ p % 2 ^ 128) ≡ m + 2 ^ p
@@ -35,9 +33,6 @@ bit_below m p k less = ap (λ n. bit_at n k) (turned m p) ∙ bit_at_cat_low 1 p
 
 bit_here : (m p : ℕ) → m < 2 ^ p → bit_at (m + 2 ^ p) p ≡ 1
 bit_here m p above = ap (λ n. bit_at n p) (turned m p) ∙ bit_at_cat_high 1 p m p above (omega arith) ∙ (let none : p - p ≡ 0 = omega arith in ap (bit_at 1) none)
-
-bit_past : (m p k : ℕ) → m < 2 ^ p → p < k → bit_at (m + 2 ^ p) k ≡ 0
-bit_past m p k above less = bit_at_above (m + 2 ^ p) (p + 1) k (next_above m p above) (omega arith)
 
 nested : (n j k : ℕ) → n % 2 ^ (j + k) % 2 ^ k ≡ n % 2 ^ k
 nested n j k = ap (λ x. x % 2 ^ k) (mod-pow-add n j k) ∙ mod-mul-add (n / 2 ^ k % 2 ^ j) (2 ^ k) (n % 2 ^ k) (mod_below n (2 ^ k) (pow_pos k))
@@ -87,44 +82,92 @@ chosen : {X : Type 0} (b : Bool) (x y z : Option X) → (b ≡ true → x ≡ y)
 chosen true x y z h = h refl
 chosen false x y z h = refl
 
-pub grown-below : (page : PageState) (place k : ℕ) (sector : Sector) → length page.sectors ≡ count_ones page.mask → page.mask < 2 ^ place → k < place
-    → sector_at (with_sector page place sector) k ≡ sector_at page k
-grown-below page place k sector long above less =
-    rw (bit_below page.mask place k less, rank_below page.mask place k above (omega arith))
-    (chosen (has_place page.mask k) (slice_get (page.sectors ++ sector ∷ []) (rank page.mask k)) (slice_get page.sectors (rank page.mask k)) None
+pub grown-below : (page : PageState) (offset k : ℕ) (sector : Sector) → length page.sectors ≡ count_ones page.mask → page.mask < 2 ^ offset → k < offset
+    → sector_at (with_sector page offset sector) k ≡ sector_at page k
+grown-below page offset k sector long above less =
+    rw (bit_below page.mask offset k less, rank_below page.mask offset k above (omega arith))
+    (chosen (has_offset page.mask k) (slice_get (page.sectors ++ sector ∷ []) (rank page.mask k)) (slice_get page.sectors (rank page.mask k)) None
     (λ set. front page.sectors (sector ∷ []) (rank page.mask k) (omega (arith, rank_less page.mask k (eqb-true (bit_at page.mask k) 1 set), long))))
 
-pub grown-here : (page : PageState) (place : ℕ) (sector : Sector) → length page.sectors ≡ count_ones page.mask → page.mask < 2 ^ place
-    → sector_at (with_sector page place sector) place ≡ Some sector
-grown-here page place sector long above =
-    rw (bit_here page.mask place above, rank_here page.mask place above, ← long) (back page.sectors sector)
+pub grown-here : (page : PageState) (offset : ℕ) (sector : Sector) → length page.sectors ≡ count_ones page.mask → page.mask < 2 ^ offset
+    → sector_at (with_sector page offset sector) offset ≡ Some sector
+grown-here page offset sector long above =
+    rw (bit_here page.mask offset above, rank_here page.mask offset above, ← long) (back page.sectors sector)
 
-pub above_none : (page : PageState) (place k : ℕ) → page.mask < 2 ^ place → place ≤ k → sector_at page k ≡ None
-above_none page place k above le = rw (bit_at_above page.mask place k above le) refl
+pub above_none : (page : PageState) (offset k : ℕ) → page.mask < 2 ^ offset → offset ≤ k → sector_at page k ≡ None
+above_none page offset k above le = rw (bit_at_above page.mask offset k above le) refl
 
 pub empty_none : (page : PageState) (k : ℕ) → page.mask ≡ 0 → sector_at page k ≡ None
 empty_none page k empty = above_none page 0 k (omega (arith, empty)) (omega arith)
 
-no_bit : (b p : ℕ) → b < 2 → b * 2 ^ p ≡ 0 → b ≡ 0
-no_bit zero p less none = refl
-no_bit (suc b) p less none = let one_bit : suc b ≡ 1 = omega (arith, less) in absurd (omega (arith, pow_pos p, rw one_bit at none))
+-- the test of an offset and the index, as code computes them
+pub test_bit : (m k : ℕ) → k < 128 → not (eqb (bit_and m (1 * 2 ^ k % 2 ^ 128)) 0) ≡ has_offset m k
+test_bit m k within = ap (λ x. not (eqb x 0)) (ap (bit_and m) (one_shl k 128 within) ∙ and_pow m k) ∙ elim (cases_eq (bit_at m k) 0) [
+  | inl none ↦ let clear : bit_at m k * 2 ^ k ≡ 0 = ap (λ x. x * 2 ^ k) none ∙ omega arith in
+      ap not (eq-eqb (bit_at m k * 2 ^ k) 0 clear) ∙ sym (ne_eqb (bit_at m k) 1 (λ e. omega (arith, e, none)))
+  | inr some ↦ let one_bit : bit_at m k ≡ 1 = omega (arith, some, bit_at-lt m k) in
+      let set : bit_at m k * 2 ^ k ≡ 2 ^ k = ap (λ x. x * 2 ^ k) one_bit ∙ omega arith in
+      ap not (ne_eqb (bit_at m k * 2 ^ k) 0 (λ e. omega (arith, e, set, pow_pos k))) ∙ sym (eq-eqb (bit_at m k) 1 one_bit)
+]
 
--- the test of a place and the index, as code computes them
-pub no_place : (page : PageState) (place : ℕ) → place < 128 → bit_and page.mask (1 * 2 ^ place % 2 ^ 128) ≡ 0 → sector_at page place ≡ None
-no_place page place within clear =
-    let bit : bit_at page.mask place * 2 ^ place ≡ 0 = sym (and_pow page.mask place) ∙ ap (bit_and page.mask) (sym (one_shl place 128 within)) ∙ clear in
-    let zero_bit : bit_at page.mask place ≡ 0 = no_bit (bit_at page.mask place) place (bit_at-lt page.mask place) bit in
-    rw zero_bit refl
+pub rank_of : (m k : ℕ) → k < 128 → count_ones (bit_and m (1 * 2 ^ k % 2 ^ 128 - 1)) ≡ rank m k
+rank_of m k within = rw (one_shl k 128 within, and_mask m k) refl
 
-bit_set : (b : ℕ) → b < 2 → (b ≡ 0 → ⊥) → b ≡ 1
-bit_set b less some = elim (cases_eq b 0) [ inl none ↦ absurd (some none) | inr other ↦ omega arith ]
+pub has_bit : (m k : ℕ) → has_offset m k ≡ true → bit_at m k ≡ 1
+has_bit m k is = eqb-true (bit_at m k) 1 is
 
-pub at_place : (page : PageState) (place : ℕ) → place < 128 → bit_and page.mask (1 * 2 ^ place % 2 ^ 128) ≢ 0
-    → sector_at page place ≡ slice_get page.sectors (count_ones (bit_and page.mask (1 * 2 ^ place % 2 ^ 128 - 1)))
-at_place page place within set =
-    let bit : bit_and page.mask (1 * 2 ^ place % 2 ^ 128) ≡ bit_at page.mask place * 2 ^ place = ap (bit_and page.mask) (one_shl place 128 within) ∙ and_pow page.mask place in
-    let one_bit : bit_at page.mask place ≡ 1 = bit_set (bit_at page.mask place) (bit_at-lt page.mask place) (λ none. set (bit ∙ (let gone : bit_at page.mask place * 2 ^ place ≡ 0 = ap (λ x. x * 2 ^ place) none ∙ omega arith in gone))) in
-    rw (one_bit, one_shl place 128 within, and_mask page.mask place) refl
+-- ranks of two of a page's offsets differ
+rank_apart : (m j k : ℕ) → j < k → bit_at m j ≡ 1 → rank m j < rank m k
+rank_apart m j k less set =
+    let low : bit_at (m % 2 ^ k) j ≡ 1 = sym (bit_at_cat_low (m / 2 ^ k) k (m % 2 ^ k) j less) ∙ ap (λ n. bit_at n j) (div-add-mod' m (2 ^ k)) ∙ set in
+    let at : k ≡ (k - j) + j = omega (arith, less) in
+    let cut : m % 2 ^ k % 2 ^ j ≡ m % 2 ^ j = ap (λ n. m % 2 ^ n % 2 ^ j) at ∙ nested m (k - j) j in
+    omega (arith, rank_less (m % 2 ^ k) j low, ap count_ones cut)
+
+set_same : {X : Type 0} (xs : List X) (i : ℕ) (x : X) → i < length xs → slice_get (set xs i x) i ≡ Some x
+set_same [] i x less = absurd (omega (arith, less))
+set_same (y ∷ xs) zero x less = refl
+set_same (y ∷ xs) (suc i) x less = set_same xs i x (omega (arith, less))
+
+set_other : {X : Type 0} (xs : List X) (i j : ℕ) (x : X) → i ≢ j → slice_get (set xs i x) j ≡ slice_get xs j
+set_other [] i j x apart = refl
+set_other (y ∷ xs) zero zero x apart = absurd (apart refl)
+set_other (y ∷ xs) zero (suc j) x apart = refl
+set_other (y ∷ xs) (suc i) zero x apart = refl
+set_other (y ∷ xs) (suc i) (suc j) x apart = set_other xs i j x (λ same. apart (ap suc same))
+
+here_some : {X : Type 0} (xs : List X) (i : ℕ) (x : X) → i < length xs → option_map (λ was. x) (slice_get xs i) ≡ Some x
+here_some [] i x less = absurd (omega (arith, less))
+here_some (y ∷ xs) zero x less = refl
+here_some (y ∷ xs) (suc i) x less = here_some xs i x (omega (arith, less))
+
+pub replaced_sector : (page : PageState) (offset : ℕ) (sector : Sector) → length page.sectors ≡ count_ones page.mask → has_offset page.mask offset ≡ true
+    → IsReplaced page offset sector (record { mask = page.mask; sectors = set page.sectors (rank page.mask offset) sector })
+replaced_sector page offset sector long has k within = elim (cases_eq k offset) [
+  | inl same ↦
+      let less : rank page.mask offset < length page.sectors = omega (arith, rank_less page.mask offset (has_bit page.mask offset has), long) in
+      rw (same, has, eq-eqb offset offset refl) (set_same page.sectors (rank page.mask offset) sector less ∙ sym (here_some page.sectors (rank page.mask offset) sector less))
+  | inr other ↦
+      rw (ne_eqb k offset other)
+      (chosen (has_offset page.mask k) (slice_get (set page.sectors (rank page.mask offset) sector) (rank page.mask k)) (slice_get page.sectors (rank page.mask k)) None
+      (λ set_k. set_other page.sectors (rank page.mask offset) (rank page.mask k) sector (apart k other set_k)))
+]
+  where
+    apart : (k : ℕ) → k ≢ offset → has_offset page.mask k ≡ true → rank page.mask offset ≢ rank page.mask k
+    apart k other set_k same = elim (cases_lt k offset) [
+      | inl less ↦ omega (arith, rank_apart page.mask k offset less (has_bit page.mask k set_k), same)
+      | inr from ↦ let above : offset < k = omega (arith, from, other) in omega (arith, rank_apart page.mask offset k above (has_bit page.mask offset has), same)
+    ]
+
+-- without a sector at the offset nothing is replaced
+pub kept_sector : (page : PageState) (offset : ℕ) (sector : Sector) → sector_at page offset ≡ None → IsReplaced page offset sector page
+kept_sector page offset sector none k within = elim (cases_eq k offset) [
+  | inl same ↦ rw (same, eq-eqb offset offset refl) (none ∙ sym (ap (option_map (λ was. sector)) none))
+  | inr other ↦ rw (ne_eqb k offset other) refl
+]
+
+pub index_below : (page : PageState) (offset : ℕ) → IsPage page → has_offset page.mask offset ≡ true → rank page.mask offset < length page.sectors
+index_below page offset is has = omega (arith, rank_less page.mask offset (has_bit page.mask offset has), is.1)
 
 pub below_all : (m p : ℕ) → p < 128 → m < 2 ^ p → m + 2 ^ p < 2 ^ 128
 below_all m p within above = omega (arith, next_above m p above, pow_mono {i = p + 1} {j = 128} (omega arith))
@@ -132,28 +175,23 @@ below_all m p within above = omega (arith, next_above m p above, pow_mono {i = p
 pub grown_count : (xs : List Sector) (x : Sector) (m p : ℕ) → m < 2 ^ p → length xs ≡ count_ones m → length (xs ++ x ∷ []) ≡ count_ones (m + 2 ^ p)
 grown_count xs x m p above long = omega (arith, length-append xs (x ∷ []), long, count_set m p above)
 
--- one place more of a page that is made from the lowest place up
-pub more_some : (page : PageState) (place : ℕ) (sector : Sector) (f : ℕ → Option Sector) → IsPage page → page.mask < 2 ^ place → ((k : ℕ) → k < place → sector_at page k ≡ f k)
-    → f place ≡ Some sector → (k : ℕ) → k < place + 1 → sector_at (with_sector page place sector) k ≡ f k
-more_some page place sector f is above same here k less = elim (cases_lt k place) [
-  | inl below ↦ grown-below page place k sector is.1 above below ∙ same k below
-  | inr past ↦ let at : k ≡ place = omega (arith, past, less) in rw at (grown-here page place sector is.1 above ∙ sym here)
+-- one offset more of a page that is made from the lowest offset up
+pub more_some : (page : PageState) (offset : ℕ) (sector : Sector) (f : ℕ → Option Sector) → IsPage page → page.mask < 2 ^ offset → ((k : ℕ) → k < offset → sector_at page k ≡ f k)
+    → f offset ≡ Some sector → (k : ℕ) → k < offset + 1 → sector_at (with_sector page offset sector) k ≡ f k
+more_some page offset sector f is above same here k less = elim (cases_lt k offset) [
+  | inl below ↦ grown-below page offset k sector is.1 above below ∙ same k below
+  | inr past ↦ let at : k ≡ offset = omega (arith, past, less) in rw at (grown-here page offset sector is.1 above ∙ sym here)
 ]
 
-pub more_none : (page : PageState) (place : ℕ) (f : ℕ → Option Sector) → page.mask < 2 ^ place → ((k : ℕ) → k < place → sector_at page k ≡ f k)
-    → f place ≡ None → (k : ℕ) → k < place + 1 → sector_at page k ≡ f k
-more_none page place f above same here k less = elim (cases_lt k place) [
+pub more_none : (page : PageState) (offset : ℕ) (f : ℕ → Option Sector) → page.mask < 2 ^ offset → ((k : ℕ) → k < offset → sector_at page k ≡ f k)
+    → f offset ≡ None → (k : ℕ) → k < offset + 1 → sector_at page k ≡ f k
+more_none page offset f above same here k less = elim (cases_lt k offset) [
   | inl below ↦ same k below
-  | inr past ↦ let at : k ≡ place = omega (arith, past, less) in rw at (above_none page place place above (omega arith) ∙ sym here)
+  | inr past ↦ let at : k ≡ offset = omega (arith, past, less) in rw at (above_none page offset offset above (omega arith) ∙ sym here)
 ]
 
 pub wider : (m p : ℕ) → m < 2 ^ p → m < 2 ^ (p + 1)
 wider m p above = omega (arith, above, pow-add 2 p 1)
-
--- what `get` gives of a slice
-pub read_item : {X : Type 0} (xs : List X) (i : ℕ) (r : Option (Bor X)) → IsItemAt xs i r → option_copied r ≡ slice_get xs i
-read_item xs i None h = sym (slice_get_past xs i h.3)
-read_item xs i (Some x) h = sym (slice_get_read xs (length xs) i x.now refl h.3.0 (h.4 (omega arith) x.now))
 
 -- a page with a bit has a sector
 any_at : (p : ℕ → Bool) (a n k : ℕ) → a ≤ k → k < a + n → p k ≡ true → list_any p (range_with_len a n) ≡ true
@@ -185,3 +223,53 @@ has_some page is some =
 
 pub has_none : (page : PageState) → page.mask ≡ 0 → list_any (λ k. is_some (sector_at page k)) (range_with_len 0 128) ≡ false
 has_none page empty = none_at (λ k. is_some (sector_at page k)) (range_with_len 0 128) (λ k. ap is_some (empty_none page k empty))
+
+-- a page with one sector
+pub lone_here : (offset : ℕ) (sector : Sector) → sector_at (with_sector no_sectors offset sector) offset ≡ Some sector
+lone_here offset sector = grown-here no_sectors offset sector (sym zero_ones) (pow_pos offset)
+
+pub lone_other : (offset k : ℕ) (sector : Sector) → k ≢ offset → sector_at (with_sector no_sectors offset sector) k ≡ None
+lone_other offset k sector other = elim (cases_lt k offset) [
+  | inl less ↦ grown-below no_sectors offset k sector (sym zero_ones) (pow_pos offset) less ∙ empty_none no_sectors k refl
+  | inr from ↦ above_none (with_sector no_sectors offset sector) (offset + 1) k (next_above 0 offset (pow_pos offset)) (omega (arith, from, other))
+]
+
+pub lone_replaced : (offset : ℕ) (was sector : Sector) → IsReplaced (with_sector no_sectors offset was) offset sector (with_sector no_sectors offset sector)
+lone_replaced offset was sector k within = elim (cases_eq k offset) [
+  | inl same ↦ rw (same, eq-eqb offset offset refl) (lone_here offset sector ∙ sym (ap (option_map (λ gone. sector)) (lone_here offset was)))
+  | inr other ↦ rw (ne_eqb k offset other) (lone_other offset k sector other ∙ sym (lone_other offset k was other))
+]
+
+pub lone_page : (offset : ℕ) (sector : Sector) → offset < 128 → IsPage (with_sector no_sectors offset sector)
+lone_page offset sector within = (below_all 0 offset within (pow_pos offset), grown_count [] sector 0 offset (pow_pos offset) (sym zero_ones))
+
+-- a page that is made from the lowest offset up
+pub record IsBuilt (page : PageState) (end : ℕ) (f : ℕ → Option Sector) : Type 0 where
+  pub is_page : IsPage page
+  pub above : page.mask < 2 ^ end
+  pub same : (k : ℕ) → k < end → sector_at page k ≡ f k
+
+pub built_some : (page : PageState) (offset : ℕ) (sector : Sector) (f : ℕ → Option Sector) → offset < 128 → IsBuilt page offset f → f offset ≡ Some sector → IsBuilt (with_sector page offset sector) (offset + 1) f
+built_some page offset sector f within is here = record {
+  is_page = (below_all page.mask offset within is.above, grown_count page.sectors sector page.mask offset is.above is.is_page.1);
+  above = next_above page.mask offset is.above;
+  same = more_some page offset sector f is.is_page is.above is.same here;
+}
+
+pub built_none : (page : PageState) (offset : ℕ) (f : ℕ → Option Sector) → IsBuilt page offset f → f offset ≡ None → IsBuilt page (offset + 1) f
+built_none page offset f is here = record {
+  is_page = is.is_page;
+  above = wider page.mask offset is.above;
+  same = more_none page offset f is.above is.same here;
+}
+
+pub built_empty : (f : ℕ → Option Sector) → IsBuilt no_sectors 0 f
+built_empty f = record {
+  is_page = (pow_pos 128, sym zero_ones);
+  above = pow_pos 0;
+  same = λ k less. absurd (omega (arith, less));
+}
+
+pub copied_or : (a b : Option (Bor Sector)) → option_copied (option_or a b) ≡ option_or (option_copied a) (option_copied b)
+copied_or None b = refl
+copied_or (Some x) b = refl

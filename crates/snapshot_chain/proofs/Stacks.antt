@@ -8,28 +8,25 @@ use Rattle.std.specs.List.{list_any, range_with_len, filter, remove, slice_get}
 use Rattle.sector_model.specs.Sector.{zero_sector}
 use Rattle.sector_model.specs.Run.{block_count}
 use Rattle.sector_model.specs.declared.sector.Sector.{Sector}
-use Rattle.snapshot_chain.specs.Layer.{LayerState, sector_in, HasSameOver, IsMerged}
+use Rattle.snapshot_chain.specs.Layer.{LayerState, sector_in, IsMerged}
 use Rattle.snapshot_chain.specs.Chain.{Snapshot}
 use Rattle.snapshot_chain.specs.Layers.{found, sector_found, contents_in, has_found, blocks_in, snapshot_in, snapshots_in, layer_at}
-use Rattle.snapshot_chain.proofs.Places.{or_none, or_assoc}
+use Rattle.snapshot_chain.proofs.Options.{or_none, or_assoc}
 
 -- both lists hold the same sectors
 pub record HoldsSame (xs ys : List LayerState) : Type 0 where
-  pub at : (block place : ℕ) → place < 128 → found ys block place ≡ found xs block place
+  pub at : (block offset : ℕ) → offset < 128 → found ys block offset ≡ found xs block offset
 
-pub found-append : (xs ys : List LayerState) (block place : ℕ) → found (xs ++ ys) block place ≡ option_or (found ys block place) (found xs block place)
-found-append [] ys block place = sym (or_none (found ys block place))
-found-append (x ∷ xs) ys block place =
-    ap (λ (o : Option Sector). option_or o (sector_in x block place)) (found-append xs ys block place)
-    ∙ or_assoc (found ys block place) (found xs block place) (sector_in x block place)
-
-pub holds_refl : (xs : List LayerState) → HoldsSame xs xs
-holds_refl xs = record { at = λ block place within. refl }
+pub found-append : (xs ys : List LayerState) (block offset : ℕ) → found (xs ++ ys) block offset ≡ option_or (found ys block offset) (found xs block offset)
+found-append [] ys block offset = sym (or_none (found ys block offset))
+found-append (x ∷ xs) ys block offset =
+    ap (λ (o : Option Sector). option_or o (sector_in x block offset)) (found-append xs ys block offset)
+    ∙ or_assoc (found ys block offset) (found xs block offset) (sector_in x block offset)
 
 pub holds_append : (xs ys zs : List LayerState) → HoldsSame xs ys → HoldsSame (xs ++ zs) (ys ++ zs)
 holds_append xs ys zs same = record {
-  at = λ block place within.
-      found-append ys zs block place ∙ ap (option_or (found zs block place)) (same.at block place within) ∙ sym (found-append xs zs block place);
+  at = λ block offset within.
+      found-append ys zs block offset ∙ ap (option_or (found zs block offset)) (same.at block offset within) ∙ sym (found-append xs zs block offset);
 }
 
 -- lists made from functions that agree are one
@@ -52,7 +49,7 @@ pub contents-same : (c : ℕ) (xs ys : List LayerState) → HoldsSame xs ys → 
 contents-same c xs ys same = map-same (sector_found ys) (sector_found xs) 0 c (λ s. ap (λ (o : Option Sector). unwrap_or o zero_sector) (same.at (s / 128) (s % 128) (omega arith)))
 
 pub has-same : (xs ys : List LayerState) (block : ℕ) → HoldsSame xs ys → has_found ys block ≡ has_found xs block
-has-same xs ys block same = any-same (λ place. is_some (found ys block place)) (λ place. is_some (found xs block place)) 0 128 (λ place from less. ap is_some (same.at block place (omega (arith, less))))
+has-same xs ys block same = any-same (λ offset. is_some (found ys block offset)) (λ offset. is_some (found xs block offset)) 0 128 (λ offset from less. ap is_some (same.at block offset (omega (arith, less))))
 
 pub blocks-same : (c : ℕ) (xs ys : List LayerState) → HoldsSame xs ys → blocks_in c ys ≡ blocks_in c xs
 blocks-same c xs ys same = filter-same (has_found ys) (has_found xs) (range_with_len 0 (block_count c)) (λ b. has-same xs ys b same)
@@ -96,61 +93,25 @@ not_among j id [] i apart at = absurd (cc)
 not_among j id (k ∷ ids) zero apart at = let same : k ≡ id = cc in rw (← same) ((or_parts (nat_eq j k) (list_any (nat_eq j) ids) apart).0)
 not_among j id (k ∷ ids) (suc i) apart at = not_among j id ids i ((or_parts (nat_eq j k) (list_any (nat_eq j) ids) apart).1) at
 
--- over the layer below, another upper layer has the same
-raised_pair : (below : List LayerState) (lower old new : LayerState) → HasSameOver lower old new → HoldsSame ((below ++ lower ∷ []) ++ old ∷ []) ((below ++ lower ∷ []) ++ new ∷ [])
-raised_pair below lower old new same = record {
-  at = λ block place within.
-      found-append (below ++ lower ∷ []) (new ∷ []) block place ∙ ap (option_or (sector_in new block place)) (found-append below (lower ∷ []) block place)
-      ∙ sym (or_assoc (sector_in new block place) (sector_in lower block place) (found below block place))
-      ∙ ap (λ (o : Option Sector). option_or o (found below block place)) (same block place within)
-      ∙ or_assoc (sector_in old block place) (sector_in lower block place) (found below block place)
-      ∙ sym (found-append (below ++ lower ∷ []) (old ∷ []) block place ∙ ap (option_or (sector_in old block place)) (found-append below (lower ∷ []) block place));
-}
-
-pub snapshots-raised : (c : ℕ) (below : List LayerState) (ids : List ℕ) (layers : List LayerState) (i : ℕ) (upper : LayerState)
-    → HasSameOver (layer_at layers i) (layer_at layers (suc i)) upper → suc i < length layers → snapshots_in c below ids (set layers (suc i) upper) ≡ snapshots_in c below ids layers
-snapshots-raised c below ids [] i upper same less = absurd (omega (arith, less))
-snapshots-raised c below ids (lower ∷ []) i upper same less = absurd (omega (arith, less))
-snapshots-raised c below [] (lower ∷ up ∷ rest) i upper same less = refl
-snapshots-raised c below (id ∷ []) (lower ∷ up ∷ rest) zero upper same less = refl
-snapshots-raised c below (id ∷ j ∷ ids) (lower ∷ up ∷ rest) zero upper same less =
-    let both : HoldsSame ((below ++ lower ∷ []) ++ up ∷ []) ((below ++ lower ∷ []) ++ upper ∷ []) = raised_pair below lower up upper same in
-    ap (λ (ss : List Snapshot). snapshot_in c id (below ++ lower ∷ []) ∷ ss)
-    (two (snapshot-same c j ((below ++ lower ∷ []) ++ up ∷ []) ((below ++ lower ∷ []) ++ upper ∷ []) both) (snapshots-same c ((below ++ lower ∷ []) ++ up ∷ []) ((below ++ lower ∷ []) ++ upper ∷ []) ids rest both))
-snapshots-raised c below (id ∷ ids) (l ∷ m ∷ rest) (suc i) upper same less =
-    ap (λ (ss : List Snapshot). snapshot_in c id (below ++ l ∷ []) ∷ ss) (snapshots-raised c (below ++ l ∷ []) ids (m ∷ rest) i upper same (omega (arith, less)))
-
-pub holds-raised : (layers : List LayerState) (i : ℕ) (upper : LayerState) → HasSameOver (layer_at layers i) (layer_at layers (suc i)) upper → suc i < length layers → HoldsSame layers (set layers (suc i) upper)
-holds-raised [] i upper same less = absurd (omega (arith, less))
-holds-raised (lower ∷ []) i upper same less = absurd (omega (arith, less))
-holds-raised (lower ∷ up ∷ rest) zero upper same less = record {
-  at = λ block place within.
-      or_assoc (found rest block place) (sector_in upper block place) (sector_in lower block place) ∙ ap (option_or (found rest block place)) (same block place within)
-      ∙ sym (or_assoc (found rest block place) (sector_in up block place) (sector_in lower block place));
-}
-holds-raised (l ∷ m ∷ rest) (suc i) upper same less =
-    let tail : HoldsSame (m ∷ rest) (set (m ∷ rest) (suc i) upper) = holds-raised (m ∷ rest) i upper same (omega (arith, less)) in
-    record { at = λ block place within. ap (λ (o : Option Sector). option_or o (sector_in l block place)) (tail.at block place within) }
-
 -- two layers that became one
 merged_pair : (below : List LayerState) (lower upper new : LayerState) → IsMerged lower upper new → HoldsSame ((below ++ lower ∷ []) ++ upper ∷ []) (below ++ new ∷ [])
 merged_pair below lower upper new merged = record {
-  at = λ block place within.
-      found-append below (new ∷ []) block place ∙ ap (λ (o : Option Sector). option_or o (found below block place)) (merged block place within)
-      ∙ or_assoc (sector_in upper block place) (sector_in lower block place) (found below block place)
-      ∙ sym (found-append (below ++ lower ∷ []) (upper ∷ []) block place ∙ ap (option_or (sector_in upper block place)) (found-append below (lower ∷ []) block place));
+  at = λ block offset within.
+      found-append below (new ∷ []) block offset ∙ ap (λ (o : Option Sector). option_or o (found below block offset)) (merged block offset within)
+      ∙ or_assoc (sector_in upper block offset) (sector_in lower block offset) (found below block offset)
+      ∙ sym (found-append (below ++ lower ∷ []) (upper ∷ []) block offset ∙ ap (option_or (sector_in upper block offset)) (found-append below (lower ∷ []) block offset));
 }
 
 pub holds-merged : (layers : List LayerState) (i : ℕ) (new : LayerState) → IsMerged (layer_at layers i) (layer_at layers (suc i)) new → suc i < length layers → HoldsSame layers (set (remove layers i) i new)
 holds-merged [] i new merged less = absurd (omega (arith, less))
 holds-merged (lower ∷ []) i new merged less = absurd (omega (arith, less))
 holds-merged (lower ∷ up ∷ rest) zero new merged less = record {
-  at = λ block place within.
-      ap (option_or (found rest block place)) (merged block place within) ∙ sym (or_assoc (found rest block place) (sector_in up block place) (sector_in lower block place));
+  at = λ block offset within.
+      ap (option_or (found rest block offset)) (merged block offset within) ∙ sym (or_assoc (found rest block offset) (sector_in up block offset) (sector_in lower block offset));
 }
 holds-merged (l ∷ m ∷ rest) (suc i) new merged less =
     let tail : HoldsSame (m ∷ rest) (set (remove (m ∷ rest) i) i new) = holds-merged (m ∷ rest) i new merged (omega (arith, less)) in
-    record { at = λ block place within. ap (λ (o : Option Sector). option_or o (sector_in l block place)) (tail.at block place within) }
+    record { at = λ block offset within. ap (λ (o : Option Sector). option_or o (sector_in l block offset)) (tail.at block offset within) }
 
 filter-apart : (c id : ℕ) (below : List LayerState) (ids : List ℕ) (layers : List LayerState) → list_any (nat_eq id) ids ≡ false
     → filter (λ s. not (s.id == id)) (snapshots_in c below ids layers) ≡ snapshots_in c below ids layers

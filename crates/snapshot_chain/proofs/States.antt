@@ -15,13 +15,13 @@ use Rattle.sector_model.specs.Run.{block_count, touches}
 use Rattle.sector_model.specs.Disk.{replaced}
 use Rattle.sector_model.specs.declared.sector.Sector.{Sector}
 use Rattle.snapshot_chain.specs.Page128.{run_at}
-use Rattle.snapshot_chain.specs.Layer.{LayerState, sector_in, HasSame, IsWritten, HasSameOver, IsMerged}
+use Rattle.snapshot_chain.specs.Layer.{LayerState, sector_in, HasSame, IsWritten, IsMerged}
 use Rattle.snapshot_chain.specs.Chain.{contents_of, with_touched, after_writing, after_freezing, after_merging, fresh}
 use Rattle.snapshot_chain.specs.Layers.{found, sector_found, contents_in, has_found, blocks_in, snapshot_in, snapshots_in, layer_at}
 use Rattle.snapshot_chain.specs.Kept.{state_of, AreIds}
 use Rattle.snapshot_chain.specs.Reading.{layers_seen}
-use Rattle.snapshot_chain.proofs.Places.{or_assoc}
-use Rattle.snapshot_chain.proofs.Stacks.{HoldsSame, found-append, map-same, any-same, contents-same, blocks-same, snapshots-newest, snapshots-push, snapshots-raised, holds-raised, snapshots-merged, holds-merged}
+use Rattle.snapshot_chain.proofs.Options.{or_assoc}
+use Rattle.snapshot_chain.proofs.Stacks.{HoldsSame, found-append, map-same, any-same, contents-same, blocks-same, snapshots-newest, snapshots-push, snapshots-merged, holds-merged}
 
 -- ---- where an id stands
 
@@ -74,7 +74,7 @@ at_position id (j ∷ ids) i at = placed id j ids i (position (nat_eq id) ids) r
 -- ---- a freeze
 
 opened : (layers : List LayerState) → HoldsSame layers (layers ++ [] ∷ [])
-opened layers = record { at = λ block place within. found-append layers ([] ∷ []) block place }
+opened layers = record { at = λ block offset within. found-append layers ([] ∷ []) block offset }
 
 pub frozen_state : (c : ℕ) (layers : List LayerState) (ids : List ℕ) (free : ℕ) (freeze_room : Bool) (merge_room : Option ℕ) (id : ℕ) → length layers ≡ length ids + 1
     → state_of c (layers ++ [] ∷ []) (ids ++ id ∷ []) (id + 1) false None ≡ after_freezing id (state_of c layers ids free freeze_room merge_room)
@@ -82,17 +82,6 @@ frozen_state c layers ids free freeze_room merge_room id long =
     rw (contents-same c layers (layers ++ [] ∷ []) (opened layers), blocks-same c layers (layers ++ [] ∷ []) (opened layers), snapshots-push c [] ids layers id [] long) refl
 
 -- ---- a reserve and a merge
-
-pub raised_state : (c : ℕ) (layers : List LayerState) (ids : List ℕ) (free : ℕ) (freeze_room : Bool) (merge_room : Option ℕ) (i : ℕ) (upper : LayerState)
-    → HasSameOver (layer_at layers i) (layer_at layers (i + 1)) upper → i + 1 < length layers
-    → state_of c (set layers (i + 1) upper) ids free freeze_room merge_room ≡ state_of c layers ids free freeze_room merge_room
-raised_state c layers ids free freeze_room merge_room i upper same less =
-    let next : i + 1 ≡ suc i = omega arith in
-    let P : ℕ → Type 0 = λ n. HasSameOver (layer_at layers i) (layer_at layers n) upper → n < length layers
-    → state_of c (set layers n upper) ids free freeze_room merge_room ≡ state_of c layers ids free freeze_room merge_room in
-    subst P (sym next) (λ over within.
-    rw (contents-same c layers (set layers (suc i) upper) (holds-raised layers i upper over within), blocks-same c layers (set layers (suc i) upper) (holds-raised layers i upper over within), snapshots-raised c [] ids layers i upper over within) refl)
-    same less
 
 pub merged_state : (c bound : ℕ) (layers : List LayerState) (ids : List ℕ) (free : ℕ) (freeze_room : Bool) (merge_room : Option ℕ) (id i : ℕ) (new : LayerState)
     → length layers ≡ length ids + 1 → AreIds bound ids → position (nat_eq id) ids ≡ Some i → IsMerged (layer_at layers i) (layer_at layers (i + 1)) new
@@ -107,13 +96,13 @@ merged_state c bound layers ids free freeze_room merge_room id i new long are at
 -- ---- a write
 
 raised-newest : (layers : List LayerState) (n first : ℕ) (sectors : List Sector) (new : LayerState) → length layers ≡ n + 1 → IsWritten (layer_at layers n) new first sectors
-    → (block place : ℕ) → place < 128 → found (set layers n new) block place ≡ option_or (run_at first sectors (128 * block + place)) (found layers block place)
-raised-newest [] n first sectors new long written block place within = absurd (omega (arith, long))
-raised-newest (l ∷ []) zero first sectors new long written block place within = written block place within
-raised-newest (l ∷ m ∷ layers) zero first sectors new long written block place within = absurd (omega (arith, long))
-raised-newest (l ∷ layers) (suc n) first sectors new long written block place within =
-    ap (λ (o : Option Sector). option_or o (sector_in l block place)) (raised-newest layers n first sectors new (omega (arith, long)) written block place within)
-    ∙ or_assoc (run_at first sectors (128 * block + place)) (found layers block place) (sector_in l block place)
+    → (block offset : ℕ) → offset < 128 → found (set layers n new) block offset ≡ option_or (run_at first sectors (128 * block + offset)) (found layers block offset)
+raised-newest [] n first sectors new long written block offset within = absurd (omega (arith, long))
+raised-newest (l ∷ []) zero first sectors new long written block offset within = written block offset within
+raised-newest (l ∷ m ∷ layers) zero first sectors new long written block offset within = absurd (omega (arith, long))
+raised-newest (l ∷ layers) (suc n) first sectors new long written block offset within =
+    ap (λ (o : Option Sector). option_or o (sector_in l block offset)) (raised-newest layers n first sectors new (omega (arith, long)) written block offset within)
+    ∙ or_assoc (run_at first sectors (128 * block + offset)) (found layers block offset) (sector_in l block offset)
 
 -- a made list in which a run is replaced
 replaced-made : (f : ℕ → Sector) (first : ℕ) (ys : List Sector) (c : ℕ) → first + length ys ≤ c
@@ -159,7 +148,7 @@ pub written_state : (c : ℕ) (layers : List LayerState) (ids : List ℕ) (free 
 written_state c layers ids free freeze_room merge_room first sectors new long fits written =
     rw (contents, blocks, snapshots-newest c [] ids layers new) refl
   where
-    more : (block place : ℕ) → place < 128 → found (set layers (length ids) new) block place ≡ option_or (run_at first sectors (128 * block + place)) (found layers block place)
+    more : (block offset : ℕ) → offset < 128 → found (set layers (length ids) new) block offset ≡ option_or (run_at first sectors (128 * block + offset)) (found layers block offset)
     more = raised-newest layers (length ids) first sectors new long written
 
     each : (s : ℕ) → sector_found (set layers (length ids) new) s ≡ unwrap_or (run_at first sectors s) (sector_found layers s)
@@ -177,19 +166,19 @@ written_state c layers ids free freeze_room merge_room first sectors new long fi
 
     blocks : blocks_in c (set layers (length ids) new) ≡ with_touched c (record { first = first; sectors = sectors }) (blocks_in c layers)
     blocks = filter-range_same (has_found (set layers (length ids) new)) (λ b. list_any (nat_eq b) (blocks_in c layers) || touches b (record { first = first; sectors = sectors })) 0 (block_count c)
-        (λ b from less. any-same (λ place. is_some (found (set layers (length ids) new) b place)) (λ place. is_some (option_or (run_at first sectors (128 * b + place)) (found layers b place))) 0 128
-        (λ place low within. ap is_some (more b place (omega (arith, within))))
+        (λ b from less. any-same (λ offset. is_some (found (set layers (length ids) new) b offset)) (λ offset. is_some (option_or (run_at first sectors (128 * b + offset)) (found layers b offset))) 0 128
+        (λ offset low within. ap is_some (more b offset (omega (arith, within))))
         ∙ has_more first sectors b (found layers b)
         ∙ ap (λ x. x || touches b (record { first = first; sectors = sectors })) (sym (among (has_found layers) b (block_count c) (omega (arith, less)))))
 
 -- a write that was refused for want of memory
 same-newest : (layers : List LayerState) (n : ℕ) (new : LayerState) → length layers ≡ n + 1 → HasSame (layer_at layers n) new → HoldsSame layers (set layers n new)
 same-newest [] n new long same = absurd (omega (arith, long))
-same-newest (l ∷ []) zero new long same = record { at = λ block place within. same block place within }
+same-newest (l ∷ []) zero new long same = record { at = λ block offset within. same block offset within }
 same-newest (l ∷ m ∷ layers) zero new long same = absurd (omega (arith, long))
 same-newest (l ∷ layers) (suc n) new long same =
     let tail : HoldsSame layers (set layers n new) = same-newest layers n new (omega (arith, long)) same in
-    record { at = λ block place within. ap (λ (o : Option Sector). option_or o (sector_in l block place)) (tail.at block place within) }
+    record { at = λ block offset within. ap (λ (o : Option Sector). option_or o (sector_in l block offset)) (tail.at block offset within) }
 
 pub unwritten_state : (c : ℕ) (layers : List LayerState) (ids : List ℕ) (free : ℕ) (freeze_room : Bool) (merge_room : Option ℕ) (new : LayerState)
     → length layers ≡ length ids + 1 → HasSame (layer_at layers (length ids)) new
@@ -219,12 +208,7 @@ live_in c id ids layers long = ap is_some (find-in c id [] ids layers long) ∙ 
     kept None = refl
     kept (Some i) = refl
 
--- one empty layer
-none_found : (xs : List ℕ) → list_any (λ place. false) xs ≡ false
-none_found [] = refl
-none_found (x ∷ xs) = none_found xs
-
-no_blocks : (xs : List ℕ) → filter (λ b. list_any (λ place. false) (range_with_len 0 128)) xs ≡ []
+no_blocks : (xs : List ℕ) → filter (λ b. list_any (λ offset. false) (range_with_len 0 128)) xs ≡ []
 no_blocks [] = refl
 no_blocks (x ∷ xs) = no_blocks xs
 

@@ -1,5 +1,5 @@
 -- Which blocks are touched with one write more.
-use Rattle.std.proofs.Common.{◌≡◌, ℕ, zero, suc, ◌+◌, ◌-◌, ◌*◌, ◌<◌, ◌≤◌, min, max, List, [], ◌∷◌, ◌++◌, length, Bool, true, false, Option, Some, None, is_some, sym, ap, refl, ◌∙◌, arith, ltb, leb, nat_eq, ◌||◌, ◌&&◌, inl, inr}
+use Rattle.std.proofs.Common.{◌≡◌, ℕ, zero, suc, ◌+◌, ◌-◌, ◌*◌, ◌<◌, min, max, List, [], ◌∷◌, ◌++◌, length, Bool, true, false, Option, Some, None, is_some, sym, ap, refl, ◌∙◌, arith, ltb, leb, nat_eq, ◌||◌, ◌&&◌, inl, inr}
 use Rattle.std.specs.Option.{option_or}
 use Rattle.std.specs.List.{list_any, range_with_len, filter, slice_get}
 use Rattle.std.proofs.Math.Bool.{or-false}
@@ -57,10 +57,6 @@ any-or f g h (x ∷ xs) same = rw (same x, any-or f g h xs same) (four (f x) (g 
     four false true true d = refl
     four false true false d = refl
     four false false c d = refl
-
-any_eq : (f g : ℕ → Bool) (xs : List ℕ) → ((k : ℕ) → f k ≡ g k) → list_any f xs ≡ list_any g xs
-any_eq f g [] same = refl
-any_eq f g (x ∷ xs) same = rw (same x, any_eq f g xs same) refl
 
 -- a block in which a run is written over what was found before
 pub has_more : (first : ℕ) (xs : List Sector) (block : ℕ) (old : ℕ → Option Sector)

@@ -1,72 +1,86 @@
--- What happened to a disk, step by step, and what a chain that stands for it holds.
-use Rattle.std.specs.Prelude.{◌≡◌, ℕ, ◌<◌, ◌≤◌, ◌==◌, ◌↔◌, List, [], ◌∷◌, ◌++◌, take, Bool, true, false, Option, Some, None, is_some, IfSome, if◌then◌else◌}
-use Rattle.std.specs.List.{fold, filter_map, list_any, position_or_len}
+-- What happened to a disk, one event after another, and what a chain that stands for it holds.
+use Rattle.std.specs.Prelude.{◌≡◌, ℕ, ◌<◌, ◌≤◌, ◌==◌, ◌↔◌, List, [], ◌∷◌, ◌++◌, map, filter, take, Bool, false, not, Option, Some, None, IfSome}
+use Rattle.std.specs.List.{fold, filter_map, list_any, position_or_len, All, AllPairs}
 use Rattle.sector_model.specs.Disk.{Write, fold_writes}
 use Rattle.sector_model.specs.Run.{touched_blocks, areas_of}
 use Rattle.sector_model.specs.declared.sector.Sector.{Sector}
 use Rattle.sector_model.specs.declared.run.Run.{Run}
 use Rattle.snapshot_chain.specs.Chain.{ChainState, Snapshot, snapshot_of}
 
-pub data Step : Type 0 where
-  Written : (write : Write) → Step
-  Frozen : (id : ℕ) → Step
-  Merged : (id : ℕ) → Step
+pub data DiskEvent : Type 0 where
+  Written : (write : Write) → DiskEvent
+  Frozen : (id : ℕ) → DiskEvent
+  Merged : (id : ℕ) → DiskEvent
 
-abbrev pub write_in : Step → Option Write
+abbrev pub write_in : DiskEvent → Option Write
 write_in (Written write) = Some write
 write_in _ = None
 
-abbrev pub freezes : ℕ → Step → Bool
+abbrev pub frozen_in : DiskEvent → Option ℕ
+frozen_in (Frozen id) = Some id
+frozen_in _ = None
+
+abbrev pub freezes : ℕ → DiskEvent → Bool
 freezes s (Frozen id) = id == s
 freezes s _ = false
 
 -- the writes, in order
-abbrev pub writes_in : List Step → List Write
+abbrev pub writes_in : List DiskEvent → List Write
 writes_in history = filter_map write_in history
 
--- what the steps leave of a disk of c sectors
-abbrev pub present : ℕ → List Step → List Sector
+-- the ids that were frozen, in order
+abbrev pub frozen_ids : List DiskEvent → List ℕ
+frozen_ids history = filter_map frozen_in history
+
+-- what the events leave of a disk of c sectors
+abbrev pub present : ℕ → List DiskEvent → List Sector
 present c history = fold_writes c (writes_in history)
 
--- the steps before snapshot s was frozen
-abbrev pub before_freeze : ℕ → List Step → List Step
+-- the events before snapshot s was frozen
+abbrev pub before_freeze : ℕ → List DiskEvent → List DiskEvent
 before_freeze s history = take (position_or_len (freezes s) history) history
 
-abbrev pub frozen : ℕ → ℕ → List Step → List Sector
+abbrev pub frozen : ℕ → ℕ → List DiskEvent → List Sector
 frozen c s history = present c (before_freeze s history)
 
 -- the blocks that were written before snapshot s, ascending, and their areas
-abbrev pub touched_before : ℕ → ℕ → List Step → List ℕ
+abbrev pub touched_before : ℕ → ℕ → List DiskEvent → List ℕ
 touched_before c s history = touched_blocks c (writes_in (before_freeze s history))
 
-abbrev pub allocated : ℕ → ℕ → List Step → List Run
+abbrev pub allocated : ℕ → ℕ → List DiskEvent → List Run
 allocated c s history = areas_of c (touched_before c s history)
 
--- a snapshot is live from its freeze on until its merge
-abbrev pub live_after : ℕ → Bool → Step → Bool
-live_after s live (Frozen id) = if id == s then true else live
-live_after s live (Merged id) = if id == s then false else live
-live_after s live (Written write) = live
+-- the live snapshots: those that were frozen and not merged since, in the order of their freezes
+abbrev pub live_after : (live : List ℕ) → DiskEvent → List ℕ
+live_after live (Frozen id) = live ++ id ∷ []
+live_after live (Merged id) = filter (λ s. not (s == id)) live
+live_after live (Written write) = live
 
-abbrev pub is_live : ℕ → List Step → Bool
-is_live s history = fold (live_after s) false history
+abbrev pub live_snapshots : List DiskEvent → List ℕ
+live_snapshots history = fold live_after [] history
+
+abbrev pub is_live : ℕ → List DiskEvent → Bool
+is_live s history = list_any (λ id. id == s) (live_snapshots history)
 
 -- the snapshot has what s froze
-pub record IsFrozenAs (c s : ℕ) (history : List Step) (snapshot : Snapshot) : Type 0 where
+pub record IsFrozenAs (c s : ℕ) (history : List DiskEvent) (snapshot : Snapshot) : Type 0 where
   pub contents : snapshot.contents ≡ frozen c s history
   pub blocks : snapshot.blocks ≡ touched_before c s history
 
--- the chain holds what the history leaves, now and at each live snapshot
-pub record StandsFor (chain : ChainState) (history : List Step) : Type 0 where
+-- the chain holds what the history leaves, now and at each live snapshot, and the history is one of
+-- a disk: each freeze is under an id above all earlier ones, so no snapshot stands twice among the
+-- live ones
+pub record StandsFor (chain : ChainState) (history : List DiskEvent) : Type 0 where
   pub present : chain.present ≡ present chain.capacity history
   pub blocks : chain.blocks ≡ touched_blocks chain.capacity (writes_in history)
-  pub live : (s : ℕ) → is_some (snapshot_of s chain) ≡ is_live s history
+  pub ascending : AllPairs (λ earlier later. earlier < later) (frozen_ids history)
+  pub distinct : AllPairs (λ earlier later. earlier < later) (live_snapshots history)
+  pub live : map (λ snapshot. snapshot.id) chain.snapshots ≡ live_snapshots history
   pub frozen : (s : ℕ) → IfSome (snapshot_of s chain) (IsFrozenAs chain.capacity s history)
   -- an id is free exactly where it is above all that were frozen
-  pub free : (id : ℕ)
-      → (chain.free_from ≤ id) ↔ ((s : ℕ) → list_any (freezes s) history ≡ true → s < id)
+  pub free : (id : ℕ) → (chain.free_from ≤ id) ↔ All (λ s. s < id) (frozen_ids history)
 
--- whatever the old value stood for, the new one stands for with one step more
-abbrev pub Takes : Step → (old new : ChainState) → Type 0
-Takes step old new = (history : List Step) → StandsFor old history
-    → StandsFor new (history ++ step ∷ [])
+-- whatever the old value stood for, the new one stands for with one event more
+abbrev pub Takes : DiskEvent → (old new : ChainState) → Type 0
+Takes event old new = (history : List DiskEvent) → StandsFor old history
+    → StandsFor new (history ++ event ∷ [])

@@ -4,19 +4,20 @@ use Rattle.std.specs.Option.{option_or}
 use Rattle.std.specs.List.{list_any, range_with_len, remove}
 use Rattle.sector_model.specs.Sector.{zero_sector}
 use Rattle.sector_model.specs.Run.{block_count}
+use Rattle.sector_model.specs.declared.run.TheConstants.{BLOCK_SECTORS}
 use Rattle.sector_model.specs.declared.sector.Sector.{Sector}
 use Rattle.snapshot_chain.specs.Chain.{Snapshot}
-use Rattle.snapshot_chain.specs.Layer.{LayerState, sector_in, IsWithin, HasSameOver, IsMerged}
+use Rattle.snapshot_chain.specs.Layer.{LayerState, sector_in, IsWithin, IsMerged}
 
 -- the newest layer's sector, else what the layers below have
 abbrev pub found : List LayerState → ℕ → ℕ → Option Sector
-found [] block place = None
-found (layer ∷ layers) block place =
-    option_or (found layers block place) (sector_in layer block place)
+found [] block offset = None
+found (layer ∷ layers) block offset =
+    option_or (found layers block offset) (sector_in layer block offset)
 
 -- sector s of the disk, zero where no layer has it
 abbrev pub sector_found : List LayerState → ℕ → Sector
-sector_found layers s = unwrap_or (found layers (s / 128) (s % 128)) zero_sector
+sector_found layers s = unwrap_or (found layers (s / BLOCK_SECTORS) (s % BLOCK_SECTORS)) zero_sector
 
 abbrev pub contents_in : ℕ → List LayerState → List Sector
 contents_in c layers = map (sector_found layers) (range_with_len 0 c)
@@ -24,7 +25,7 @@ contents_in c layers = map (sector_found layers) (range_with_len 0 c)
 -- a layer has a sector of the block
 abbrev pub has_found : List LayerState → ℕ → Bool
 has_found layers block =
-    list_any (λ place. is_some (found layers block place)) (range_with_len 0 128)
+    list_any (λ offset. is_some (found layers block offset)) (range_with_len 0 BLOCK_SECTORS)
 
 -- the blocks of a disk of c sectors of which a layer has a sector, ascending
 abbrev pub blocks_in : ℕ → List LayerState → List ℕ
@@ -49,15 +50,9 @@ snapshots_in c below (id ∷ ids) (layer ∷ layers) =
 abbrev pub layer_at : List LayerState → ℕ → LayerState
 layer_at layers index = slice_index_or layers index []
 
--- the layer above the one at the index is another, which over that one has the same
-pub record RaisedAt (index : ℕ) (old new : List LayerState) : Type 0 where
-  pub others : new ≡ slice_set old (index + 1) (layer_at new (index + 1))
-  pub same : HasSameOver (layer_at old index) (layer_at old (index + 1)) (layer_at new (index + 1))
-  pub within : (c : ℕ) → IsWithin c (layer_at old index) → IsWithin c (layer_at old (index + 1))
-      → IsWithin c (layer_at new (index + 1))
-
 -- the layer at the index and the next one are one
 pub record MergedAt (index : ℕ) (old new : List LayerState) : Type 0 where
   pub others : new ≡ slice_set (remove old index) index (layer_at new index)
   pub merged : IsMerged (layer_at old index) (layer_at old (index + 1)) (layer_at new index)
-  pub within : (c : ℕ) → IsWithin c (layer_at old (index + 1)) → IsWithin c (layer_at new index)
+  pub within : (c : ℕ) → IsWithin c (layer_at old index) → IsWithin c (layer_at old (index + 1))
+      → IsWithin c (layer_at new index)

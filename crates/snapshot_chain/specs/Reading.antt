@@ -1,7 +1,8 @@
 -- Words of a read, sector by sector.
-use Rattle.std.specs.Prelude.{◌≡◌, ℕ, ◌+◌, ◌/◌, ◌%◌, List, length, nat_eq, Bool, true, false, Option, Some, None, IsSome, option_map}
+use Rattle.std.specs.Prelude.{◌≡◌, ℕ, ◌+◌, ◌-◌, ◌/◌, ◌%◌, List, length, nat_eq, Bool, true, false, Option, Some, None, IsSome, option_map}
 use Rattle.std.specs.List.{position}
 use Rattle.sector_model.specs.Sector.{zero_sector}
+use Rattle.sector_model.specs.declared.run.TheConstants.{BLOCK_SECTORS}
 use Rattle.sector_model.specs.declared.sector.Sector.{Sector}
 
 -- how many layers a snapshot sees, or all without a snapshot
@@ -18,7 +19,8 @@ TakesMissing None false old now new = (now ≡ false) × (new ≡ old)
 
 -- how many blocks a range of `count` sectors from `first` on meets
 abbrev pub blocks_met : (first count : ℕ) → ℕ
-blocks_met first count = (first % 128 + count + 127) / 128
+blocks_met first count =
+    (first % BLOCK_SECTORS + count + (BLOCK_SECTORS - 1)) / BLOCK_SECTORS
 
 -- what the layers down to one have is found and read; else zero stands there, and nothing was found
 abbrev pub IsRead : (sector : Option Sector) (found : Bool) (read : Option Sector) → Type 0

@@ -1,12 +1,12 @@
 //! The chain: what a disk holds now and at each live snapshot, kept as layers.
-ghost use Rattle.std.specs.Prelude.{◌≡◌, [], ◌+◌, ◌*◌, ◌^◌, ◌<◌, ◌≤◌, length, IfOk, OnOk, OnErr, IfSome, IsSome, IsOk, ℕ, true, is_some, nat_eq, slice_range};
+ghost use Rattle.std.specs.Prelude.{◌≡◌, List, [], ◌+◌, ◌*◌, ◌^◌, ◌<◌, ◌≤◌, length, IfOk, OnOk, OnErr, IfSome, IsSome, IsOk, IsTrue, ◌↔◌, ℕ, true, is_some, nat_eq, slice_range};
 ghost use Rattle.std.specs.Bool.{OnTrue};
 ghost use Rattle.std.specs.List.{position};
 ghost use Rattle.basics.specs.Refusal.{IsRefusedBy, IsRefusedOr};
 ghost use Rattle.sector_model.specs.Run.{areas_of};
 ghost use Rattle.snapshot_chain.specs.Reading.{blocks_met, layers_seen};
 
-use crate::layers::{blocks_of, make_places_above, merge_down};
+use crate::layers::{blocks_of, merge_down};
 use crate::reading::read_layers;
 use crate::{Layer, Steps};
 use sector_model::{NoMemory, Runs, Sector};
@@ -62,18 +62,27 @@ pub struct Chain {
     free_from: u64,
     /// Whether both lists have room for one more.
     freeze_room: bool,
-    /// The snapshot whose layer has its places in the next one.
-    merge_room: Option<u32>,
+    /// Room for the merge of one snapshot.
+    merge_room: Option<MergeRoom>,
+}
+
+/// What the merge of a snapshot takes in place of memory. The layers know nothing of it.
+#[derive(Debug, Drop)]
+struct MergeRoom {
+    id: u32,
+    /// Room for the layer that is joined of the snapshot's and the next newer one.
+    pages: Layer,
 }
 
 impl Model for Chain {
     ghost use Rattle.snapshot_chain.specs.Chain.{ChainState};
-    ghost use Rattle.snapshot_chain.specs.Kept.{state_of, IsKept};
+    ghost use Rattle.snapshot_chain.specs.Kept.{state_of, room_id, IsKept};
 
     ghost Value = { ChainState };
 
     ghost view = { λ a.
-        state_of a.capacity a.layers.items a.ids.items a.free_from a.freeze_room a.merge_room };
+        state_of a.capacity a.layers.items a.ids.items a.free_from a.freeze_room
+        (room_id a.merge_room) };
 
     ghost invariant = { λ a.
         IsKept a.capacity a.layers a.ids a.free_from a.freeze_room a.merge_room };
@@ -81,7 +90,7 @@ impl Model for Chain {
 
 impl Chain {
     ghost use Rattle.snapshot_chain.specs.Chain.{fresh, snapshot_of, contents_of, after_writing, after_freezing, after_merging, is_within, write_refusal, snapshot_refusal, read_refusal, IsKeptAfter};
-    ghost use Rattle.snapshot_chain.specs.History.{Written, Frozen, Merged, StandsFor, Takes};
+    ghost use Rattle.snapshot_chain.specs.History.{DiskEvent, Written, Frozen, Merged, StandsFor, Takes, live_snapshots};
 
     /// The chain of a disk that was never written. It answers only want of memory.
     pub fn new(alloc: Global, capacity: u64) -> Result<Chain, NoMemory>
@@ -173,13 +182,23 @@ impl Chain {
         let Some(index) = position_of(self.ids.as_slice(), id) else {
             return Err(ChainRefused::UnknownSnap);
         };
-        if self.merge_room == Some(id) {
+        if self.has_merge_room(id) {
             return Ok(());
         }
         self.merge_room = None;
-        make_places_above(self.alloc, self.layers.as_mut_slice(), index)?;
-        self.merge_room = Some(id);
+        let pages = Layer::room_for(self.alloc, &self.layers[index], &self.layers[index + 1])?;
+        self.merge_room = Some(MergeRoom { id, pages });
         Ok(())
+    }
+
+    /// Whether there is room for the merge of a snapshot.
+    fn has_merge_room(&self, id: u32) -> bool
+        ensures { IsTrue result ↔ (self.now.merge_room ≡ Some id) }
+    {
+        match &self.merge_room {
+            Some(room) => room.id == id,
+            None => false,
+        }
     }
 
     /// Gives a snapshot up: its layer goes into the next newer one, whose sectors win.
@@ -192,7 +211,7 @@ impl Chain {
         ensures err { IsKeptAfter result self.old self.new }
         ensures room { self.old.merge_room ≡ Some id → IsOk result }
     {
-        if self.merge_room != Some(id) {
+        if !self.has_merge_room(id) {
             self.reserve_merge(id)?;
         }
         self.join_layer(id);
@@ -205,11 +224,14 @@ impl Chain {
         ensures live { IsSome (snapshot_of id self.old) }
         ensures merged { self.new ≡ after_merging id self.old }
     {
-        if let Some(index) = position_of(self.ids.as_slice(), id) {
-            self.ids.remove(index);
-            merge_down(&mut self.layers, index);
-        }
-        self.merge_room = None;
+        let Some(room) = self.merge_room.take() else {
+            return;
+        };
+        let Some(index) = position_of(self.ids.as_slice(), id) else {
+            return;
+        };
+        self.ids.remove(index);
+        merge_down(&mut self.layers, index, room.pages);
     }
 
     /// Reads sectors from sector `first` on, of a snapshot or, without one, of what the disk holds
@@ -261,6 +283,10 @@ impl Chain {
         ensures counted { steps.old ≤ steps.new }
         ensures cost { steps.new
             ≤ steps.old + (length self.now.snapshots + 1) * blocks_met first (length buf.old) }
+        // The same of each history for which the chain stands: its live snapshots and one.
+        ensures live_cost { (history : List DiskEvent) → StandsFor self.now history → steps.new
+            ≤ steps.old
+            + (length (live_snapshots history) + 1) * blocks_met first (length buf.old) }
     {
         let Some(seen) = layers_seen(self.ids.as_slice(), id) else {
             return Err(ChainRefused::UnknownSnap);
@@ -302,7 +328,7 @@ impl Chain {
     }
 }
 
-/// The place of an id among the ids of the frozen layers.
+/// The index of an id among the ids of the frozen layers.
 fn position_of(ids: &[u32], id: u32) -> Option<usize>
     ensures { result ≡ position (nat_eq id) ids.now }
 {

@@ -1,14 +1,13 @@
-//! A layer: the sectors that were written while it was the newest, in pages of 128.
-ghost use Rattle.std.specs.Prelude.{◌≡◌, ◌≢◌, ◌+◌, ◌*◌, ◌<◌, ◌≤◌, ◌^◌, [], length, ◌||◌, IfOk, OnOk, OnErr, IsSome, ℕ};
+//! A layer: the sectors that were written while it was the newest, in pages of a block each.
+ghost use Rattle.std.specs.Prelude.{◌≡◌, ◌≢◌, ◌+◌, ◌*◌, ◌<◌, ◌≤◌, ◌^◌, [], length, ◌||◌, ◌⊎◌, IfOk, OnOk, OnErr, IsSome, None, Some, option_map, unwrap_or, ℕ};
 ghost use Rattle.std.specs.Option.{option_copied, option_or};
-ghost use Rattle.snapshot_chain.specs.Page128.{PageState, sector_at, run_at, IsRewritten};
-ghost use Rattle.snapshot_chain.specs.Layer.{page_of, slot_of, sector_of, sector_in, HasSame, IsWritten, HasSameOver, IsMerged, KeepsPlaces, IsWithin, IsPlaceFor, HasPlacesFor, HasPlaceOver, LayerState, has_sector};
+ghost use Rattle.snapshot_chain.specs.Page128.{PageState, no_sectors, run_at, IsGrown};
+ghost use Rattle.snapshot_chain.specs.Layer.{page_of, slot_of, sector_of, sector_in, HasSame, IsWritten, IsWrittenOver, AreGrown, KeepsSlots, AddsSlots, IsSlotAdded, IsWithin, IsRoomFor, IsRoomAt, IsOpenAt, IsMerged, after_taking, TakesPages, LayerState, has_sector};
 ghost use Rattle.std.specs.BTreeSet.{contains};
 ghost use Rattle.std.specs.Ordering.{nat_cmp};
 
-use crate::page128::PAGE_SECTORS;
 use crate::{Page128, Steps};
-use sector_model::{NoMemory, Sector};
+use sector_model::{BLOCK_SECTORS, NoMemory, Sector};
 use std::alloc::Global;
 use std::collections::{BTreeMap, BTreeSet};
 use std::marker::Model;
@@ -16,7 +15,7 @@ use std::sync::ledger::Ledger;
 
 /// Pages under the numbers of their blocks: what was written between two freezes.
 ///
-/// A page without sectors holds nothing: it only keeps its place, so that a page can be put there
+/// A page without sectors holds nothing: it only keeps a slot, so that a page can be put there
 /// without memory.
 #[derive(Debug, Drop)]
 pub struct Layer {
@@ -51,21 +50,137 @@ impl Layer {
         }
     }
 
-    /// Keeps a place for the page of a block, so that `put` can't fail. Nothing that the layer
-    /// holds changes.
-    fn keep_place(&mut self, alloc: Global, block: u64) -> Result<(), NoMemory>
-        ensures place { OnOk result (IsSome (slot_of self.new block)) }
-        ensures same { HasSame self.old self.new }
-        ensures places { KeepsPlaces self.old self.new }
-        ensures within { (c : ℕ) → 128 * block < c → IsWithin c self.old → IsWithin c self.new }
+    /// Writes sectors from sector `first` of the disk on. All memory is taken before a sector is
+    /// written, so an `Err` changes nothing that the layer holds.
+    pub(crate) fn write(
+        &mut self,
+        alloc: Global,
+        first: u64,
+        sectors: &[Sector],
+    ) -> Result<(), NoMemory>
+        requires { first + length sectors.now < 2 ^ 64 }
+        ensures ok { OnOk result (IsWritten self.old self.new first sectors.now) }
+        ensures err { OnErr result (HasSame self.old self.new) }
+        ensures within { (c : ℕ) → first + length sectors.now ≤ c → IsWithin c self.old
+            → IsWithin c self.new }
     {
-        if !self.pages.contains_key(&block) {
-            self.pages.insert(block, Page128::empty(alloc)?)?;
+        let grown = self.grown_pages(alloc, first, sectors)?;
+        self.make_slots(&grown)?;
+        self.put_pages(grown);
+        self.overwrite(first, sectors);
+        Ok(())
+    }
+
+    /// The pages of the blocks in which a write needs memory, as they are after it.
+    fn grown_pages(&self, alloc: Global, first: u64, sectors: &[Sector]) -> Result<Layer, NoMemory>
+        requires { first + length sectors.now < 2 ^ 64 }
+        ensures grown { IfOk result (AreGrown self.now first sectors.now) }
+        ensures within { IfOk result (λ pages. (c : ℕ) → first + length sectors.now ≤ c
+            → IsWithin c pages) }
+    {
+        let mut grown = Layer::new(alloc);
+        let end = first + sectors.len() as u64;
+        for block in first / BLOCK_SECTORS..end.div_ceil(BLOCK_SECTORS) {
+            if let Some(page) = self.grown_page(alloc, block, first, sectors)? {
+                grown.add(block, page)?;
+            }
+        }
+        Ok(grown)
+    }
+
+    /// The page of a block after a write, or None where the write needs no memory in this block.
+    fn grown_page(
+        &self,
+        alloc: Global,
+        block: u64,
+        first: u64,
+        sectors: &[Sector],
+    ) -> Result<Option<Page128>, NoMemory>
+        requires { block < 2 ^ 57 }
+        ensures { IfOk result (IsGrown (sector_in self.now block) block first sectors.now) }
+    {
+        match self.pages.get(&block) {
+            Some(page) => page.grown(alloc, block, first, sectors),
+            None => Page128::empty().grown(alloc, block, first, sectors),
+        }
+    }
+
+    /// Writes over the sectors that the layer has. It takes no memory.
+    fn overwrite(&mut self, first: u64, sectors: &[Sector])
+        requires { first + length sectors.now < 2 ^ 64 }
+        ensures sectors { IsWrittenOver self.old self.new first sectors.now }
+        ensures slots { KeepsSlots self.new self.old }
+    {
+        let end = first + sectors.len() as u64;
+        for block in first / BLOCK_SECTORS..end.div_ceil(BLOCK_SECTORS) {
+            self.overwrite_page(block, first, sectors);
+        }
+    }
+
+    /// Writes over the sectors that the layer has of a block.
+    fn overwrite_page(&mut self, block: u64, first: u64, sectors: &[Sector])
+        requires { block < 2 ^ 57 }
+        ensures here { (offset : ℕ) → offset < BLOCK_SECTORS → sector_in self.new block offset
+            ≡ option_map (unwrap_or (run_at first sectors.now (BLOCK_SECTORS * block + offset)))
+            (sector_in self.old block offset) }
+        ensures others { (other : ℕ) → other ≢ block
+            → slot_of self.new other ≡ slot_of self.old other }
+        ensures slots { KeepsSlots self.new self.old }
+    {
+        if let Some(page) = self.pages.get_mut(&block) {
+            page.overwrite(block, first, sectors);
+        }
+    }
+
+    /// Makes a slot for each block of another layer. Nothing that the layer holds changes.
+    fn make_slots(&mut self, other: &Layer) -> Result<(), NoMemory>
+        ensures ok { OnOk result (KeepsSlots other.now self.new) }
+        ensures added { AddsSlots other.now self.old self.new }
+    {
+        for (block, _page) in &other.pages {
+            self.make_slot(*block)?;
         }
         Ok(())
     }
 
-    /// Puts a page into its place. It takes no memory.
+    /// Makes a slot for the page of a block, so that a page can be put there without memory.
+    fn make_slot(&mut self, block: u64) -> Result<(), NoMemory>
+        ensures ok { OnOk result (IsSome (slot_of self.new block)) }
+        ensures added { IsSlotAdded (Some no_sectors) (slot_of self.old block)
+            (slot_of self.new block) }
+        ensures others { (other : ℕ) → other ≢ block
+            → slot_of self.new other ≡ slot_of self.old other }
+    {
+        if !self.pages.contains_key(&block) {
+            self.add(block, Page128::empty())?;
+        }
+        Ok(())
+    }
+
+    /// Keeps a page of a block. An `Err` changes nothing.
+    fn add(&mut self, block: u64, page: Page128) -> Result<(), NoMemory>
+        ensures here { OnOk result (slot_of self.new block ≡ Some page) }
+        ensures others { (other : ℕ) → other ≢ block
+            → slot_of self.new other ≡ slot_of self.old other }
+        ensures err { OnErr result (self.new ≡ self.old) }
+    {
+        self.pages.insert(block, page)?;
+        Ok(())
+    }
+
+    /// Puts each of the pages into its slot. It takes no memory.
+    fn put_pages(&mut self, pages: Layer)
+        requires { KeepsSlots pages self.old }
+        ensures { (block : ℕ) → slot_of self.new block
+            ≡ option_or (slot_of pages block) (slot_of self.old block) }
+    {
+        let mut pages = pages;
+        while let Some((block, page)) = pages.pages.pop_first() {
+            self.put(block, page);
+        }
+    }
+
+    /// Puts a page into its slot. It takes no memory.
     fn put(&mut self, block: u64, page: Page128)
         requires { IsSome (slot_of self.old block) }
         ensures here { slot_of self.new block ≡ Some page }
@@ -76,115 +191,80 @@ impl Layer {
         put.unwrap();
     }
 
-    /// The page of a block with a run of sectors from a place on in place of its own. It answers
-    /// only want of memory.
-    fn rewritten(
-        &self,
-        alloc: Global,
-        block: u64,
-        first: u64,
-        sectors: &[Sector],
-    ) -> Result<Page128, NoMemory>
-        requires { first + length sectors.now ≤ 128 }
-        ensures { IfOk result (IsRewritten (sector_in self.now block) first sectors.now) }
+    /// Room for the layer that joins two: the pages of the blocks of which both have sectors, and
+    /// an empty slot for each other block. With it, `join` takes no memory.
+    pub(crate) fn room_for(alloc: Global, lower: &Layer, upper: &Layer) -> Result<Layer, NoMemory>
+        ensures { IfOk result (IsRoomFor lower.now upper.now) }
     {
-        match self.pages.get(&block) {
-            Some(page) => page.rewritten(alloc, first, sectors),
-            None => Page128::empty(alloc)?.rewritten(alloc, first, sectors),
+        let mut room = Layer::new(alloc);
+        room.make_slots(lower)?;
+        room.make_slots(upper)?;
+        for (block, page) in &lower.pages {
+            room.join_page(alloc, *block, page, upper)?;
         }
+        Ok(room)
     }
 
-    /// Writes sectors from sector `first` of the disk on. All memory is taken before a page is
-    /// put, so an `Err` changes nothing that the layer holds. A call within itself writes each
-    /// further block.
-    pub(crate) fn write(
+    /// Puts a page that is joined with the upper layer's into its slot, where both have sectors.
+    fn join_page(
         &mut self,
         alloc: Global,
-        first: u64,
-        sectors: &[Sector],
+        block: u64,
+        lower: &Page128,
+        upper: &Layer,
     ) -> Result<(), NoMemory>
-        requires { first + length sectors.now < 2 ^ 64 }
-        ensures ok { OnOk result (IsWritten self.old self.new first sectors.now) }
-        ensures err { OnErr result (HasSame self.old self.new) }
-        ensures places { KeepsPlaces self.old self.new }
-        ensures within { (c : ℕ) → first + length sectors.now ≤ c → IsWithin c self.old
-            → IsWithin c self.new }
-    {
-        if sectors.is_empty() {
-            return Ok(());
-        }
-        let block = first / PAGE_SECTORS;
-        let place = first % PAGE_SECTORS;
-        let count = sectors.len().min((PAGE_SECTORS - place) as usize);
-        let page = self.rewritten(alloc, block, place, &sectors[..count])?;
-        self.keep_place(alloc, block)?;
-        self.write(alloc, first + count as u64, &sectors[count..])?;
-        self.put(block, page);
-        Ok(())
-    }
-
-    /// Makes a place for each page of the layer below, so that `take_pages` takes no memory: an
-    /// empty page, or one that has the lower sectors too where this layer has a page. Over the
-    /// layer below, nothing that is read changes.
-    pub(crate) fn make_places(&mut self, alloc: Global, lower: &Layer) -> Result<(), NoMemory>
-        ensures places { OnOk result (HasPlacesFor lower.now self.new) }
-        ensures same { HasSameOver lower.now self.old self.new }
-        ensures within { (c : ℕ) → IsWithin c lower.now → IsWithin c self.old
-            → IsWithin c self.new }
-    {
-        for (block, page) in &lower.pages {
-            self.make_place(alloc, *block, page)?;
-        }
-        Ok(())
-    }
-
-    /// Makes the place for one page of the layer below. An `Err` changes nothing.
-    fn make_place(&mut self, alloc: Global, block: u64, lower: &Page128) -> Result<(), NoMemory>
-        ensures place { OnOk result (IsPlaceFor (Some lower.now) (slot_of self.new block)) }
+        requires { IsOpenAt (Some lower.now) (slot_of upper.now block) (slot_of self.old block) }
         ensures here { OnOk result
-            (HasPlaceOver (Some lower.now) (slot_of self.old block) (slot_of self.new block)) }
+            (IsRoomAt (Some lower.now) (slot_of upper.now block) (slot_of self.new block)) }
+        ensures slots { KeepsSlots self.new self.old }
         ensures others { (other : ℕ) → other ≢ block
             → slot_of self.new other ≡ slot_of self.old other }
-        ensures err { OnErr result (self.new ≡ self.old) }
     {
-        let page = match self.pages.get(&block) {
-            Some(upper) if !upper.is_empty() => Page128::joined(alloc, lower, upper)?,
-            _ => Page128::empty(alloc)?,
-        };
-        self.pages.insert(block, page)?;
+        if let Some(above) = upper.pages.get(&block)
+            && !above.is_empty()
+            && !lower.is_empty()
+        {
+            let page = Page128::joined(alloc, lower, above)?;
+            self.put(block, page);
+        }
         Ok(())
     }
 
-    /// Takes over the pages of the layer below, without copying a sector. It takes no memory.
-    pub(crate) fn take_pages(&mut self, lower: Layer)
-        requires { HasPlacesFor lower self.old }
-        ensures merged { IsMerged lower self.old self.new }
-        ensures within { (c : ℕ) → IsWithin c self.old → IsWithin c self.new }
+    /// Joins two layers in the room for both: the upper one's sectors win. No sector is copied, and
+    /// it takes no memory.
+    pub(crate) fn join(&mut self, lower: Layer, upper: Layer)
+        requires { IsRoomFor lower upper self.old }
+        ensures merged { IsMerged lower upper self.new }
+        ensures within { (c : ℕ) → IsWithin c lower → IsWithin c upper → IsWithin c self.new }
     {
-        let mut lower = lower;
-        while let Some((block, page)) = lower.pages.pop_first() {
+        self.take_pages(upper);
+        self.take_pages(lower);
+    }
+
+    /// Takes over the pages of another layer where their slots are empty, without copying a
+    /// sector. It takes no memory.
+    fn take_pages(&mut self, other: Layer)
+        ensures { TakesPages other self.old self.new }
+    {
+        let mut other = other;
+        while let Some((block, page)) = other.pages.pop_first() {
             self.take_page(block, page);
         }
     }
 
-    /// Takes one page of the layer below into its place, where none stands there that has its
-    /// sectors.
-    fn take_page(&mut self, block: u64, lower: Page128)
-        requires { IsPlaceFor (Some lower) (slot_of self.old block) }
-        ensures here { (place : ℕ) → place < 128
-            → sector_in self.new block place
-            ≡ option_or (sector_in self.old block place) (sector_at lower place) }
+    /// Takes one page where its slot is empty.
+    fn take_page(&mut self, block: u64, page: Page128)
+        ensures here { slot_of self.new block
+            ≡ after_taking (Some page) (slot_of self.old block) }
         ensures others { (other : ℕ) → other ≢ block
             → slot_of self.new other ≡ slot_of self.old other }
-        ensures places { KeepsPlaces self.old self.new }
-        ensures kept { KeepsPlaces self.new self.old }
     {
         let is_free = match self.pages.get(&block) {
-            Some(upper) => upper.is_empty(),
+            Some(slot) => slot.is_empty(),
             None => false,
         };
         if is_free {
-            self.put(block, lower);
+            self.put(block, page);
         }
     }
 

@@ -5,8 +5,8 @@ ghost use Rattle.std.specs.List.Sorted.{IsStrictlyIncreasing};
 ghost use Rattle.std.specs.Vec.{vec_capacity};
 ghost use Rattle.std.specs.BTreeSet.{IsOrdered};
 ghost use Rattle.std.specs.Ordering.{nat_cmp};
-ghost use Rattle.snapshot_chain.specs.Layer.{HasPlacesFor};
-ghost use Rattle.snapshot_chain.specs.Layers.{has_found, layer_at, RaisedAt, MergedAt};
+ghost use Rattle.snapshot_chain.specs.Layer.{IsRoomFor};
+ghost use Rattle.snapshot_chain.specs.Layers.{has_found, layer_at, MergedAt};
 
 use crate::Layer;
 use sector_model::NoMemory;
@@ -14,34 +14,17 @@ use std::alloc::Global;
 use std::collections::BTreeSet;
 use std::mem;
 
-/// Makes a place in the next newer layer for each page of the layer at an index. What is read
-/// stays.
-pub(crate) fn make_places_above(
-    alloc: Global,
-    layers: &mut [Layer],
-    index: usize,
-) -> Result<(), NoMemory>
-    requires { index + 1 < length layers.old }
-    ensures raised { RaisedAt index layers.old layers.new }
-    ensures places { OnOk result
-        (HasPlacesFor (layer_at layers.new index) (layer_at layers.new (index + 1))) }
-{
-    let lower = mem::replace(&mut layers[index], Layer::new(alloc));
-    let made = layers[index + 1].make_places(alloc, &lower);
-    layers[index] = lower;
-    made
-}
-
-/// Takes the layer at an index out, and its pages go into the next newer one.
-pub(crate) fn merge_down(layers: &mut Vec<Layer>, index: usize)
+/// Takes the layer at an index out, and joins it with the next newer one in the room for both.
+pub(crate) fn merge_down(layers: &mut Vec<Layer>, index: usize, room: Layer)
     requires within { index + 1 < length layers.old.items }
-    requires places { HasPlacesFor (layer_at layers.old.items index)
-        (layer_at layers.old.items (index + 1)) }
+    requires room { IsRoomFor (layer_at layers.old.items index)
+        (layer_at layers.old.items (index + 1)) room }
     ensures merged { MergedAt index layers.old.items layers.new.items }
     ensures capacity { vec_capacity layers.new ≡ vec_capacity layers.old }
 {
     let lower = layers.remove(index);
-    layers[index].take_pages(lower);
+    let upper = mem::replace(&mut layers[index], room);
+    layers[index].join(lower, upper);
 }
 
 /// The numbers of the blocks of which a layer has a sector, ascending.

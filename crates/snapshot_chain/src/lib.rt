@@ -2,9 +2,8 @@
 //! snapshot.
 //!
 //! Each freeze closes a layer and opens an empty one above it. A layer has pages for the blocks of
-//! 128 sectors that were written while it was open, and a page has the written sectors alone; after
-//! a reserve for a merge, those of the layer below too. What is read is the newest sector among the
-//! layers that the snapshot sees, or zero where none has it.
+//! 128 sectors that were written while it was open, and a page has the written sectors alone. What
+//! is read is the newest sector among the layers that the snapshot sees, or zero where none has it.
 #![tactic(auto)]
 
 mod chain;
@@ -12,6 +11,7 @@ mod laws;
 mod layer;
 mod layers;
 mod page128;
+mod placed_sectors;
 mod reading;
 mod steps;
 #[cfg(test)]

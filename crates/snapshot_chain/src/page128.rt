@@ -1,105 +1,130 @@
-//! A page of a layer: the written sectors of one block of 128, each once and no others.
-ghost use Rattle.std.specs.Prelude.{◌≡◌, ◌+◌, ◌*◌, ◌<◌, ◌≤◌, ◌^◌, ◌++◌, ◌∷◌, [], length, IsTrue, ◌↔◌, IfOk, OnOk, OnErr, ℕ};
-ghost use Rattle.snapshot_chain.specs.Page128.{PageState, IsPage, sector_at, run_at, with_sector, IsJoined, IsRewritten};
+//! A page of a layer: the written sectors of one block, each once and no others.
+ghost use Rattle.std.specs.Prelude.{◌≡◌, ◌+◌, ◌*◌, ◌<◌, ◌≤◌, ◌^◌, [], length, IsTrue, IsSome, is_some, ◌↔◌, IfOk, ℕ};
+ghost use Rattle.std.specs.Option.{option_copied};
+ghost use Rattle.snapshot_chain.specs.Page128.{PageState, IsPage, no_sectors, sector_at, run_at, with_sector, IsJoined, IsRewritten, IsGrown, IsOverwritten, IsReplaced};
+ghost use Rattle.snapshot_chain.specs.KeptPage.{page_state, IsStored};
 
+use crate::placed_sectors::PlacedSectors;
 use sector_model::{BLOCK_SECTORS, NoMemory, Sector};
 use std::alloc::Global;
 use std::marker::Model;
-
-/// Sectors of a page, which is a block's number of sectors.
-pub const PAGE_SECTORS: u64 = BLOCK_SECTORS;
+use std::{array, mem};
 
 /// Which sectors of a block a layer has, and these sectors in ascending order.
 ///
-/// Bit `p` of the mask is set where the page has the sector at place `p` of its block. A page
-/// takes memory for the sectors that it has, and no more. It is one pointer wide, since a map
-/// keeps free entries.
+/// A page takes memory for the sectors that it has, and no more.
 #[derive(Debug, Drop)]
 pub struct Page128 {
-    kept: Box<Kept>,
+    kept: Kept,
 }
 
-/// What a page keeps behind its pointer.
+/// How a page keeps its sectors. A lone one stands by itself, since then it takes the least memory.
 #[derive(Debug, Drop)]
-struct Kept {
-    mask: u128,
-    sectors: Vec<Sector>,
+enum Kept {
+    Nothing,
+    Lone(u8, Box<Sector>),
+    Many(Box<PlacedSectors>),
 }
 
 impl Model for Page128 {
+    ghost use Rattle.snapshot_chain.specs.Page128.{PageState};
+
     ghost Value = { PageState };
 
-    ghost view = { λ a. record { mask = a.kept.value.mask; sectors = a.kept.value.sectors.items } };
+    ghost use Rattle.snapshot_chain.specs.KeptPage.{page_state, IsStored};
 
-    ghost invariant = { λ a. IsPage
-        (record { mask = a.kept.value.mask; sectors = a.kept.value.sectors.items }) };
+    ghost view = { λ a. page_state a.kept };
+
+    ghost invariant = { λ a. IsStored a.kept };
 }
 
 impl Page128 {
-    /// A page without sectors. It answers only want of memory.
-    pub(crate) fn empty(alloc: Global) -> Result<Page128, NoMemory>
-        ensures { IfOk result (λ page. page ≡ record { mask = 0; sectors = [] }) }
+    /// A page without sectors. It takes no memory.
+    pub(crate) fn empty() -> Page128
+        ensures { result ≡ no_sectors }
     {
-        Page128::with_room(alloc, 0)
+        Page128 {
+            kept: Kept::Nothing,
+        }
     }
 
-    /// A page without sectors that has room for some. It answers only want of memory.
-    fn with_room(alloc: Global, sectors: usize) -> Result<Page128, NoMemory>
-        ensures { IfOk result (λ page. page ≡ record { mask = 0; sectors = [] }) }
-    {
-        let sectors = Vec::with_capacity(alloc, sectors)?;
-        let kept = Box::new(alloc, Kept { mask: 0, sectors })?;
-        Ok(Page128 { kept })
-    }
-
-    /// Which places of the block have a sector, bit `p` for place `p`.
+    /// The offsets in the block that have a sector: bit `k` for offset `k`.
     pub fn mask(&self) -> u128
-        ensures { result ≡ self.now.mask }
+        ensures mask { result ≡ self.now.mask }
+        ensures page { IsPage self.now }
     {
-        self.kept.mask
+        match &self.kept {
+            Kept::Nothing => 0,
+            Kept::Lone(offset, _sector) => 1u128 << *offset,
+            Kept::Many(placed) => placed.mask(),
+        }
     }
 
-    /// The sectors, in ascending order of their places.
+    /// The sectors, in ascending order of their offsets.
     pub fn sectors(&self) -> &[Sector]
         ensures { result.now ≡ self.now.sectors }
     {
-        self.kept.sectors.as_slice()
+        match &self.kept {
+            Kept::Nothing => &[],
+            Kept::Lone(_offset, sector) => array::from_ref(sector.as_ref()).as_slice(),
+            Kept::Many(placed) => placed.as_slice(),
+        }
     }
 
-    /// Whether no place has a sector.
+    /// Whether the page has no sector.
     pub fn is_empty(&self) -> bool
         ensures empty { IsTrue result ↔ (self.now.mask ≡ 0) }
         ensures page { IsPage self.now }
     {
-        self.kept.mask == 0
+        self.mask() == 0
     }
 
-    /// The sector at a place of the block, from 0 to 127. None where the page hasn't written it.
-    pub fn get(&self, place: u64) -> Option<Sector>
-        requires { place < 128 }
-        ensures { result ≡ sector_at self.now place }
+    /// The sector at an offset of the block, from 0 to 127. None where the page has none there.
+    pub fn get(&self, offset: u64) -> Option<&Sector>
+        requires { offset < BLOCK_SECTORS }
+        ensures { option_copied result ≡ sector_at self.now offset }
     {
-        let kept = self.kept.as_ref();
-        let bit = 1u128 << place;
-        if kept.mask & bit == 0 {
-            return None;
+        match &self.kept {
+            Kept::Nothing => None,
+            Kept::Lone(own, sector) => {
+                if u64::from(*own) == offset {
+                    Some(sector.as_ref())
+                } else {
+                    None
+                }
+            }
+            Kept::Many(placed) => placed.get(offset),
         }
-        let index = (kept.mask & (bit - 1)).count_ones() as usize;
-        kept.sectors.get(index).copied()
     }
 
-    /// Adds the sector of a place behind those of the places below it. An `Err` changes nothing.
-    fn append(&mut self, place: u64, sector: Sector) -> Result<(), NoMemory>
-        requires place { place < 128 }
-        requires above { self.old.mask < 2 ^ place }
-        ensures ok { OnOk result (self.new ≡ with_sector self.old place sector) }
-        ensures err { OnErr result (self.new ≡ self.old) }
-        ensures page { IsPage self.old }
+    /// The page with the sector of an offset above those of all others. Where it has to hold
+    /// several, it makes room for `room` sectors. It answers only want of memory.
+    fn with(
+        self,
+        alloc: Global,
+        room: usize,
+        offset: u64,
+        sector: &Sector,
+    ) -> Result<Page128, NoMemory>
+        requires offset { offset < BLOCK_SECTORS }
+        requires above { self.mask < 2 ^ offset }
+        ensures { IfOk result (λ page. page ≡ with_sector self offset sector.now) }
     {
-        let kept = &mut *self.kept;
-        kept.sectors.push(sector)?;
-        kept.mask |= 1u128 << place;
-        Ok(())
+        let kept = match self.kept {
+            Kept::Nothing => Kept::Lone(offset as u8, Box::new(alloc, *sector)?),
+            Kept::Lone(own, lone) => {
+                let mut placed = PlacedSectors::with_room(alloc, room)?;
+                placed.append(u64::from(own), *lone)?;
+                placed.append(offset, *sector)?;
+                Kept::Many(Box::new(alloc, placed)?)
+            }
+            Kept::Many(many) => {
+                let mut placed = many;
+                placed.append(offset, *sector)?;
+                Kept::Many(placed)
+            }
+        };
+        Ok(Page128 { kept })
     }
 
     /// The sectors of both pages; where both have one, the upper page's. It answers only want of
@@ -111,52 +136,128 @@ impl Page128 {
     ) -> Result<Page128, NoMemory>
         ensures { IfOk result (IsJoined lower.now upper.now) }
     {
-        let count = (lower.kept.mask | upper.kept.mask).count_ones() as usize;
-        let mut page = Page128::with_room(alloc, count)?;
-        for place in 0..PAGE_SECTORS {
-            if let Some(sector) = upper.get(place).or(lower.get(place)) {
-                page.append(place, sector)?;
+        let room = (lower.mask() | upper.mask()).count_ones() as usize;
+        let mut page = Page128::empty();
+        for offset in 0..BLOCK_SECTORS {
+            if let Some(sector) = upper.get(offset).or(lower.get(offset)) {
+                page = page.with(alloc, room, offset, sector)?;
             }
         }
         Ok(page)
     }
 
-    /// The sectors of this page, with a run of sectors from a place on in place of its own. It
-    /// answers only want of memory.
-    pub(crate) fn rewritten(
+    /// The page with its block's part of a run of sectors, which begins at sector `first` of the
+    /// disk; or None where it has a sector at each offset of this part, so that they can be
+    /// overwritten. It answers only want of memory.
+    pub(crate) fn grown(
         &self,
         alloc: Global,
+        block: u64,
+        first: u64,
+        sectors: &[Sector],
+    ) -> Result<Option<Page128>, NoMemory>
+        requires { block < 2 ^ 57 }
+        ensures { IfOk result (IsGrown (sector_at self.now) block first sectors.now) }
+    {
+        let missing = self.missing(block, first, sectors);
+        if missing == 0 {
+            return Ok(None);
+        }
+        let room = self.sectors().len() + missing;
+        let page = self.rewritten(alloc, room, block, first, sectors)?;
+        Ok(Some(page))
+    }
+
+    /// How many sectors of the block's part of a run this page lacks.
+    fn missing(&self, block: u64, first: u64, sectors: &[Sector]) -> usize
+        requires { block < 2 ^ 57 }
+        ensures none { result ≡ 0 → (offset : ℕ) → offset < BLOCK_SECTORS
+            → IsSome (run_at first sectors.now (BLOCK_SECTORS * block + offset))
+            → IsSome (sector_at self.now offset) }
+        ensures few { result ≤ BLOCK_SECTORS }
+    {
+        let mut missing = 0;
+        for offset in 0..BLOCK_SECTORS {
+            let is_in = run_get(first, sectors, BLOCK_SECTORS * block + offset).is_some();
+            if is_in && self.get(offset).is_none() {
+                missing += 1;
+            }
+        }
+        missing
+    }
+
+    /// The page with its block's part of a run in place of its own sectors there.
+    fn rewritten(
+        &self,
+        alloc: Global,
+        room: usize,
+        block: u64,
         first: u64,
         sectors: &[Sector],
     ) -> Result<Page128, NoMemory>
-        requires { first + length sectors.now ≤ 128 }
-        ensures { IfOk result (IsRewritten (sector_at self.now) first sectors.now) }
+        requires { block < 2 ^ 57 }
+        ensures { IfOk result (IsRewritten (sector_at self.now) block first sectors.now) }
     {
-        let count = (self.kept.mask | run_mask(first, sectors.len() as u64)).count_ones() as usize;
-        let mut page = Page128::with_room(alloc, count)?;
-        for place in 0..PAGE_SECTORS {
-            if let Some(sector) = run_get(first, sectors, place).or(self.get(place)) {
-                page.append(place, sector)?;
+        let mut page = Page128::empty();
+        for offset in 0..BLOCK_SECTORS {
+            let written = run_get(first, sectors, BLOCK_SECTORS * block + offset);
+            if let Some(sector) = written.or(self.get(offset)) {
+                page = page.with(alloc, room, offset, sector)?;
             }
         }
         Ok(page)
     }
-}
 
-/// The bits of `count` places from `first` on.
-fn run_mask(first: u64, count: u64) -> u128
-    requires { first + count ≤ 128 }
-{
-    if count == 0 {
-        return 0;
+    /// Writes its block's part of a run over the sectors that this page has. It takes no memory.
+    pub(crate) fn overwrite(&mut self, block: u64, first: u64, sectors: &[Sector])
+        requires { block < 2 ^ 57 }
+        ensures { IsOverwritten (sector_at self.old) block first sectors.now self.new }
+    {
+        for offset in 0..BLOCK_SECTORS {
+            if let Some(sector) = run_get(first, sectors, BLOCK_SECTORS * block + offset) {
+                self.replace(offset, sector);
+            }
+        }
     }
-    (u128::MAX >> (PAGE_SECTORS - count)) << first
+
+    /// Puts another sector at an offset that has one. Without one there, nothing changes.
+    fn replace(&mut self, offset: u64, sector: &Sector)
+        requires { offset < BLOCK_SECTORS }
+        ensures { IsReplaced self.old offset sector.now self.new }
+    {
+        let kept = mem::replace(&mut self.kept, Kept::Nothing);
+        self.kept = replaced(kept, offset, sector);
+    }
 }
 
-/// What a run of sectors from place `first` on has at a place.
-fn run_get(first: u64, sectors: &[Sector], place: u64) -> Option<Sector>
-    ensures { result ≡ run_at first sectors.now place }
+/// What a page keeps, with another sector at an offset that has one.
+fn replaced(kept: Kept, offset: u64, sector: &Sector) -> Kept
+    requires offset { offset < BLOCK_SECTORS }
+    requires stored { IsStored kept }
+    ensures sectors { IsReplaced (page_state kept) offset sector.now (page_state result) }
+    ensures stored { IsStored result }
 {
-    let index = place.checked_sub(first)?;
-    sectors.get(index as usize).copied()
+    match kept {
+        Kept::Nothing => Kept::Nothing,
+        Kept::Lone(own, lone) => {
+            let mut lone = lone;
+            if u64::from(own) == offset {
+                *lone = *sector;
+            }
+            Kept::Lone(own, lone)
+        }
+        Kept::Many(many) => {
+            let mut placed = many;
+            placed.replace(offset, sector);
+            Kept::Many(placed)
+        }
+    }
+}
+
+/// What a run of sectors from sector `first` on has at a sector.
+fn run_get(first: u64, sectors: &[Sector], sector: u64) -> Option<&Sector>
+    ensures { option_copied result ≡ run_at first sectors.now sector }
+{
+    let index = sector.checked_sub(first)?;
+    sectors.get(index as usize)
 }

@@ -59,7 +59,7 @@ impl Image {
 }
 
 /// Does what a draw says, to the chain and to the plain disk: a freeze under the id, a merge, or a
-/// write of the byte.
+/// write, before which it may reserve for a merge that doesn't follow.
 fn act(
     alloc: Global,
     chain: &mut Chain,
@@ -85,6 +85,11 @@ fn act(
         }
         chain.merge(merged)?;
         return Ok(());
+    }
+    if draw & 8 != 0
+        && let Some((kept, _image)) = plain.frozen.first()
+    {
+        chain.reserve_merge(*kept)?;
     }
     let first = (draw >> 40) % capacity;
     let count = 1 + (draw >> 20) % (capacity - first);

@@ -1,47 +1,54 @@
 -- Slots of a store in memory: they stay kept, and what a step in them is as a step of the store.
 use Rattle.std.proofs.Common.{◌≡◌, ℕ, ◌-◌, ◌≤◌, Bool, true, false, ◌&&◌, cond, List, [], ◌∷◌, length, map, Option, Some, None, option_map, option_and_then, ◌==◌, IsTrue, Ordering, Less, Equal, Greater, ap, sym, ◌∙◌, refl, subst, ◌⊎◌, inl, inr, arith}
-use Rattle.std.proofs.lemmas.Bool.{false≢true, true≢false}
+use Rattle.std.proofs.lemmas.Bool.{and_parts, false≢true, true≢false}
+use Rattle.std.proofs.lemmas.List.Elements.{All-from_recursion, recursion_from_All}
 use Rattle.std.proofs.lemmas.List.{length-replicate}
 use Rattle.std.specs.Prelude.{IfSome, IsSome, IsSomeAnd, is_some}
 use Rattle.sector_model.specs.Sector.{filled}
 use Rattle.sector_model.specs.VolumeContents.{IsSized}
 use Rattle.std.specs.BTreeMap.{is_at, insert_entry}
-use Rattle.std.specs.List.{filter, filter_map}
+use Rattle.std.specs.List.{AllByRecursion, filter_map}
 use Rattle.std.specs.List.Sorted.{IsStrictlySortedBy}
-use Rattle.std.specs.Map.{keys_of, lookup}
+use Rattle.std.specs.Map.{lookup}
 use Rattle.std.specs.Ordering.{match_ordering}
 use Rattle.basics.specs.Calls.{CallLog, never_fails, after_call}
 use Rattle.basics.specs.Faults.{counted_by}
-use Rattle.target_volume.specs.MemVolume.{HeldState, MemVolumeState, held_state, volume_state}
+use Rattle.target_volume.specs.MemVolume.{HeldState, MemVolumeState, volume_state}
 use Rattle.target_volume.specs.MemVolumes.{SlotState, Home, Lent, MemVolumesState, slot_state, stored_of, loan_in, named_loan, IsCountedIn, AreCountedIn, IsWhole, volume_calls, store_state, next_volume, after_opening, after_keeping, IsHome, IsHomeWith, IsLent, IsLentWith}
 use Rattle.target_volume.specs.VolumeName.{volume_cmp, volumes_total, find_volume, with_volume, without_volume, AreAscending}
-use Rattle.target_volume.specs.VolumeStore.{StoredVolume, Loan, Lends, IsThere, IsOrderly, lent_out, after_lending, after_taking_back}
+use Rattle.target_volume.specs.VolumeStore.{StoredVolume, Loan, Lends, IsThere, IsOrderly, after_lending, after_taking_back}
 use Rattle.target_volume.specs.declared.mem_volume.Held.{Held}
 use Rattle.target_volume.specs.declared.mem_volumes.Slot.{Slot}
 use Rattle.target_volume.specs.declared.mem_volumes.Slot.TheVariants.{Home as SlotHome, Lent as SlotLent}
 use Rattle.target_volume.specs.declared.volume_name.VolumeName.{VolumeName}
-use Rattle.target_volume.proofs.PairLemmas.{map_values, map_values-insert_entry, lookup-map_values, keys-map_values, kept-insert_entry, kept-without, lookup_kept, sorted_kept}
+use Rattle.target_volume.proofs.PairLemmas.{map_values-insert_entry, lookup-map_values, keys-map_values, kept-insert_entry, kept-without, lookup_kept, sorted_kept}
 use Rattle.target_volume.proofs.NameLemmas.{exact_volumes}
 
 -- ---- what is kept stays kept
 
+abbrev CountedAt : (sound : Bool) (faults : ℕ) → VolumeName × Slot → Type 0
+CountedAt sound faults slot = IsCountedIn sound faults (slot_state slot.1)
+
+abbrev AreCountedByRecursion : (sound : Bool) (faults : ℕ) → List (VolumeName × Slot) → Type 0
+AreCountedByRecursion sound faults es = AllByRecursion (CountedAt sound faults) es
+
 put_step : (sound : Bool) (faults : ℕ) (name : VolumeName) (slot : Slot) (e : VolumeName × Slot)
     (es : List (VolumeName × Slot)) (r : Ordering) → IsCountedIn sound faults (slot_state slot)
-    → IsCountedIn sound faults (slot_state e.1) → AreCountedIn sound faults es
-    → AreCountedIn sound faults (insert_entry volume_cmp es name slot)
-    → AreCountedIn sound faults (match_ordering r ((name, slot) ∷ e ∷ es) ((e.0, slot) ∷ es)
+    → IsCountedIn sound faults (slot_state e.1) → AreCountedByRecursion sound faults es
+    → AreCountedByRecursion sound faults (insert_entry volume_cmp es name slot)
+    → AreCountedByRecursion sound faults (match_ordering r ((name, slot) ∷ e ∷ es) ((e.0, slot) ∷ es)
     (e ∷ insert_entry volume_cmp es name slot))
 put_step sound faults name slot e es Less put first kept rest = (put, (first, kept))
 put_step sound faults name slot e es Equal put first kept rest = (put, kept)
 put_step sound faults name slot e es Greater put first kept rest = (first, rest)
 
-pub kept_put : (sound : Bool) (faults : ℕ) (name : VolumeName) (slot : Slot)
+put_each : (sound : Bool) (faults : ℕ) (name : VolumeName) (slot : Slot)
     (es : List (VolumeName × Slot)) → IsCountedIn sound faults (slot_state slot)
-    → AreCountedIn sound faults es → AreCountedIn sound faults (insert_entry volume_cmp es name slot)
-kept_put sound faults name slot [] put kept = (put, tt)
-kept_put sound faults name slot (e ∷ es) put kept =
+    → AreCountedByRecursion sound faults es → AreCountedByRecursion sound faults (insert_entry volume_cmp es name slot)
+put_each sound faults name slot [] put kept = (put, tt)
+put_each sound faults name slot (e ∷ es) put kept =
     put_step sound faults name slot e es (volume_cmp name e.0) put kept.0 kept.1
-    (kept_put sound faults name slot es put kept.1)
+    (put_each sound faults name slot es put kept.1)
 
 one_later : (sound less : Bool) (faults more : ℕ) (slot : SlotState)
     → (IsTrue less → IsTrue sound) → faults ≤ more → IsCountedIn sound faults slot
@@ -50,13 +57,13 @@ one_later sound less faults more (Home h) still later kept =
     (kept.0, omega arith, λ t. kept.2 (still t))
 one_later sound less faults more (Lent loan) still later kept = omega arith
 
-pub kept_later : (sound less : Bool) (faults more : ℕ) (es : List (VolumeName × Slot))
-    → (IsTrue less → IsTrue sound) → faults ≤ more → AreCountedIn sound faults es
-    → AreCountedIn less more es
-kept_later sound less faults more [] still later kept = tt
-kept_later sound less faults more (e ∷ es) still later kept = (
+later_each : (sound less : Bool) (faults more : ℕ) (es : List (VolumeName × Slot))
+    → (IsTrue less → IsTrue sound) → faults ≤ more → AreCountedByRecursion sound faults es
+    → AreCountedByRecursion less more es
+later_each sound less faults more [] still later kept = tt
+later_each sound less faults more (e ∷ es) still later kept = (
   one_later sound less faults more (slot_state e.1) still later kept.0,
-  kept_later sound less faults more es still later kept.1,
+  later_each sound less faults more es still later kept.1,
 )
 
 found_step : (sound : Bool) (faults : ℕ) (e : VolumeName × Slot) (b : Bool) (rest : Option Slot)
@@ -68,13 +75,34 @@ found_step sound faults e true rest slot first others found =
     subst (λ s. IsCountedIn sound faults (slot_state s)) same first
 found_step sound faults e false rest slot first others found = others found
 
+found_each : (sound : Bool) (faults : ℕ) (t : VolumeName → Bool)
+    (es : List (VolumeName × Slot)) (slot : Slot) → AreCountedByRecursion sound faults es
+    → lookup t es ≡ Some slot → IsCountedIn sound faults (slot_state slot)
+found_each sound faults t [] slot kept found = cc
+found_each sound faults t (e ∷ es) slot kept found =
+    found_step sound faults e (t e.0) (lookup t es) slot kept.0
+    (found_each sound faults t es slot kept.1) found
+
+pub kept_put : (sound : Bool) (faults : ℕ) (name : VolumeName) (slot : Slot)
+    (es : List (VolumeName × Slot)) → IsCountedIn sound faults (slot_state slot)
+    → AreCountedIn sound faults es → AreCountedIn sound faults (insert_entry volume_cmp es name slot)
+kept_put sound faults name slot es put kept =
+    All-from_recursion (CountedAt sound faults) (insert_entry volume_cmp es name slot)
+    (put_each sound faults name slot es put (recursion_from_All (CountedAt sound faults) es kept))
+
+pub kept_later : (sound less : Bool) (faults more : ℕ) (es : List (VolumeName × Slot))
+    → (IsTrue less → IsTrue sound) → faults ≤ more → AreCountedIn sound faults es
+    → AreCountedIn less more es
+kept_later sound less faults more es still later kept =
+    All-from_recursion (CountedAt less more) es
+    (later_each sound less faults more es still later
+    (recursion_from_All (CountedAt sound faults) es kept))
+
 pub kept_found : (sound : Bool) (faults : ℕ) (t : VolumeName → Bool)
     (es : List (VolumeName × Slot)) (slot : Slot) → AreCountedIn sound faults es
     → lookup t es ≡ Some slot → IsCountedIn sound faults (slot_state slot)
-kept_found sound faults t [] slot kept found = cc
-kept_found sound faults t (e ∷ es) slot kept found =
-    found_step sound faults e (t e.0) (lookup t es) slot kept.0
-    (kept_found sound faults t es slot kept.1) found
+kept_found sound faults t es slot kept found =
+    found_each sound faults t es slot (recursion_from_All (CountedAt sound faults) es kept) found
 
 -- ---- a whole store stays whole
 
@@ -412,14 +440,6 @@ lent_counted sound faults lent name es kept with =
     lent_inside sound faults lent (lookup (is_at (volume_cmp name)) es) with
     (λ slot found. kept_found sound faults (is_at (volume_cmp name)) es slot kept found)
 
-first_true : (a b : Bool) → (a && b) ≡ true → a ≡ true
-first_true true b both = refl
-first_true false b both = both
-
-second_true : (a b : Bool) → (a && b) ≡ true → b ≡ true
-second_true true b both = both
-second_true false b both = absurd (false≢true both)
-
 -- a store that took a volume back is whole
 pub whole_kept : (sound more : Bool) (failing : List ℕ) (calls after : CallLog)
     (es slots : List (VolumeName × Slot)) (name : VolumeName) (held : Held)
@@ -433,16 +453,16 @@ pub whole_kept : (sound more : Bool) (failing : List ℕ) (calls after : CallLog
 whole_kept sound more failing calls after es slots name held whole same later both sized counted
     is ordered = record {
       own = λ t. ap (λ f. length f == 0) same
-          ∙ whole.own (first_true sound (never_fails held.calls) (sym both ∙ t));
-      given = λ t. whole.given (first_true sound (never_fails held.calls) (sym both ∙ t));
+          ∙ whole.own (and_parts sound (never_fails held.calls) (sym both ∙ t)).0;
+      given = λ t. whole.given (and_parts sound (never_fails held.calls) (sym both ∙ t)).0;
       kept = subst (λ l. AreCountedIn more after.faults l) (sym is)
           (kept_put more after.faults name (SlotHome held) es (
             (refl, sized),
             counted,
-            λ t. second_true sound (never_fails held.calls) (sym both ∙ t),
+            λ t. (and_parts sound (never_fails held.calls) (sym both ∙ t)).1,
           )
           (kept_later sound more calls.faults after.faults es
-          (λ t. first_true sound (never_fails held.calls) (sym both ∙ t)) later whole.kept));
+          (λ t. (and_parts sound (never_fails held.calls) (sym both ∙ t)).0) later whole.kept));
       ordered = ordered;
     }
 

@@ -1,11 +1,11 @@
 -- A volume that is lent out and taken back: what that leaves of its store.
-use Rattle.std.proofs.Common.{◌≡◌, ℕ, ◌+◌, ◌-◌, ◌≤◌, Bool, true, false, ◌&&◌, List, Option, Some, None, option_map, IsTrue, ap, sym, ◌∙◌, refl, arith}
+use Rattle.std.proofs.Common.{◌≡◌, ℕ, ◌-◌, ◌≤◌, Bool, true, false, ◌&&◌, List, Option, Some, None, option_map, IsTrue, ap, ◌∙◌, refl, arith}
 use Rattle.std.specs.Prelude.{IfSome}
 use Rattle.basics.specs.Faults.{counted_by, last_count}
 use Rattle.target_volume.proofs.NameLemmas.{with-with, with-found, without-with}
 use Rattle.target_volume.specs.Volume.{VolumeState}
-use Rattle.target_volume.specs.VolumeName.{find_volume, with_volume, without_volume, AreAscending}
-use Rattle.target_volume.specs.VolumeStore.{StoreState, StoredVolume, Loan, IsOrderly, at_home, lent_out, after_lending, after_taking_back}
+use Rattle.target_volume.specs.VolumeName.{find_volume, with_volume, AreAscending}
+use Rattle.target_volume.specs.VolumeStore.{StoreState, StoredVolume, IsOrderly, at_home, lent_out, after_lending, after_taking_back}
 use Rattle.target_volume.specs.declared.volume_name.VolumeName.{VolumeName}
 
 told_back : (name : VolumeName) (x y : StoredVolume)
@@ -35,9 +35,10 @@ told_same : (name : VolumeName) (x : StoredVolume)
 told_same name x None ordered found = refl
 told_same name x (Some pairs) ordered found = ap Some (with-found name x pairs ordered found)
 
-still_sound : (a b : Bool) → (IsTrue a → IsTrue b) → (a && b) ≡ a
-still_sound true b both = both refl
-still_sound false b both = refl
+-- a truth value that implies another is the same as both
+pub and_implied : (a b : Bool) → (IsTrue a → IsTrue b) → (a && b) ≡ a
+and_implied true b both = both refl
+and_implied false b both = refl
 
 rebuilt : (s : StoreState) (volumes : Option (List (VolumeName × StoredVolume))) (faults : ℕ)
     (sound : Bool) → volumes ≡ s.volumes → faults ≡ s.faults → sound ≡ s.sound
@@ -61,4 +62,4 @@ lent_and_back s name v orderly small free found sound =
     let step = taken_after_lending s name v.capacity v.faults v free in
     let volumes = told_same name (at_home v) s.volumes orderly.volumes found in
     let faults : counted_by (v.faults - v.faults) s.faults ≡ s.faults = omega arith in
-    step ∙ rebuilt s _ _ _ volumes faults (still_sound s.sound v.sound sound)
+    step ∙ rebuilt s _ _ _ volumes faults (and_implied s.sound v.sound sound)

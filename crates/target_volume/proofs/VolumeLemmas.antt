@@ -1,9 +1,8 @@
 -- What a failed call leaves of a volume in memory, as a volume.
-use Rattle.std.proofs.Common.{◌≡◌, ℕ, ◌-◌, ◌^◌, ◌≤◌, false, Result, Ok, Err, OnErr, ap, refl, sym, subst, arith}
-use Rattle.basics.specs.Calls.{after_call}
+use Rattle.std.proofs.Common.{◌≡◌, ℕ, ◌≤◌, Result, Ok, Err, OnErr, ap, refl, sym, subst, arith}
 use Rattle.basics.specs.Faults.{counted_by, last_count}
-use Rattle.target_volume.specs.MemVolume.{MemVolumeState, HeldState, volume_state, held_broken}
-use Rattle.target_volume.specs.Volume.{Breaks, Fails}
+use Rattle.target_volume.specs.MemVolume.{MemVolumeState, volume_state, held_broken}
+use Rattle.target_volume.specs.Volume.{Breaks}
 
 pub on_err_map : {T E : Type 0} {P Q : Type 0} (r : Result T E) → (P → Q) → OnErr r P → OnErr r Q
 on_err_map (Ok x) f h = tt
@@ -23,6 +22,5 @@ breaks_by old new first count few counted is =
       contents = record { before = refl; behind = refl; long = refl; loose = refl };
       no_less = omega arith;
       no_more = omega arith;
-      later = omega arith;
-      rose = omega arith;
+      rises = (omega arith, omega arith);
     })

@@ -1,5 +1,5 @@
 -- A volume in memory: what it holds, and the calls that are to fail.
-use Rattle.std.specs.Prelude.{ℕ, List, length, replicate, Bool, true, false, Some}
+use Rattle.std.specs.Prelude.{ℕ, List, length, replicate, true, false, Some}
 use Rattle.basics.specs.Calls.{CallLog, no_calls, never_fails, after_call}
 use Rattle.basics.specs.Faults.{counted_by}
 use Rattle.sector_model.specs.Disk.{replaced}

@@ -1,13 +1,12 @@
 -- A store in memory: its volumes by name, the junk byte of new ones, and the calls that are to
 -- fail.
-use Rattle.std.specs.Prelude.{◌≡◌, ℕ, ◌/◌, ◌%◌, ◌-◌, ◌≤◌, Bool, ◌&&◌, true, false, ◌==◌, List, [], ◌∷◌, length, map, Option, Some, None, option_map, nat_lt, All, IsTrue}
+use Rattle.std.specs.Prelude.{◌≡◌, ℕ, ◌/◌, ◌%◌, ◌-◌, ◌≤◌, Bool, ◌&&◌, true, false, ◌==◌, List, [], length, map, Option, Some, None, option_map, nat_lt, All, IsTrue}
 use Rattle.std.specs.List.{filter, filter_map}
-use Rattle.std.specs.Map.{values_of}
 use Rattle.basics.specs.Calls.{CallLog, no_calls, never_fails, after_call}
 use Rattle.basics.specs.Faults.{counted_by}
 use Rattle.sector_model.specs.VolumeContents.{IsSized}
 use Rattle.target_volume.specs.MemVolume.{HeldState, MemVolumeState, held_state, fresh_held}
-use Rattle.target_volume.specs.VolumeName.{find_volume, with_volume, AreAscending}
+use Rattle.target_volume.specs.VolumeName.{with_volume, AreAscending}
 use Rattle.target_volume.specs.VolumeStore.{StoredVolume, Loan, StoreState, lent_out}
 use Rattle.target_volume.specs.declared.mem_volumes.TheConstants.{VOLUME_CALLS}
 use Rattle.target_volume.specs.declared.mem_volumes.Slot.{Slot}
@@ -158,9 +157,7 @@ IsCountedIn sound faults (Home h) = IsSized (length h.contents.sectors) h.conten
 IsCountedIn sound faults (Lent loan) = loan.faults ≤ faults
 
 abbrev pub AreCountedIn : (sound : Bool) (faults : ℕ) → List (VolumeName × Slot) → Type 0
-AreCountedIn sound faults [] = Unit {0}
-AreCountedIn sound faults (slot ∷ slots) = IsCountedIn sound faults (slot_state slot.1)
-    × AreCountedIn sound faults slots
+AreCountedIn sound faults slots = All (λ slot. IsCountedIn sound faults (slot_state slot.1)) slots
 
 -- what holds of a store's fields: where it is sound nothing was told to fail, its slots are kept,
 -- and they are in order

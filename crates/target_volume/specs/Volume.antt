@@ -1,7 +1,7 @@
 -- What a volume is to whoever fills it, and what each call leaves of that. What a volume holds is
 -- told by some volumes only, but how many sectors were written to it by each.
 use Rattle.std.specs.Prelude.{◌≡◌, ℕ, ◌≤◌, List, length, Bool, Option, Some, None, option_map}
-use Rattle.basics.specs.Faults.{counted_by, Rose}
+use Rattle.basics.specs.Faults.{HasRisen, counted_by}
 use Rattle.sector_model.specs.VolumeContents.{VolumeContents, IsBrokenAt, volume_written, volume_zeroed, volume_flushed}
 use Rattle.sector_model.specs.declared.sector.Sector.{Sector}
 use Rattle.target_volume.specs.declared.volume_name.VolumeName.{VolumeName}
@@ -38,10 +38,9 @@ abbrev pub after_flush : VolumeState → VolumeState
 after_flush v = record v { contents = option_map volume_flushed v.contents }
 
 -- a failed read or flush leaves what the volume holds; only its count of faults rose
-pub record Fails (old new : VolumeState) : Type 0 where
+pub record VolumeFails (old new : VolumeState) : Type 0 where
   pub kept : new ≡ record old { faults = new.faults }
-  pub later : old.faults ≤ new.faults
-  pub rose : Rose old.faults new.faults
+  pub rises : HasRisen old.faults new.faults
 
 -- what a broken range leaves of what is told: a volume that tells it goes on to tell it
 abbrev pub BreaksTold : (first count : ℕ) (old new : Option VolumeContents) → Type 0
@@ -61,5 +60,4 @@ pub record Breaks (first count : ℕ) (old new : VolumeState) : Type 0 where
   pub contents : BreaksTold first count old.contents new.contents
   pub no_less : old.written ≤ new.written
   pub no_more : new.written ≤ counted_by count old.written
-  pub later : old.faults ≤ new.faults
-  pub rose : Rose old.faults new.faults
+  pub rises : HasRisen old.faults new.faults

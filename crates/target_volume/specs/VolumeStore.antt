@@ -1,8 +1,8 @@
 -- What a store of volumes is to whoever has volumes made and lent out, and what each call leaves
 -- of that. It lends a volume out and takes it back, and what it holds of one is told only while
 -- that is at home: so a store and its loans together tell of each volume once.
-use Rattle.std.specs.Prelude.{◌≡◌, ℕ, ◌-◌, ◌≤◌, ◌⊎◌, Bool, true, ◌&&◌, Option, Some, None, option_map, IsTrue, IfSome, IsSome, IsSomeAnd, List}
-use Rattle.basics.specs.Faults.{counted_by, Rose}
+use Rattle.std.specs.Prelude.{◌≡◌, ℕ, ◌-◌, ◌≤◌, ◌⊎◌, Bool, ◌&&◌, Option, Some, None, option_map, IsTrue, IfSome, IsSome, IsSomeAnd, List}
+use Rattle.basics.specs.Faults.{HasRisen, counted_by}
 use Rattle.sector_model.specs.VolumeContents.{VolumeContents, IsSized}
 use Rattle.target_volume.specs.Volume.{VolumeState}
 use Rattle.target_volume.specs.VolumeName.{find_volume, with_volume, without_volume, AreAscending}
@@ -73,8 +73,7 @@ IsThere name capacity volumes = IsSomeAnd (find_volume name volumes)
 -- the store failed: it has what it had, and its count of faults rose
 pub record StoreFails (old new : StoreState) : Type 0 where
   pub kept : new ≡ record old { faults = new.faults }
-  pub later : old.faults ≤ new.faults
-  pub rose : Rose old.faults new.faults
+  pub rises : HasRisen old.faults new.faults
 
 -- what a refusal leaves: all as it was, but for the count where the store failed
 abbrev pub Refuses : StoreRefused → (old new : StoreState) → Type 0

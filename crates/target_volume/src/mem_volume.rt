@@ -5,7 +5,7 @@ ghost use Rattle.basics.specs.Calls.{FailsNext, after_call};
 ghost use Rattle.sector_model.specs.Disk.{replaced};
 ghost use Rattle.sector_model.specs.VolumeContents.{IsSized};
 ghost use Rattle.target_volume.specs.MemVolume.{held_state, fresh_held, held_written, held_zeroed, held_flushed, held_broken, volume_state};
-ghost use Rattle.target_volume.specs.Volume.{after_write, after_zero, after_flush, Fails, Breaks};
+ghost use Rattle.target_volume.specs.Volume.{after_write, after_zero, after_flush, VolumeFails, Breaks};
 
 use crate::{NoMemory, Volume, VolumeFailed, VolumeName};
 use basics::Calls;
@@ -80,7 +80,8 @@ impl Volume for MemVolume {
         ensures given { OnOk result
             (buf.new ≡ take (length buf.old) (drop first self.old.held.contents.sectors)) }
         ensures same { OnOk result (volume_state self.new ≡ volume_state self.old) }
-        ensures failed { OnErr result (Fails (volume_state self.old) (volume_state self.new)) }
+        ensures failed { OnErr result
+            (VolumeFails (volume_state self.old) (volume_state self.new)) }
         ensures sound { IsTrue (volume_state self.old).sound → IsOk result }
 
         ensures fails { IsErr result ↔ FailsNext self.old.held.calls }
@@ -151,7 +152,8 @@ impl Volume for MemVolume {
     fn flush(&mut self) -> Result<(), VolumeFailed>
         ensures flushed { OnOk result
             (volume_state self.new ≡ after_flush (volume_state self.old)) }
-        ensures failed { OnErr result (Fails (volume_state self.old) (volume_state self.new)) }
+        ensures failed { OnErr result
+            (VolumeFails (volume_state self.old) (volume_state self.new)) }
         ensures sound { IsTrue (volume_state self.old).sound → IsOk result }
 
         ensures fails { IsErr result ↔ FailsNext self.old.held.calls }

@@ -1,7 +1,7 @@
 //! A volume, as whoever fills it sees it.
 ghost use Rattle.std.specs.Prelude.{◌≡◌, ◌+◌, ◌≤◌, length, take, drop, IsTrue, IsOk, IsSome, IfSome, OnOk, OnErr};
 ghost use Rattle.sector_model.specs.VolumeContents.{IsSized};
-ghost use Rattle.target_volume.specs.Volume.{VolumeState, after_write, after_zero, after_flush, Fails, Breaks};
+ghost use Rattle.target_volume.specs.Volume.{VolumeState, after_write, after_zero, after_flush, VolumeFails, Breaks};
 
 use basics::Failed;
 use sector_model::Sector;
@@ -33,7 +33,7 @@ pub trait Volume {
         ensures given { OnOk result (IfSome (state self.old).contents
             (λ c. buf.new ≡ take (length buf.old) (drop first c.sectors))) }
         ensures same { OnOk result (state self.new ≡ state self.old) }
-        ensures failed { OnErr result (Fails (state self.old) (state self.new)) }
+        ensures failed { OnErr result (VolumeFails (state self.old) (state self.new)) }
         ensures sound { IsTrue (state self.old).sound → IsOk result };
 
     /// Writes the sectors from `first` on. They are loose until a flush succeeds. After a failure
@@ -57,7 +57,7 @@ pub trait Volume {
     /// holds as it was.
     fn flush(&mut self) -> Result<(), VolumeFailed>
         ensures flushed { OnOk result (state self.new ≡ after_flush (state self.old)) }
-        ensures failed { OnErr result (Fails (state self.old) (state self.new)) }
+        ensures failed { OnErr result (VolumeFails (state self.old) (state self.new)) }
         ensures sound { IsTrue (state self.old).sound → IsOk result };
 
     /// How often it has failed; a count that ends at 2^64 - 1.

@@ -1,6 +1,7 @@
 -- The rule holds where a turn begins, and what it says where it ends.
 use Rattle.std.proofs.Common.{◌≡◌, ◌≢◌, ◌⊎◌, ℕ, zero, suc, ◌+◌, ◌<◌, ◌≤◌, eqb, List, [], ◌∷◌, length, get_or, All, Bool, true, false, cond, refl, sym, ap, ◌∙◌, subst, arith, inl, inr, ⊎_elim, count_by, Option, Some, None, is_some, eq-eqb, ne_eqb, lit≤}
 use Rattle.std.specs.List.{filter}
+use Rattle.std.proofs.lemmas.Bool.{false_from_ne_true}
 use lib.Seq.{drop-length}
 use mathlib.Core.Option.{some, some-injective, some-ne-none}
 use mathlib.Core.Logic.{dite}
@@ -18,7 +19,7 @@ use Rattle.turn_lock.proofs.Stories.{goes_self}
 use Rattle.turn_lock.proofs.Seats.{put, put_here, put_else, one_place, two_of_them}
 use Rattle.turn_lock.proofs.Steps.{seat_number, kind, K}
 use Rattle.turn_lock.proofs.Numbers.{own_chief}
-use Rattle.turn_lock.proofs.Joins.{left_none, not_true}
+use Rattle.turn_lock.proofs.Joins.{left_none}
 
 module _ {X F E : Type 0} (frame : X → F) (story_of : X → List E) (who : E → ℕ) where
   -- only the seat 0 is there, and it has the view of the first
@@ -148,7 +149,7 @@ module _ {X F E : Type 0} (frame : X → F) (story_of : X → List E) (who : E �
       let not_first : (n : ℕ) → kind (r.place n) ≢ 0 → n ≢ 0 = λ n ne e. ne (ap (λ z. kind (r.place z)) (e ∙ sym zero_is) ∙ ap kind f.sits) in
       let other : (n : ℕ) → n ≢ 0 → cond (eqb n 0) v.mine (left_by n c.ended) ≡ left_by n c.ended = λ n ne. ap (λ t. cond t v.mine (left_by n c.ended)) (ne_eqb n 0 ne) in
       let absent : (n : ℕ) → kind (r.place n) ≢ 1 → left_by n c.ended ≡ [] =
-      λ n ne. left_none n c.ended (not_true (is_among n c.ended) (λ h. ne (ap kind ((l.gone n).0 h)))) in
+      λ n ne. left_none n c.ended (false_from_ne_true (is_among n c.ended) (λ h. ne (ap kind ((l.gone n).0 h)))) in
       let P : ℕ → Whereabouts → Type 0 = λ n p. r.place n ≡ p → added_by who n b.start r.story ≡ cond (eqb n 0) v.mine (left_by n c.ended) in
       record {
         value = x;

@@ -1,5 +1,6 @@
 -- The steps by which pass 0 ends another keep the rule: it joins, and compares what both had seen.
 use Rattle.std.proofs.Common.{◌≡◌, ◌≢◌, ℕ, ◌+◌, ◌-◌, ◌%◌, ◌^◌, ◌<◌, ◌≤◌, eqb, nat_lt, List, [], ◌∷◌, ◌++◌, length, set, Bool, true, false, cond, ◌&&◌, ◌||◌, not, refl, sym, ap, ap₂, ◌∙◌, subst, arith, inl, inr, ⊎_elim, count_by, Some, None, is_some, unwrap_or, eq-eqb, ne_eqb}
+use Rattle.std.proofs.lemmas.Bool.{false_from_ne_true}
 use mathlib.Core.Option.{some, none}
 use mathlib.Core.Logic.{dite}
 use native.Mathlib.Decide.{ℕ_discrete}
@@ -18,10 +19,6 @@ use Rattle.turn_lock.proofs.Stories.{goes_short, goes_self, known_between, longe
 use Rattle.turn_lock.proofs.Seats.{put, put_here, put_else, bit, one_place, count_set, count_same, two_of_them}
 use Rattle.turn_lock.proofs.Steps.{seat_number, kind, heads_lead, taken_set, each_set, not_empty, M, K, first_is, slot_set, fits_place, Goes}
 use Rattle.turn_lock.proofs.Numbers.{own_chief}
-
-pub not_true : (b : Bool) → (b ≡ true → ⊥) → b ≡ false
-not_true true h = absurd (h refl)
-not_true false h = refl
 
 module _ {E : Type 0} where
   among_added : (n : ℕ) (ls : List (EndedPass E)) (l : EndedPass E) → is_among n (ls ++ l ∷ []) ≡ (is_among n ls || eqb l.number n)
@@ -206,7 +203,7 @@ module _ {X F E : Type 0} (frame : X → F) (story_of : X → List E) (who : E �
         queues = λ t is. let q = f.queues t is in (q.0, (let h : t < r.served + n = q.1 in omega arith), q.2);
         holding = λ h. let has = f.holding h in (has.0, ap (λ z. cond z v.seen (longer v.seen w.seen)) h ∙ has.1);
       } in
-      let absent : is_among d c.ended ≡ false = not_true (is_among d c.ended) (λ h. let z : 0 ≡ 1 = sym (ap kind g.sits) ∙ ap kind ((l.gone d).0 h) in omega arith) in
+      let absent : is_among d c.ended ≡ false = false_from_ne_true (is_among d c.ended) (λ h. let z : 0 ≡ 1 = sym (ap kind g.sits) ∙ ap kind ((l.gone d).0 h) in omega arith) in
       let not_zero : d ≢ 0 = λ e. id_apart (ap seat_number (sym f.sits ∙ ap r.place (zero_is ∙ sym e) ∙ g.sits)) in
       let leaver : EndedPass E = record { number = d; mine = w.mine } in
       let here : (m : ℕ) → m ≡ d → place' m ≡ ended = put_here r.place d ended in

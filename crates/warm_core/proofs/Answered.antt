@@ -4,9 +4,9 @@ use Rattle.std.specs.List.{All}
 use Rattle.std.proofs.lemmas.Bool.{cases_eq, false≢true}
 use Rattle.std.proofs.lemmas.List.Elements.{All-from_recursion}
 use Rattle.sector_model.specs.Run.{end_of, in_blocks, areas_of}
-use Rattle.sector_model.specs.Page.{page_of, LiesWithin}
+use Rattle.sector_model.specs.Page.{page_from, LiesWithin}
 use Rattle.sector_model.specs.declared.run.Run.{Run}
-use Rattle.sector_model.proofs.Spacing.{runs_of-kept}
+use Rattle.sector_model.proofs.Spacing.{runs_of-spaced}
 use Rattle.sector_model.proofs.PageWithin.{page_lies_within}
 use Rattle.change_id.specs.declared.ChangeId.{ChangeId}
 use Rattle.log_model.specs.declared.entry.Entry.{Entry}
@@ -61,7 +61,7 @@ strange-at machine c d log (Some b) snap false ground some partial must =
 pub stages_are_answered : StagesAreAnswered
 stages_are_answered machine c d log base snap full ground unfinished some =
     let blocks : List ℕ = blocks_asked c d log base snap full in
-    let kept = runs_of-kept (in_blocks blocks) c ground.small in
+    let kept = runs_of-spaced (in_blocks blocks) c ground.small in
     let answered = answered-at machine c d log base snap full ground unfinished some in
     record {
       answered = answered;

@@ -6,7 +6,7 @@ use Rattle.std.proofs.lemmas.Option.{none-some}
 use Rattle.std.proofs.lemmas.List.{take-append-le, take_all, take-take}
 use Rattle.std.proofs.Math.Bool.{or-false}
 use Rattle.sector_model.specs.Run.{end_of}
-use Rattle.sector_model.specs.VolumeContents.{VolumeContents, volume_filled, volume_flushed, volume_zeroed}
+use Rattle.sector_model.specs.VolumeContents.{VolumeContents, volume_stopped, volume_flushed, volume_zeroed}
 use Rattle.sector_model.specs.declared.run.Run.{Run}
 use Rattle.change_id.specs.declared.ChangeId.{ChangeId}
 use Rattle.log_model.specs.declared.entry.Entry.{Entry}

@@ -5,7 +5,7 @@ use Rattle.std.specs.Option.{is_some, IsSomeAnd}
 use Rattle.std.proofs.lemmas.Option.{same_Some, get_or_from_slice_get}
 use Rattle.std.proofs.lemmas.List.FromFn.{fill_by_all}
 use Rattle.sector_model.specs.Run.{end_of, in_blocks, areas_of}
-use Rattle.sector_model.specs.Page.{PageContents, page_of, LiesWithin}
+use Rattle.sector_model.specs.Page.{PageContents, page_from, LiesWithin}
 use Rattle.sector_model.specs.Sector.{zero_sector}
 use Rattle.sector_model.specs.declared.run.Run.{Run}
 use Rattle.sector_model.specs.declared.sector.Sector.{Sector}
@@ -68,20 +68,20 @@ tells-of w s t small sound one two =
     stages_are_answered w.machine w.capacity w.disk w.log w.base s t.full (ground-of w s small sound one) fits.unfinished fits.partial
 
 pub page-effect : (w : World) (s : Snapped) (t : StageState) (page : PageContents) → w.capacity < 2 ^ 64 → IsSound w → w.snap ≡ Some s → w.stage ≡ Some t → IsOk (answer_now w s t)
-    → page ≡ page_of w.capacity (areas_of w.capacity (blocks_asked w.capacity w.disk w.log w.base s t.full)) t.covered
-    → record w { stage = Some (with_page (page.start + page.covered) t) } ≡ after_page w
+    → page ≡ page_from w.capacity (areas_of w.capacity (blocks_asked w.capacity w.disk w.log w.base s t.full)) t.covered
+    → record w { stage = Some (with_page (page.start + page.length) t) } ≡ after_page w
 page-effect w s t page small sound one two ok is =
     let tells = tells-of w s t small sound one two in
     let areas : List Run = areas_of w.capacity (blocks_asked w.capacity w.disk w.log w.base s t.full) in
     let found = ok-parts (answer_now w s t) ok in
     let answer_is : answer_now w s t ≡ Ok areas = found.1 ∙ ap (λ (rs : List Run). Ok rs) (tells.told found.0 found.1) in
-    let end : page.start + page.covered ≡ page_end_of w.capacity t.covered (answer_now w s t) =
-        ap (λ (p : PageContents). p.start + p.covered) is ∙ sym (ap (page_end_of w.capacity t.covered) answer_is) in
+    let end : page.start + page.length ≡ page_end_of w.capacity t.covered (answer_now w s t) =
+    ap (λ (p : PageContents). p.start + p.length) is ∙ sym (ap (page_end_of w.capacity t.covered) answer_is) in
     let step : Snapped → StageState → World → World = λ snap t w. record w { stage = Some (with_page (page_end_of w.capacity t.covered (answer_now w snap t)) t) } in
     ap (λ n. record w { stage = Some (with_page n t) }) end ∙ sym (by_stage-is step w s t (record { snap = one; stage = two }))
 
 pub page-lies : (w : World) (s : Snapped) (t : StageState) (page : PageContents) → w.capacity < 2 ^ 64 → IsSound w → w.snap ≡ Some s → w.stage ≡ Some t → t.covered < w.capacity
-    → page ≡ page_of w.capacity (areas_of w.capacity (blocks_asked w.capacity w.disk w.log w.base s t.full)) t.covered → LiesWithin t.capacity page
+    → page ≡ page_from w.capacity (areas_of w.capacity (blocks_asked w.capacity w.disk w.log w.base s t.full)) t.covered → LiesWithin t.capacity page
 page-lies w s t page small sound one two less is =
     let tells = tells-of w s t small sound one two in
     let sized = sized-of w t sound two in

@@ -4,9 +4,9 @@ use Rattle.std.specs.List.{slice_get}
 use Rattle.std.specs.Option.{is_some, IsSomeAnd, option_and_then}
 use Rattle.std.proofs.lemmas.Bool.{false≢true, eq-eqb}
 use Rattle.std.proofs.lemmas.Option.{same_Some, none-some}
-use Rattle.sector_model.specs.VolumeContents.{VolumeContents, IsSized, IsFlushed, is_loose, volume_filled}
+use Rattle.sector_model.specs.VolumeContents.{VolumeContents, IsSized, IsFlushed, is_loose, volume_stopped}
 use Rattle.sector_model.specs.declared.sector.Sector.{Sector}
-use Rattle.sector_model.proofs.Volumes.{keep_their_size, filling_nothing, filling_leaves_others}
+use Rattle.sector_model.proofs.Volumes.{keep_their_size, stop_leaves_flushed, stop_leaves_others}
 use Rattle.log_model.specs.declared.entry.Entry.{Entry}
 use Rattle.log_model.specs.declared.link.Snapped.{Snapped}
 use Rattle.log_model.specs.Legal.{only}
@@ -29,9 +29,9 @@ lost (inl live) f = inl live
 lost (inr lose) f = inr (f lose)
 
 filled-complete : (w : World) (filling : List Sector) (p : ℕ) → IsSized w.capacity w.volume → IsCompleteAt w p
-    → IsCompleteAt (record w { volume = volume_filled filling w.volume; stage = None; running = false }) p
+    → IsCompleteAt (record w { volume = volume_stopped filling w.volume; stage = None; running = false }) p
 filled-complete w filling p sized complete =
-    let same : volume_filled filling w.volume ≡ w.volume = filling_nothing w.capacity w.volume filling sized complete.tight in
+    let same : volume_stopped filling w.volume ≡ w.volume = stop_leaves_flushed w.capacity w.volume filling sized complete.tight in
     record {
       last = complete.last;
       no_stage = refl;
@@ -41,7 +41,7 @@ filled-complete w filling p sized complete =
       same = subst (λ (v : VolumeContents). IsFullCopy w.capacity w.disk p w.log v) (sym same) complete.same;
     }
 
-pub stopped-sound : (w : World) (filling : List Sector) → IsSound w → IsSound (record w { volume = volume_filled filling w.volume; stage = None; running = false })
+pub stopped-sound : (w : World) (filling : List Sector) → IsSound w → IsSound (record w { volume = volume_stopped filling w.volume; stage = None; running = false })
 stopped-sound w filling sound = record {
   legal = sound.legal;
   sized = (keep_their_size w.capacity w.volume sound.sized).filled filling;
@@ -54,8 +54,8 @@ stopped-sound w filling sound = record {
   stage_has_snap = λ some. absurd (false≢true some);
   stage_is = λ snap is t is'. absurd (none-some t is');
   complete_is = λ p is. filled-complete w filling p sound.sized (sound.complete_is p is);
-  staged = fillings_stay w.capacity w.disk w.log w.base w.snap w.volume (volume_filled filling w.volume) sound.sized sound.staged
-      (filling_leaves_others w.capacity w.volume filling sound.sized);
+  staged = fillings_stay w.capacity w.disk w.log w.base w.snap w.volume (volume_stopped filling w.volume) sound.sized sound.staged
+      (stop_leaves_others w.capacity w.volume filling sound.sized);
 }
 
 -- ---- a restart
@@ -144,10 +144,11 @@ finished-volume c d log base snap b s v sized long finished staged =
         let open_is = nothing-open c d log b s same in
         record {
           tight = all-false v.loose (λ k. not-loose v k (is_loose k v) refl (λ loose.
-          false≢true (sym (ap (λ (bs : List ℕ). in_blocks bs k) open_is) ∙ on.loose_inside k loose)))
+              false≢true (sym (ap (λ (bs : List ℕ). in_blocks bs k) open_is) ∙ on.loose_inside k loose)))
               ∙ ap (λ n. replicate n false) (sized.1 ∙ sym sized.0);
           same = same_items v.sectors (disk_at c d b.mark log) (sized.0 ∙ sym long) (λ k less. on.as_base k (ap (λ (bs : List ℕ). in_blocks bs k) open_is));
         }
+
     finished-at : (c d : ℕ) (log : List Entry) (b : Base) (s : Snapped) (v : VolumeContents) → IsSized c v → length (disk_at c d b.mark log) ≡ c → s.mark ≡ b.mark
         → Staged c d log (Some b) (Some s) v → IsAtBase c d log b v
     finished-at c d log b s v sized long same (inl on) = finished-on c d log b s v sized long same on
@@ -175,7 +176,7 @@ complete-at w p sound may is =
     let snap_is = sound.snap_is s finished.snap_is in
     let place : s.off_place ≡ Some p = place-of w.snap s p finished.snap_is is in
     let long : length (disk_at w.capacity w.disk b.mark w.log) ≡ w.capacity =
-        length-disk_at w.capacity w.disk b.mark w.log sound.legal in
+    length-disk_at w.capacity w.disk b.mark w.log sound.legal in
     let at_base = finished-volume w.capacity w.disk w.log w.base w.snap b s w.volume sound.sized long finished sound.staged in
     let frozen_there = off_is_frozen (only w.disk w.capacity) w.log w.capacity w.disk s.id p sound.legal (snap_is.off_place_is ∙ place) in
     let marks = snap_is.mark_is ∙ finished.same in

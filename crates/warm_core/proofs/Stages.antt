@@ -154,9 +154,9 @@ written-stands machine c d log base snap t v run xs ground stands piece long fit
     let within = order.within in
     let room : run.first + length xs ≤ c = omega (arith, long, end, within, sized) in
     let on : t.full ≡ false → RunsOnBase c d log base snap (volume_written run.first xs v) = λ partial.
-        runs-written c d log base snap v run.first xs stands.sized room old.unfinished
-        (λ s low high. ap (λ b. in_blocks (blocks_asked c d log base snap b) s) (sym partial) ∙ all partial s low (omega (arith, long, high)))
-        (holds.on_base partial (omega (arith, some, end))) in
+    runs-written c d log base snap v run.first xs stands.sized room old.unfinished
+    (λ s low high. ap (λ b. in_blocks (blocks_asked c d log base snap b) s) (sym partial) ∙ all partial s low (omega (arith, long, high)))
+    (holds.on_base partial (omega (arith, some, end))) in
     record {
       sized = written-sized c run.first xs v stands.sized room;
       fits = fits;
@@ -273,11 +273,11 @@ flushed-stands machine c d log base snap t v ground stands may =
     let sized = fits.sized in
     let all = may.all in
     let same : (s : ℕ) → s < c → slice_get v.sectors s ≡ slice_get (disk_at c d snap.mark log) s = λ s less.
-        ended-same machine c d log base snap t.full t.at v s (has_to_write (blocks_asked c d log base snap t.full) t s) ground fits.unfinished holds.copied
-        (λ s from below. may.ready s from (omega (arith, all, sized, below)))
-        (λ partial. holds.on_base partial (omega (arith, all, sized, less))) less refl in
+    ended-same machine c d log base snap t.full t.at v s (has_to_write (blocks_asked c d log base snap t.full) t s) ground fits.unfinished holds.copied
+    (λ s from below. may.ready s from (omega (arith, all, sized, below)))
+    (λ partial. holds.on_base partial (omega (arith, all, sized, less))) less refl in
     let whole : v.sectors ≡ disk_at c d snap.mark log =
-        same_items v.sectors (disk_at c d snap.mark log) (stands.sized.0 ∙ sym (length-disk_at c d snap.mark log ground.legal)) (λ s less. same s (omega (arith, less, stands.sized.0))) in
+    same_items v.sectors (disk_at c d snap.mark log) (stands.sized.0 ∙ sym (length-disk_at c d snap.mark log ground.legal)) (λ s less. same s (omega (arith, less, stands.sized.0))) in
     record {
       sized = (keep_their_size c v stands.sized).flushed;
       fits = (numbers_stay machine c d log base snap t ground fits).flushed may;

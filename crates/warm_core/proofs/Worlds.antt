@@ -7,10 +7,10 @@ use Rattle.std.proofs.lemmas.Option.{same_Some, none-some}
 use Rattle.std.proofs.lemmas.List.{take-append-le}
 use Rattle.std.proofs.lemmas.List.Sums.{fold-append}
 use Rattle.sector_model.specs.Run.{end_of, in_blocks}
-use Rattle.sector_model.specs.VolumeContents.{VolumeContents, IsSized, IsFlushed, is_loose, volume_filled, volume_flushed, volume_zeroed}
+use Rattle.sector_model.specs.VolumeContents.{VolumeContents, IsSized, IsFlushed, is_loose, volume_stopped, volume_flushed, volume_zeroed}
 use Rattle.sector_model.specs.declared.run.Run.{Run}
 use Rattle.sector_model.specs.declared.sector.Sector.{Sector}
-use Rattle.sector_model.proofs.Volumes.{keep_their_size, filling_nothing, filling_leaves_others}
+use Rattle.sector_model.proofs.Volumes.{keep_their_size, stop_leaves_flushed, stop_leaves_others}
 use Rattle.change_id.specs.declared.ChangeId.{ChangeId}
 use Rattle.log_model.specs.declared.entry.Entry.{Entry}
 use Rattle.log_model.specs.declared.entry.Owner.{Owner}
@@ -134,8 +134,8 @@ answered-sound w small sound may =
     let ok = ok-parts (answer_now w s t) (parts.3).1 in
     let step : Snapped → StageState → World → World = λ snap t w. record w { stage = Some (with_page (page_end_of w.capacity t.covered (answer_now w snap t)) t) } in
     let is : after_page w ≡ record w { stage = Some (with_page (page_end_of w.capacity t.covered (Ok ok.0)) t) } =
-        by_stage-is step w s t has
-        ∙ ap (λ (r : Result (List Run) (Option ChangeId)). record w { stage = Some (with_page (page_end_of w.capacity t.covered r) t) }) ok.1 in
+    by_stage-is step w s t has
+    ∙ ap (λ (r : Result (List Run) (Option ChangeId)). record w { stage = Some (with_page (page_end_of w.capacity t.covered r) t) }) ok.1 in
     subst IsSound (sym is) (stage-sound w s t (with_page (page_end_of w.capacity t.covered (Ok ok.0)) t) w.volume sound has
     ((stages_stay w.machine w.capacity w.disk w.log w.base s t w.volume (ground-of w s small sound has.snap) (stands-of w s t sound has)).answered ok.0 (parts.3).0 ok.1))
 
@@ -233,5 +233,5 @@ done-sound w small sound may =
     let id = some-parts (id_at w.machine w.disk s.id w.log) ((sound.stage_is s has.snap t has.stage).has_id) in
     let step : Snapped → StageState → World → World = λ snap t w. record w { base = base_of snap.mark (id_at w.machine w.disk snap.id w.log); stage = None } in
     let is : after_done w ≡ record w { base = Some (record { mark = s.mark; id = id.0 }); stage = None } =
-        by_stage-is step w s t has ∙ ap (λ (o : Option ChangeId). record w { base = base_of s.mark o; stage = None }) id.1 in
+    by_stage-is step w s t has ∙ ap (λ (o : Option ChangeId). record w { base = base_of s.mark o; stage = None }) id.1 in
     subst IsSound (sym is) (done-world w s t id.0 small sound has parts.3 id.1)

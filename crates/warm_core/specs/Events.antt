@@ -3,8 +3,8 @@
 use Rattle.std.specs.Prelude.{◌≡◌, ℕ, ◌+◌, ◌<◌, ◌≤◌, ◌==◌, ◌⊎◌, List, [], ◌∷◌, ◌++◌, length, Bool, true, false, Option, Some, None, IsSome, IfSome, IsSomeAnd, is_none, option_map, Result, Ok, Err, IsOk, IsErr}
 use Rattle.std.specs.Option.{ForSome, option_and_then}
 use Rattle.sector_model.specs.Run.{end_of}
-use Rattle.sector_model.specs.Page.{page_of}
-use Rattle.sector_model.specs.VolumeContents.{VolumeContents, loose_count, volume_filled, volume_flushed, volume_zeroed}
+use Rattle.sector_model.specs.Page.{page_from}
+use Rattle.sector_model.specs.VolumeContents.{VolumeContents, loose_count, volume_stopped, volume_flushed, volume_zeroed}
 use Rattle.sector_model.specs.declared.run.Run.{Run}
 use Rattle.sector_model.specs.declared.sector.Sector.{Sector}
 use Rattle.change_id.specs.declared.ChangeId.{ChangeId}
@@ -87,7 +87,7 @@ snapped_of snapshot log =
 
 -- behind the last sector of the page that an answer has from a sector on
 abbrev pub page_end_of : (capacity start : ℕ) → Result (List Run) (Option ChangeId) → ℕ
-page_end_of capacity start (Ok areas) = start + (page_of capacity areas start).covered
+page_end_of capacity start (Ok areas) = start + (page_from capacity areas start).length
 page_end_of capacity start (Err in_force) = start
 
 -- what the snapshot that is copied and the stage's numbers make of the world, where a stage runs
@@ -141,7 +141,7 @@ after Flushed w = record w {
 }
 after StageDone w = after_done w
 after (Stop filling) w = record w {
-  volume = volume_filled filling w.volume;
+  volume = volume_stopped filling w.volume;
   stage = None;
   running = false;
 }

@@ -5,7 +5,7 @@ use Rattle.std.specs.Prelude.{◌≡◌, ℕ, ◌+◌, ◌<◌, ◌≤◌, ◌^�
 use Rattle.std.specs.Option.{ForSome}
 use Rattle.std.specs.List.{list_any}
 use Rattle.sector_model.specs.Run.{areas_of}
-use Rattle.sector_model.specs.Page.{PageContents, page_of, LiesWithin}
+use Rattle.sector_model.specs.Page.{PageContents, page_from, LiesWithin}
 use Rattle.sector_model.specs.VolumeContents.{VolumeContents, IsSized, IsFlushed, IsBrokenAt, DiffersOnlyWhereLoose, volume_flushed, volume_zeroed}
 use Rattle.sector_model.specs.declared.run.Run.{Run}
 use Rattle.change_id.specs.declared.ChangeId.{ChangeId}
@@ -125,7 +125,7 @@ pub record AnswersTell (machine capacity disk : ℕ) (log : List Entry) (base : 
       → areas ≡ areas_of capacity (blocks_asked capacity disk log base snap full)
   pub strange : full ≡ false → HasToBeFull disk log base snap
       → IsErr (answer machine capacity disk log base snap full)
-  pub pages : (start : ℕ) → start < capacity → LiesWithin capacity (page_of capacity
+  pub pages : (start : ℕ) → start < capacity → LiesWithin capacity (page_from capacity
       (areas_of capacity (blocks_asked capacity disk log base snap full)) start)
 
 abbrev pub StagesAreAnswered : Type 0

@@ -12,7 +12,7 @@ ghost use Rattle.warm_core.specs.Events.{MayHappen, after, snapped_of};
 use crate::conditions::entries_asked;
 use crate::{Base, DiskWorld, Event, StageState};
 use log_model::{
-    Entry, Snapped, before, fill_page, in_force, last_off, mark, sector_at, through,
+    Entry, Snapped, answer_page, before, in_force, last_off, mark, sector_at, through,
 };
 use sector_model::{NoMemory, Page, Run, Runs, Sector, SectorList};
 use std::alloc::Global;
@@ -77,7 +77,7 @@ fn take_page(alloc: Global, world: &mut DiskWorld) -> Result<(), NoMemory>
         return Ok(());
     };
     let mut page = Page::new(alloc)?;
-    fill_page(
+    answer_page(
         entries_asked(world, snap, stage.full),
         world.disk,
         world.capacity,
@@ -231,7 +231,7 @@ fn stop(world: &mut DiskWorld, filling: &SectorList)
     requires happens { MayHappen (Event.Stop filling.now) (world_of world.old) }
     ensures { Leaves (Event.Stop filling.now) world.old world.new }
 {
-    world.volume.fill_loose(&world.loose, filling.as_slice());
+    world.volume.take_found(&world.loose, filling.as_slice());
     world.stage = None;
     world.running = false;
 }

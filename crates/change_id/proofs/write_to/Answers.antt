@@ -2,7 +2,7 @@ use Rattle.std.proofs.Common.{◌≡◌, ◌+◌, ◌-◌, ◌++◌, ◌∷◌, 
 use Rattle.std.proofs.lemmas.List.{length-take-le, length-drop, take_all}
 use Rattle.uuid.specs.Text.{hyphenated_text, lower}
 use Rattle.change_id.specs.ChangeId.{slash}
-use Rattle.change_id.proofs.SpellingLemmas.{length-uuid_text, written_uuid, written_text, written_rest}
+use Rattle.change_id.proofs.SpellingLemmas.{ascii_spelling, length-uuid_text, written_uuid, written_text, written_rest}
 use Rattle.change_id.proofs.write_to.Goals as goal
 
 pub copy_from_slice-requires : goal.copy_from_slice-requires
@@ -27,8 +27,14 @@ returns c =
     let end = 57 - made.result.1 in
     let long : end ≡ 37 + length tail = omega (arith, ap length copied, digits_len, made.ensures.start) in
     let digits = copied ∙ made.ensures.digits in
+    let text = written_text c.args.out.now front tail end len uuid_len long ∙ (λ i. uuid i ++ slash ∷ digits i) in
     record {
-      text = written_text c.args.out.now front tail end len uuid_len long ∙ (λ i. uuid i ++ slash ∷ digits i);
+      text = text;
+      spells = λ counted. record {
+        identifier = record { ranges = record { uuid_fits = omega arith; seq_fits = omega arith }; counted = counted };
+        spelled = text;
+      };
+      ascii = rw text (ascii_spelling c.args.id.now.uuid c.args.id.now.seq (omega arith));
       rest = written_rest c.args.out.now front tail end len uuid_len long;
       fits = omega arith;
     }

@@ -1,8 +1,8 @@
-use Rattle.checkpoints.proofs.Order.{last_is_finished, snapshots_stay}
+use Rattle.checkpoints.proofs.Order.{last_is_finished, only_the_last_is_finished}
 use Rattle.checkpoints.proofs.laws.finishing_turns_the_last.Goals as goal
 
 pub returns-clause-last : goal.returns-clause-last
 returns-clause-last c = last_is_finished
 
-pub returns-clause-snapshots : goal.returns-clause-snapshots
-returns-clause-snapshots c = snapshots_stay
+pub returns-clause-only : goal.returns-clause-only
+returns-clause-only c = only_the_last_is_finished

@@ -1,7 +1,7 @@
 use Rattle.std.proofs.Common.{◌≡◌, ℕ, ◌<◌, ◌^◌, List, sym, ap, ◌∙◌, arith, inl, inr}
 use Rattle.std.proofs.lemmas.Bool.{cases_lt}
 use Rattle.sector_model.specs.Run.{in_blocks, touched_blocks, AreSpaced}
-use Rattle.sector_model.proofs.Spacing.{runs_of-kept}
+use Rattle.sector_model.proofs.Spacing.{runs_of-spaced}
 use Rattle.log_model.specs.declared.entry.Entry.{Entry}
 use Rattle.log_model.specs.Entry.{writes_of}
 use Rattle.log_model.specs.PlainMachine.{is_touched}
@@ -10,7 +10,7 @@ use Rattle.log_model.proofs.AreaLemmas.{in_touched_runs, past_touched_runs, touc
 use Rattle.log_model.proofs.query.next_touched.Goals as goal
 
 spaced : (c d : ℕ) (log : List Entry) → c < 2 ^ 64 → AreSpaced (touched_runs c d log)
-spaced c d log fits = (runs_of-kept (in_blocks (touched_blocks c (writes_of d log))) c fits).spaced
+spaced c d log fits = (runs_of-spaced (in_blocks (touched_blocks c (writes_of d log))) c fits).spaced
 
 pub returns-then-first-capacity : goal.returns-then-first-capacity
 returns-then-first-capacity c =

@@ -1,5 +1,5 @@
 use Rattle.std.proofs.Common.{◌≡◌, ℕ, ◌+◌, List, Bool, true, ◌==◌, ◌&&◌, take, length, unwrap_or, sym, ap, ◌∙◌, arith}
-use Rattle.std.proofs.lemmas.Bool.{eq-eqb}
+use Rattle.std.proofs.lemmas.Bool.{and_from, eq-eqb}
 use Rattle.log_model.specs.declared.entry.Entry.{Entry}
 use Rattle.log_model.specs.Marks.{epoch, number}
 use Rattle.log_model.proofs.FoldLemmas.{find-range_at, find-range_none}
@@ -7,9 +7,6 @@ use Rattle.log_model.proofs.query.numbered_place.Goals as goal
 
 abbrev gives : ℕ → ℕ → List Entry → ℕ → ℕ → Bool
 gives d q log now k = epoch d (take (k + 1) log) == now && number d (take (k + 1) log) == q
-
-both : (a b : Bool) → a ≡ true → b ≡ true → (a && b) ≡ true
-both a b h k = ap (λ x. x && b) h ∙ k
 
 pub returns-then-number-seq-clause-place : goal.returns-then-number-seq-clause-place
 returns-then-number-seq-clause-place c =
@@ -19,7 +16,7 @@ returns-then-number-seq-clause-place c =
     let place : ℕ = c.loop-place.place in
     let now : c.epoch-now.result ≡ epoch d log = c.epoch-now.ensures in
     let here : gives d q log (epoch d log) (0 + place) ≡ true =
-    ap (λ k. gives d q log (epoch d log) k) (omega arith) ∙ both (epoch d (take (place + 1) log) == epoch d log) (number d (take (place + 1) log) == q)
+    ap (λ k. gives d q log (epoch d log) k) (omega arith) ∙ and_from (epoch d (take (place + 1) log) == epoch d log) (number d (take (place + 1) log) == q)
     (eq-eqb (epoch d (take (place + 1) log)) (epoch d log) (sym c.epoch.ensures ∙ c.if-epoch-now.true ∙ now)) (eq-eqb (number d (take (place + 1) log)) q (sym c.number.ensures ∙ c.if-number-seq.true)) in
     let at : place ≡ 0 + place = omega arith in
     at ∙ sym (ap (λ o. unwrap_or o (length log)) (find-range_at (gives d q log (epoch d log)) 0 (length log) place c.loop-place-test.true

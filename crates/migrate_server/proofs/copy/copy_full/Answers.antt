@@ -3,7 +3,7 @@ use Rattle.std.proofs.lemmas.List.{length-take-le, length-drop}
 use Rattle.std.specs.Prelude.{replicate}
 use Rattle.sector_model.specs.Sector.{zero_sector}
 use Rattle.target_volume.specs.Volume.{after_write, after_zero}
-use Rattle.migrate_server.proofs.Copying.{copied_more, copied_zeros, copied_none, copied_all, cleared}
+use Rattle.migrate_server.proofs.Copying.{copied_more, copied_zeros, cleared}
 use Rattle.migrate_server.proofs.copy.copy_full.Goals as goal
 
 pub loop-at-preserved-in_ok-write : goal.loop-at-preserved-in_ok-write

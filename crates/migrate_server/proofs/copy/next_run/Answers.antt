@@ -1,4 +1,4 @@
-use Rattle.migrate_server.proofs.Pieces.{next_found}
+use Rattle.sector_model.proofs.NextRun.{next_found}
 use Rattle.migrate_server.proofs.copy.next_run.Goals as goal
 
 pub returns : goal.returns

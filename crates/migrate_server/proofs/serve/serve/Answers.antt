@@ -1,7 +1,7 @@
 use Rattle.std.proofs.Common.{sym, subst}
 use Rattle.std.proofs.lemmas.Result.{err_from_is_err_and}
 use Rattle.migrate_server.specs.Reader.{ReaderState}
-use Rattle.migrate_server.specs.World.{World, world_of}
+use Rattle.migrate_server.specs.World.{world_of}
 use Rattle.migrate_server.proofs.Serving.{Progress, progress_start, progress_line, ended_at_once, ended_whole_input, ended_without_line, ended_without_reply, budget_falls, took_line, took_none}
 use Rattle.migrate_server.proofs.serve.serve.Goals as goal
 

@@ -5,7 +5,7 @@ use Rattle.sector_model.specs.Run.{areas_of, block_count}
 use Rattle.sector_model.specs.declared.run.Run.{Run}
 use Rattle.migrate_server.proofs.Lists.{filter-range_increasing, filter-range_below}
 use Rattle.sector_model.specs.Run.{AreSpaced, end_of, in_blocks}
-use Rattle.sector_model.proofs.Spacing.{runs_of-kept}
+use Rattle.sector_model.proofs.Spacing.{runs_of-spaced}
 use Rattle.std.specs.Prelude.{All}
 use Rattle.std.proofs.lemmas.List.Elements.{All-from_recursion}
 use Rattle.migrate_server.specs.WrittenDisk.{written_disk}
@@ -36,12 +36,12 @@ returns-in-Ok-clause-areas c =
 
 pub returns-in-Ok-clause-spaced : goal.returns-in-Ok-clause-spaced
 returns-in-Ok-clause-spaced c =
-    subst AreSpaced (sym c.in-Ok.ensures) (runs_of-kept (in_blocks c.deref-2.result.now) c.args.capacity (omega arith)).spaced
+    subst AreSpaced (sym c.in-Ok.ensures) (runs_of-spaced (in_blocks c.deref-2.result.now) c.args.capacity (omega arith)).spaced
 
 pub returns-in-Ok-clause-inside : goal.returns-in-Ok-clause-inside
 returns-in-Ok-clause-inside c =
     let P : List Run → Type 0 = λ areas. All (λ run. end_of run ≤ c.args.capacity) areas in
-    subst P (sym c.in-Ok.ensures) (All-from_recursion (λ run. end_of run ≤ c.args.capacity) _ (runs_of-kept (in_blocks c.deref-2.result.now) c.args.capacity (omega arith)).ends)
+    subst P (sym c.in-Ok.ensures) (All-from_recursion (λ run. end_of run ≤ c.args.capacity) _ (runs_of-spaced (in_blocks c.deref-2.result.now) c.args.capacity (omega arith)).ends)
 
 pub returns-in-Ok-clause-clear : goal.returns-in-Ok-clause-clear
 returns-in-Ok-clause-clear c =

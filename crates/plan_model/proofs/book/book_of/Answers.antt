@@ -18,10 +18,13 @@ loop-vm-preserved c = λ q.
           let new = get (slice_cmp nat_cmp) w.insert.new.self q in
           let absent : is_some old_at ≡ false = cc in
           rw w.book-is (book_step_new c.args.known.now c.loop-vm.vm-index vm q old new old_at
-          c.loop-vm-test.true c.vm-item.is (c.loop-vm.invariant q) (c.loop-vm.invariant vm.name) absent
-          (put_at key vm.name q (standing_of vm) old new w.in_ok-clone.ensures.cases (w.in_ok-insert.ensures.updates.0 q)))
+          c.loop-vm-test.true c.vm-item.is (c.loop-vm.invariant q) (c.loop-vm.invariant vm.name)
+          absent
+          (put_at key vm.name q (standing_of vm) old new w.in_ok-clone.ensures.cases
+          (w.in_ok-insert.ensures.updates.0 q)))
       | else-not-contains_key w ↦
           let found : is_some old_at ≡ true = cc in
           rw w.book-is (book_step_same c.args.known.now c.loop-vm.vm-index vm q old old_at
-          c.loop-vm-test.true c.vm-item.is (c.loop-vm.invariant q) (c.loop-vm.invariant vm.name) found)
+          c.loop-vm-test.true c.vm-item.is (c.loop-vm.invariant q) (c.loop-vm.invariant vm.name)
+          found)
     ]

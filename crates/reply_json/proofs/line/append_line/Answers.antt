@@ -10,7 +10,7 @@ returns-clause-line c =
     let d = reply_data c.args.reply.now in
     let ended = c.put-written.new.writer in
     let stood : ended.before ≡ c.args.out.now.items = cc in
-    let put = rw c.in_ok-written.was at c.put-written.ensures in
+    let put = rw c.in_ok-written.was at c.put-written.ensures.puts in
     let whole = put.whole ∙ ap (λ ts. ts ++ tokens_of d) c.new-writer.ensures.tokens in
     c.in_ok-push.ensures.items
     ∙ ap (λ s. s ++ 10 ∷ []) (c.into_inner.ensures.items ∙ ap (λ s. s ++ print ended.tokens) stood)

@@ -1,4 +1,4 @@
--- The places before k are cleared.
+-- The offsets before k are cleared.
 use Rattle.std.proofs.Common.{◌≡◌, ℕ, ◌<◌, get_or, false, Some}
 use Rattle.std.specs.List.{slice_get}
 use Rattle.sector_model.specs.Sector.{zero_sector}

@@ -33,7 +33,7 @@ returns c =
     let run = c.args.run in
     let frozen : List Entry = c.before-frozen.result.now in
     let is : frozen ≡ take c.args.snap.mark w.log =
-        c.before-frozen.ensures ∙ ap (λ (xs : List Entry). before c.args.snap.id xs) c.as_slice.ensures ∙ ap (λ n. take n w.log) c.requires.snap.mark_is in
+    c.before-frozen.ensures ∙ ap (λ (xs : List Entry). before c.args.snap.id xs) c.as_slice.ensures ∙ ap (λ n. take n w.log) c.requires.snap.mark_is in
     let sector : List Entry → ℕ → Sector = λ log i. sector_at w.disk (run.first + i) log in
     let long : c.loop-at.at - run.first ≡ run.count = omega arith in
     c.loop-at.invariant ∙ ap (λ n. map (sector frozen) (range_with_len 0 n)) long

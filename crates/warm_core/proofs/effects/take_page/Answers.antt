@@ -1,5 +1,5 @@
 use Rattle.std.proofs.Common.{◌≡◌, ℕ, ◌+◌, ◌<◌, ◌^◌, List, Some, IsOk, sym, ap, ◌∙◌, arith}
-use Rattle.sector_model.specs.Page.{PageContents, page_of}
+use Rattle.sector_model.specs.Page.{PageContents, page_from}
 use Rattle.sector_model.specs.Run.{areas_of}
 use Rattle.log_model.specs.declared.entry.Entry.{Entry}
 use Rattle.log_model.specs.declared.link.Snapped.{Snapped}
@@ -18,8 +18,8 @@ pub entries_asked-requires : goal.entries_asked-requires
 entries_asked-requires c =
     let within = (c.requires.sound.sound.snap_is c.in-Some-Some.snap c.in-Some-Some.is-0).within in omega (arith, within)
 
-pub fill_page-requires : goal.fill_page-requires
-fill_page-requires c =
+pub answer_page-requires : goal.answer_page-requires
+answer_page-requires c =
     let w : World = world_of c.args.world.now in
     let t = c.in-Some-Some.stage in
     let may = runs-at w (λ blocks snap t. MayAsk blocks t × IsOk (answer_now w snap t)) c.in-Some-Some.snap t c.in-Some-Some.is-0 c.in-Some-Some.is-1 c.requires.happens in
@@ -37,8 +37,8 @@ area_page-requires-clause-lies c =
     let may = runs-at w (λ blocks snap t. MayAsk blocks t × IsOk (answer_now w snap t)) s t c.in-Some-Some.is-0 c.in-Some-Some.is-1 c.requires.happens in
     let sized = sized-of w t c.requires.sound.sound c.in-Some-Some.is-1 in
     let more = may.0.more in
-    page-lies w s t c.fill_page.new.page (omega arith) c.requires.sound.sound c.in-Some-Some.is-0 c.in-Some-Some.is-1 (omega (arith, sized, more))
-    (c.fill_page.ensures ∙ ap (λ (entries : List Entry). page_of w.capacity (areas_of w.capacity (blocks_in w.capacity w.disk entries)) t.covered) c.entries_asked.ensures)
+    page-lies w s t c.answer_page.new.page (omega arith) c.requires.sound.sound c.in-Some-Some.is-0 c.in-Some-Some.is-1 (omega (arith, sized, more))
+    (c.answer_page.ensures ∙ ap (λ (entries : List Entry). page_from w.capacity (areas_of w.capacity (blocks_in w.capacity w.disk entries)) t.covered) c.entries_asked.ensures)
 
 pub area_page-requires-clause-ready : goal.area_page-requires-clause-ready
 area_page-requires-clause-ready c =
@@ -57,7 +57,7 @@ returns-clause-ok c =
     let may = runs-at w (λ blocks snap t. MayAsk blocks t × IsOk (answer_now w snap t)) s t c.in-Some-Some.is-0 c.in-Some-Some.is-1 c.requires.happens in
     record {
       effect = ap (λ (t : StageState). record w { stage = Some t }) c.area_page.ensures.taken
-          ∙ page-effect w s t c.fill_page.new.page (omega arith) c.requires.sound.sound c.in-Some-Some.is-0 c.in-Some-Some.is-1 may.1
-          (c.fill_page.ensures ∙ ap (λ (entries : List Entry). page_of w.capacity (areas_of w.capacity (blocks_in w.capacity w.disk entries)) t.covered) c.entries_asked.ensures);
+          ∙ page-effect w s t c.answer_page.new.page (omega arith) c.requires.sound.sound c.in-Some-Some.is-0 c.in-Some-Some.is-1 may.1
+          (c.answer_page.ensures ∙ ap (λ (entries : List Entry). page_from w.capacity (areas_of w.capacity (blocks_in w.capacity w.disk entries)) t.covered) c.entries_asked.ensures);
       within = c.requires.sound.within;
     }

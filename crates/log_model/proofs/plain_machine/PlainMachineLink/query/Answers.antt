@@ -1,7 +1,7 @@
 use Rattle.std.proofs.Common.{◌≡◌, ℕ, List, Bool, true, false, not, ◌&&◌, nat_lt, Option, Some, is_some, cond, refl, Result, Ok, Err, IfOk, MatchBool, subst, sym, ap, ◌∙◌}
 use Rattle.std.proofs.lemmas.Result.{err_from_is_err_and}
 use Rattle.sector_model.specs.Run.{areas_of, touched_blocks}
-use Rattle.sector_model.specs.Page.{PageContents, page_of}
+use Rattle.sector_model.specs.Page.{PageContents, page_from}
 use Rattle.sector_model.specs.declared.run.Run.{Run}
 use Rattle.change_id.specs.declared.ChangeId.{ChangeId}
 use Rattle.change_id.specs.declared.Since.{Since}
@@ -65,14 +65,14 @@ returns-clause-areas c =
     let sizes : List ℕ = c.as_slice.result.now in
     let d : ℕ = c.args.disk in
     let machine : ℕ = c.self.inside.machine in
-    let page : PageContents = c.fill_page.new.page in
+    let page : PageContents = c.answer_page.new.page in
     let size : c.in_ok-capacity.capacity ≡ capacity_of sizes d = capacity_is (is_known sizes d && nat_lt c.args.start (capacity_of sizes d)) c.in_ok-capacity.capacity (capacity_of sizes d) c.in_ok-capacity.ensures in
     let part : c.between.result.now ≡ between c.in_ok-from.from (mark c.args.id log) log = c.between.ensures ∙ ap (λ k. between c.in_ok-from.from k log) c.mark.ensures.mark in
-    let filled : page ≡ page_of (capacity_of sizes d) (touched_areas (capacity_of sizes d) d c.in_ok-from.from (mark c.args.id log) log) c.args.start =
-    c.fill_page.ensures ∙ ap (λ (xs : List Entry). page_of c.in_ok-capacity.capacity (areas_of c.in_ok-capacity.capacity (touched_blocks c.in_ok-capacity.capacity (writes_of d xs))) c.args.start) part
-    ∙ ap (λ n. page_of n (touched_areas n d c.in_ok-from.from (mark c.args.id log) log) c.args.start) size in
-    let told : IfOk (changed_areas machine (capacity_of sizes d) d c.args.id c.args.since log) (λ areas. page ≡ page_of (capacity_of sizes d) areas c.args.start) =
-    subst (λ (a : Result (List Run) _). IfOk a (λ areas. page ≡ page_of (capacity_of sizes d) areas c.args.start)) (sym (c.in_ok-from.ensures (capacity_of sizes d))) filled in
-    subst (λ (s : LinkState). IfOk (changed_areas s.machine (capacity_of s.capacities d) d c.args.id c.args.since s.seen) (λ areas. page ≡ page_of (capacity_of s.capacities d) areas c.args.start)) c.self.view_is
-    (subst (λ (xs : List Entry). IfOk (changed_areas machine (capacity_of c.self.inside.capacities.items d) d c.args.id c.args.since xs) (λ areas. page ≡ page_of (capacity_of c.self.inside.capacities.items d) areas c.args.start)) c.as_slice-log.ensures.value
-    (subst (λ (xs : List ℕ). IfOk (changed_areas machine (capacity_of xs d) d c.args.id c.args.since log) (λ areas. page ≡ page_of (capacity_of xs d) areas c.args.start)) c.as_slice.ensures.value told))
+    let filled : page ≡ page_from (capacity_of sizes d) (touched_areas (capacity_of sizes d) d c.in_ok-from.from (mark c.args.id log) log) c.args.start =
+    c.answer_page.ensures ∙ ap (λ (xs : List Entry). page_from c.in_ok-capacity.capacity (areas_of c.in_ok-capacity.capacity (touched_blocks c.in_ok-capacity.capacity (writes_of d xs))) c.args.start) part
+    ∙ ap (λ n. page_from n (touched_areas n d c.in_ok-from.from (mark c.args.id log) log) c.args.start) size in
+    let told : IfOk (changed_areas machine (capacity_of sizes d) d c.args.id c.args.since log) (λ areas. page ≡ page_from (capacity_of sizes d) areas c.args.start) =
+    subst (λ (a : Result (List Run) _). IfOk a (λ areas. page ≡ page_from (capacity_of sizes d) areas c.args.start)) (sym (c.in_ok-from.ensures (capacity_of sizes d))) filled in
+    subst (λ (s : LinkState). IfOk (changed_areas s.machine (capacity_of s.capacities d) d c.args.id c.args.since s.seen) (λ areas. page ≡ page_from (capacity_of s.capacities d) areas c.args.start)) c.self.view_is
+    (subst (λ (xs : List Entry). IfOk (changed_areas machine (capacity_of c.self.inside.capacities.items d) d c.args.id c.args.since xs) (λ areas. page ≡ page_from (capacity_of c.self.inside.capacities.items d) areas c.args.start)) c.as_slice-log.ensures.value
+    (subst (λ (xs : List ℕ). IfOk (changed_areas machine (capacity_of xs d) d c.args.id c.args.since log) (λ areas. page ≡ page_from (capacity_of xs d) areas c.args.start)) c.as_slice.ensures.value told))

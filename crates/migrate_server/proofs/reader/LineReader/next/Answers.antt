@@ -1,7 +1,7 @@
-use Rattle.std.proofs.Common.{◌≡◌, ◌+◌, length, false, [], subst, sym, ap, ◌∙◌, arith}
+use Rattle.std.proofs.Common.{◌≡◌, ◌+◌, length, false, [], subst, sym, ap, ◌∙◌}
 use Rattle.std.proofs.lemmas.Result.{err_from_is_err_and}
 use Rattle.migrate_server.specs.Reader.{ReaderState, TakesLine}
-use Rattle.migrate_server.proofs.PartLines.{Partly, partly_start, taken_line, taken_rest, filled_more, ended_line, cut_short, stopped_in_line, skipped, rest_none, nearer}
+use Rattle.migrate_server.proofs.PartLines.{Partly, taken_line, taken_rest, filled_more, ended_line, cut_short, skipped, rest_none, nearer}
 use Rattle.migrate_server.proofs.reader.LineReader.next.Goals as goal
 
 pub returns-in-Some-clause-taken : goal.returns-in-Some-clause-taken

@@ -1,4 +1,4 @@
-use Rattle.std.proofs.Common.{◌≡◌, ◌+◌, length, take, ap, ◌∙◌, arith}
+use Rattle.std.proofs.Common.{◌≡◌, length, take, ap, arith}
 use Rattle.std.proofs.lemmas.List.{length-take-le}
 use Rattle.migrate_server.specs.Reader.{ReaderState}
 use Rattle.migrate_server.specs.declared.reader.TheConstants.{INPUT_LIMIT}

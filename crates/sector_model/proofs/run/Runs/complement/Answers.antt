@@ -4,7 +4,7 @@ use Rattle.std.proofs.lemmas.List.{drop_more, drop_all}
 use Rattle.sector_model.specs.Run.{with_run, in_runs, complement_of, AreSpaced, end_of}
 use Rattle.sector_model.specs.declared.run.Run.{Run}
 use Rattle.sector_model.proofs.RunsOf.{runs_of-none, Left, gap-before, left-after, gap-behind}
-use Rattle.sector_model.proofs.Spacing.{runs_of-kept}
+use Rattle.sector_model.proofs.Spacing.{runs_of-spaced}
 use Rattle.sector_model.proofs.run.Runs.complement.Goals as goal
 
 pub loop-run-init : goal.loop-run-init
@@ -42,4 +42,4 @@ invariant_of-result c =
     let none_left : Left all [] c.loop-run.at = subst (λ (rest : List Run). Left all rest c.loop-run.at) (drop_all c.loop-run.run-index all (omega arith)) c.loop-run.invariant.left in
     let is_complement = c.in_ok-append-2.ensures.ok ∙ ap (λ rs. with_run rs c.loop-run.at (c.args.capacity - c.loop-run.at)) c.loop-run.invariant.gaps
     ∙ gap-behind all c.loop-run.at c.args.capacity none_left c.loop-run.invariant.within in
-    subst AreSpaced (sym is_complement) (runs_of-kept (λ s. not (in_runs all s)) c.args.capacity (omega arith)).spaced
+    subst AreSpaced (sym is_complement) (runs_of-spaced (λ s. not (in_runs all s)) c.args.capacity (omega arith)).spaced

@@ -1,6 +1,7 @@
 -- An empty layer above the others leaves what they hold.
 use Rattle.std.proofs.Common.{◌≡◌, ◌∷◌, [], ◌++◌, arith, length-append, ◌≤◌}
 use Rattle.std.proofs.lemmas.Bool.{false≢true}
+use Rattle.snapshot_chain.specs.Kept.{room_id}
 use Rattle.snapshot_chain.specs.Layer.{IsWithin}
 use Rattle.snapshot_chain.proofs.States.{frozen_state}
 use Rattle.snapshot_chain.proofs.Keeping.{ids-push, all-push}
@@ -24,4 +25,4 @@ returns c =
     let ids : c.push.new.self.items ≡ c.self.inside.ids.items ++ c.args.id ∷ [] = rw c.unwrap.ensures at c.push.ensures.items in
     let layers : c.push-2.new.self.items ≡ c.self.inside.layers.items ++ [] ∷ [] = rw (c.unwrap-2.ensures, c.new.ensures) at c.push-2.ensures.items in
     rw (ids, layers, c.from.ensures, ← c.self.view_is)
-    (frozen_state c.self.inside.capacity c.self.inside.layers.items c.self.inside.ids.items c.self.inside.free_from c.self.inside.freeze_room c.self.inside.merge_room c.args.id c.self.invariant.long)
+    (frozen_state c.self.inside.capacity c.self.inside.layers.items c.self.inside.ids.items c.self.inside.free_from c.self.inside.freeze_room (room_id c.self.inside.merge_room) c.args.id c.self.invariant.long)

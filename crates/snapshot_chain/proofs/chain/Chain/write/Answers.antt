@@ -1,5 +1,6 @@
 -- Only the newest layer changes.
 use Rattle.std.proofs.Common.{◌≡◌, ℕ, None, ◌+◌, ◌<◌, ◌≤◌, length, sym, ◌∙◌, subst, arith, length-set}
+use Rattle.snapshot_chain.specs.Kept.{room_id}
 use Rattle.snapshot_chain.specs.Layer.{IsWithin}
 use Rattle.snapshot_chain.specs.Layers.{layer_at}
 use Rattle.snapshot_chain.specs.Chain.{ChainState}
@@ -58,7 +59,7 @@ returns-clause-ok c =
     let newest : c.index_mut-layer.result.now ≡ layer_at c.self.inside.layers.items (length c.self.inside.ids.items) =
     element c.self.inside.layers.items c.len-newest.result (length c.self.inside.ids.items) c.index_mut-layer.result.now at (omega (arith, c.self.invariant.long)) c.index_mut-layer.ensures.value in
     rw (at, ← c.self.view_is)
-    (written_state cap c.self.inside.layers.items c.self.inside.ids.items c.self.inside.free_from c.self.inside.freeze_room c.self.inside.merge_room c.args.first c.args.sectors.now c.write.new.self
+    (written_state cap c.self.inside.layers.items c.self.inside.ids.items c.self.inside.free_from c.self.inside.freeze_room (room_id c.self.inside.merge_room) c.args.first c.args.sectors.now c.write.new.self
     c.self.invariant.long inside (rw (← newest) c.in_ok-write.ensures.ok))
 
 pub returns-clause-stands : goal.returns-clause-stands

@@ -1,14 +1,13 @@
-use Rattle.std.proofs.Common.{◌≡◌, ℕ, ◌-◌, ◌^◌, ◌≤◌, ◌<◌, ◌&&◌, true, false, Result, Ok, Err, None, option_map, IsOk, OnErr, ap, sym, ◌∙◌, subst, refl, arith}
+use Rattle.std.proofs.Common.{◌≡◌, ℕ, ◌-◌, ◌≤◌, ◌&&◌, Result, Ok, Err, option_map, IsOk, OnErr, ap, sym, ◌∙◌, subst, refl, arith}
 use Rattle.std.specs.BTreeMap.{get}
 use Rattle.std.specs.List.{filter_map}
 use Rattle.std.specs.Prelude.{IsSomeAnd}
 use Rattle.basics.specs.Calls.{CallLog, never_fails}
 use Rattle.basics.specs.Faults.{counted_by}
 use Rattle.target_volume.proofs.SlotLemmas.{slots_of, slots_put, slots_found, slots_ordered, loans_found, loan_slot, lent_at, not_lent, lent_only, lent_counted, whole_kept, kept_state, kept_as_taken}
-use Rattle.target_volume.specs.MemVolume.{MemVolumeState, volume_state, held_state}
+use Rattle.target_volume.specs.MemVolume.{MemVolumeState, volume_state}
 use Rattle.target_volume.specs.MemVolumes.{MemVolumesState, store_state, slot_state, named_loan}
 use Rattle.target_volume.specs.VolumeName.{volume_cmp, find_volume, AreAscending}
-use Rattle.target_volume.specs.VolumeStore.{Loan, IsLentOut}
 use Rattle.target_volume.specs.declared.mem_volumes.Slot.TheVariants.{Home as SlotHome}
 use Rattle.target_volume.proofs.mem_volumes.MemVolumesVolumeStore.keep_back.Goals as goal
 use Rattle.target_volume.proofs.mem_volumes.MemVolumesVolumeStore.keep_back.Goals.{then-self, else-self}

@@ -59,7 +59,7 @@ at_name c = slots_found c.args.name.now c.self.inside.slots.entries ∙ ap (opti
 pub invariant_of-self : goal.invariant_of-self
 invariant_of-self c =
     whole_called _ _ _ _ _ c.self.invariant (ap (λ (l : CallLog). l.failing) c.fail.ensures.log)
-    c.fail.ensures.later
+    c.fail.ensures.rises.0
 
 pub returns-in_default-clause-sound : goal.returns-in_default-clause-sound
 returns-in_default-clause-sound c = λ sound there failed.

@@ -1,0 +1,33 @@
+-- The pages of an answer.
+use Rattle.std.proofs.Common.{◌≡◌, ℕ, ◌^◌, ◌<◌, ◌≤◌, List, Bool, true, false, cond, Option, unwrap_or, Result, Ok, Err, sym, subst}
+use Rattle.std.proofs.lemmas.List.Elements.{All-from_recursion}
+use Rattle.sector_model.specs.Run.{end_of, in_blocks, areas_of, met_blocks}
+use Rattle.sector_model.specs.declared.run.Run.{Run}
+use Rattle.sector_model.proofs.Spacing.{SpacedWithin, runs_of-spaced}
+use Rattle.sector_model.proofs.PageLaws.{pages_joined}
+use Rattle.change_id.specs.History as history
+use Rattle.change_id.specs.declared.ChangeId.{ChangeId}
+use Rattle.change_id.specs.declared.Since.{Since}
+use Rattle.change_id.specs.declared.Since.TheVariants.{All, From}
+use Rattle.change_tracker.specs.History.{TrackStep, reading, freezes, runs_between, areas_between, answered}
+use Rattle.change_tracker.specs.Laws.{AnswerPagesJoin}
+
+ok_part : (b : Bool) (x y : List Run) (e : Option ChangeId) → cond b (Ok x) (Err e) ≡ Ok y → x ≡ y
+ok_part true x y e h = cc
+ok_part false x y e h = absurd (cc)
+
+-- an answer is the areas of some blocks
+of_blocks : (machine disk capacity snapshot : ℕ) (since : Since) (steps : List TrackStep) (areas : List Run) → answered machine disk capacity snapshot since steps ≡ Ok areas
+    → (blocks : List ℕ) × (areas ≡ areas_of capacity blocks)
+of_blocks machine disk capacity snapshot All steps areas found = (met_blocks capacity (runs_between 0 (history.mark freezes snapshot steps) steps), cc)
+of_blocks machine disk capacity snapshot (From id) steps areas found = (
+  met_blocks capacity (runs_between (unwrap_or (history.mark_of_id reading machine disk id steps) 0) (history.mark freezes snapshot steps) steps),
+  sym (ok_part (history.accepts reading machine disk snapshot id steps) (areas_between capacity (unwrap_or (history.mark_of_id reading machine disk id steps) 0) (history.mark freezes snapshot steps) steps) areas
+      (history.in_force reading machine disk steps) found),
+)
+
+pub answer_pages_join : AnswerPagesJoin
+answer_pages_join machine disk capacity snapshot since steps areas start pages fits found are =
+    let blocks = of_blocks machine disk capacity snapshot since steps areas found in
+    let k : SpacedWithin 0 capacity areas = subst (SpacedWithin 0 capacity) (sym blocks.1) (runs_of-spaced (in_blocks blocks.0) capacity fits) in
+    pages_joined capacity areas start pages k.spaced (All-from_recursion (λ r. end_of r ≤ capacity) areas k.ends) are

@@ -1,0 +1,11 @@
+pub mod Bits
+pub mod Walks
+pub mod Blocks
+pub mod Marking
+pub mod Steps
+pub mod Histories
+pub mod States
+pub mod Results
+pub mod Lookups
+pub mod Queries
+pub mod AnswerPages

@@ -1,0 +1,24 @@
+use Rattle.std.proofs.Common.{◌≡◌, Option, Some, Result, Ok, Err, OnErr, sym, ap, subst, refl, ◌∙◌, true, rules}
+use Rattle.sector_model.specs.declared.run.Run.{Run}
+use Rattle.change_tracker.specs.Tracker.{TrackerState, is_within}
+use Rattle.change_tracker.specs.Kept.{state_of}
+use Rattle.change_tracker.proofs.States.{same_state}
+use Rattle.change_tracker.proofs.Results.{refuse_within, only_memory, on_err}
+use Rattle.change_tracker.proofs.tracker.Tracker.reserve_mark.Goals as goal
+
+pub returns-in_err-reserve-clause-refused : goal.returns-in_err-reserve-clause-refused
+returns-in_err-reserve-clause-refused c =
+    let inside : is_within c.args.self.now c.args.run ≡ true = search rules in
+    refuse_within (is_within c.args.self.now c.args.run) c.from_residual.result inside (only_memory c.from_residual.result c.from_residual.ensures.1)
+
+pub returns-in_err-reserve-clause-err : goal.returns-in_err-reserve-clause-err
+returns-in_err-reserve-clause-err c =
+    let was = c.self.inside in
+    on_err c.from_residual.result
+    (same_state was.machine was.disk was.capacity was.resets was.counted was.maps c.reserve.new.self was.snapshots.items was.free_from was.mark_room was.freeze_room c.reserve.ensures.same ∙ c.self.view_is)
+
+pub returns-clause-ok : goal.returns-clause-ok
+returns-clause-ok c =
+    let was = c.self.inside in
+    same_state was.machine was.disk was.capacity was.resets was.counted was.maps c.reserve.new.self was.snapshots.items was.free_from (Some c.args.run) was.freeze_room c.reserve.ensures.same
+    ∙ ap (λ (s : TrackerState). record s { mark_room = Some c.args.run }) c.self.view_is

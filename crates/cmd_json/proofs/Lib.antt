@@ -1,0 +1,4 @@
+pub mod MemberLemmas
+pub mod MomentLemmas
+pub mod LineLemmas
+pub mod OrderLemmas

@@ -1,0 +1,24 @@
+//! The commands of the program, read from lines of JSON. Each command is one row of a table: its
+//! name, and its members with what each of them may be, in the order in which they are tested.
+#![tactic(auto)]
+
+mod command;
+mod commands;
+mod kind;
+mod kinds;
+mod lists;
+mod members;
+mod objects;
+mod read;
+mod refusal;
+#[cfg(test)]
+mod tests;
+
+pub use basics::{Sequence, Text};
+pub use command::{
+    ActLine, Command, DisturbLine, GuestLine, MAX_HOST_LIMIT, MAX_READ_SECTORS, MAX_WORKERS,
+    MoveWrite, SECTOR_BYTES,
+};
+pub use plan_model::{Moment, Name};
+pub use read::{BUILT, order_is_kept, read_command};
+pub use refusal::CmdRefused;

@@ -1,0 +1,61 @@
+//! Which commands are built, and how a refusal is numbered and shown.
+use super::told;
+use crate::read::read_among;
+use crate::{BUILT, CmdRefused, Text};
+use std::alloc::Global;
+use std::test::Fail;
+
+fn answer_where(alloc: Global, built: &[&str], line: &str) -> Result<String, Fail> {
+    told(alloc, read_among(alloc, built, line.as_bytes()))
+}
+
+#[test]
+fn a_command_that_is_not_built_is_told_before_its_members(rt: HostRuntime) -> Result<(), Fail> {
+    let built = ["quit", "status"];
+    for line in [
+        r#"{"cmd":"host"}"#,
+        r#"{"cmd":"host","name":"h"}"#,
+        r#"{"cmd":"host","x":1}"#,
+    ] {
+        let answer = answer_where(rt.alloc(), &built, line)?;
+        assert_eq!(rt; answer.as_str(), "command", "{line}");
+    }
+    Ok(())
+}
+
+#[test]
+fn a_command_that_is_built_is_read(rt: HostRuntime) -> Result<(), Fail> {
+    let built = ["quit", "host"];
+    let answer = answer_where(rt.alloc(), &built, r#"{"cmd":"host","name":"h"}"#)?;
+    assert_eq!(rt; answer.as_str(), "ok");
+    let answer = answer_where(rt.alloc(), &built, r#"{"cmd":"quit","x":1}"#)?;
+    assert_eq!(rt; answer.as_str(), "field x");
+    Ok(())
+}
+
+#[test]
+fn a_name_that_no_row_has_is_no_command(rt: HostRuntime) -> Result<(), Fail> {
+    let answer = answer_where(rt.alloc(), &["fly"], r#"{"cmd":"fly"}"#)?;
+    assert_eq!(rt; answer.as_str(), "command");
+    let answer = answer_where(rt.alloc(), &[], r#"{"cmd":"quit"}"#)?;
+    assert_eq!(rt; answer.as_str(), "command");
+    let answer = answer_where(rt.alloc(), &[], "x")?;
+    assert_eq!(rt; answer.as_str(), "json");
+    Ok(())
+}
+
+#[test]
+fn all_commands_are_built(rt: HostRuntime) {
+    assert_eq!(rt; BUILT.len(), 22);
+}
+
+#[test]
+fn refusals_have_numbers_and_texts(rt: HostRuntime) -> Result<(), Fail> {
+    let refused = CmdRefused::Number(Text::of(rt.alloc(), "limit")?);
+    assert_eq!(rt; refused.number(), Some(4));
+    let text = refused.to_string(rt.alloc())?;
+    assert_eq!(rt; text.as_str(), "the number of limit isn't in its range");
+    assert_eq!(rt; CmdRefused::Json.number(), Some(1));
+    assert_eq!(rt; CmdRefused::NoMemory.number(), None);
+    Ok(())
+}

@@ -1,0 +1,10 @@
+mod CellLemmas
+pub mod StandingLemmas
+mod OpenCells
+mod Reading
+mod Keeping
+mod Loading
+mod Results
+mod ImageLemmas
+mod AppendSteps
+mod OpenSteps

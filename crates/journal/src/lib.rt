@@ -1,0 +1,21 @@
+//! The journal: records that are on a disk before they are acknowledged. Each record's cell stands
+//! behind a gate byte that was closed on the disk before the cell was written, and that is opened
+//! by a write of its own, so that a crash at any moment leaves each record whole or not at all.
+#![tactic(auto)]
+
+mod cells;
+mod device;
+mod failure;
+mod format;
+mod journal;
+mod laws;
+mod refusal;
+#[cfg(test)]
+mod tests;
+
+pub use edge_traits::Disk;
+pub use format::{EMPTY_BYTES, MAGIC, MAX_BYTES};
+pub use journal::Journal;
+pub use laws::a_file_stands_for_one_thing;
+pub use record_codec::Record;
+pub use refusal::JournalRefused;

@@ -1,0 +1,192 @@
+//! What a journal leaves on disks in memory, byte for byte, and after a stop at each of its steps.
+use crate::{Disk, Journal, JournalRefused, MAX_BYTES, Record};
+use edge_traits::{MemDisk, Pick, StopDisk};
+use std::alloc::Global;
+use std::process::Abort;
+use std::test::Fail;
+
+/// The file after the cancel of migration 1, put together by hand.
+const ONE_CANCEL: [u8; 19] = *b"WARMJNL1\x01\0\0\0\x05\x11\0\0\0\x01\0";
+
+fn cancel(mig: u32) -> Record {
+    Record::CancelAsked { mig }
+}
+
+/// What a disk of at most 64 bytes holds.
+fn bytes_of(rt: &impl Abort, alloc: Global, disk: MemDisk) -> Result<Vec<u8>, Fail> {
+    let mut disk = disk;
+    let length = disk.length().or(Err("no length"))? as usize;
+    assert!(rt; length <= 64);
+    let mut bytes = vec![in alloc; 0; length]?;
+    disk.read(0, &mut bytes).or(Err("not read"))?;
+    Ok(bytes)
+}
+
+fn opened<D: Disk + Drop>(alloc: Global, disk: D) -> Result<Journal<D>, Fail> {
+    match Journal::open(alloc, disk) {
+        Ok(journal) => Ok(journal),
+        Err((_, refused)) => Err(refused)?,
+    }
+}
+
+fn refusal<D: Disk + Drop>(alloc: Global, disk: D) -> Option<JournalRefused> {
+    match Journal::open(alloc, disk) {
+        Ok(_) => None,
+        Err((_, refused)) => Some(refused),
+    }
+}
+
+#[test]
+fn a_fresh_journal_is_the_magic_and_a_closed_gate(rt: HostRuntime) -> Result<(), Fail> {
+    let disk = MemDisk::new(rt.alloc(), b"", 1000, &[])?;
+    let disk = opened(rt.alloc(), disk)?.close();
+    let bytes = bytes_of(&rt, rt.alloc(), disk)?;
+    assert_eq!(rt; bytes.as_slice(), b"WARMJNL1\0".as_slice());
+    Ok(())
+}
+
+#[test]
+fn a_record_is_appended_behind_its_gate(rt: HostRuntime) -> Result<(), Fail> {
+    let disk = MemDisk::new(rt.alloc(), b"", 1000, &[])?;
+    let mut journal = opened(rt.alloc(), disk)?;
+    assert_eq!(rt; journal.append(&cancel(1)), Ok(()));
+    assert_eq!(rt; journal.records().len(), 1);
+    let bytes = bytes_of(&rt, rt.alloc(), journal.close())?;
+    assert_eq!(rt; bytes.as_slice(), ONE_CANCEL.as_slice());
+    Ok(())
+}
+
+#[test]
+fn a_closed_gate_ends_the_records_and_the_file(rt: HostRuntime) -> Result<(), Fail> {
+    let mut file = ONE_CANCEL;
+    file[8] = 0;
+    let disk = MemDisk::new(rt.alloc(), &file, 1000, &[])?;
+    let journal = opened(rt.alloc(), disk)?;
+    assert_eq!(rt; journal.records().len(), 0);
+    let bytes = bytes_of(&rt, rt.alloc(), journal.close())?;
+    assert_eq!(rt; bytes.as_slice(), b"WARMJNL1\0".as_slice());
+    Ok(())
+}
+
+#[test]
+fn an_odd_closed_gate_stays(rt: HostRuntime) -> Result<(), Fail> {
+    let disk = MemDisk::new(rt.alloc(), b"WARMJNL1\x7fabc", 1000, &[])?;
+    let bytes = bytes_of(&rt, rt.alloc(), opened(rt.alloc(), disk)?.close())?;
+    assert_eq!(rt; bytes.as_slice(), b"WARMJNL1\x7f".as_slice());
+    Ok(())
+}
+
+#[test]
+fn a_record_that_runs_past_the_end_is_bad(rt: HostRuntime) -> Result<(), Fail> {
+    let mut file = ONE_CANCEL;
+    file[12] = 6;
+    let disk = MemDisk::new(rt.alloc(), &file, 1000, &[])?;
+    assert_eq!(rt;
+        refusal(rt.alloc(), disk),
+        Some(JournalRefused::BadRecord(1))
+    );
+    let disk = MemDisk::new(rt.alloc(), &ONE_CANCEL[..18], 1000, &[])?;
+    assert_eq!(rt;
+        refusal(rt.alloc(), disk),
+        Some(JournalRefused::BadRecord(2))
+    );
+    Ok(())
+}
+
+#[test]
+fn other_files_are_no_journals(rt: HostRuntime) -> Result<(), Fail> {
+    let disk = MemDisk::new(rt.alloc(), b"0123456789", 1000, &[])?;
+    assert_eq!(rt;
+        refusal(rt.alloc(), disk),
+        Some(JournalRefused::NotAJournal)
+    );
+    let disk = MemDisk::new(rt.alloc(), b"012345678", 1000, &[])?;
+    assert_eq!(rt; refusal(rt.alloc(), disk), None);
+    Ok(())
+}
+
+#[test]
+fn a_fault_is_answered_again(rt: HostRuntime) -> Result<(), Fail> {
+    let disk = MemDisk::new(rt.alloc(), b"", 1000, &[6])?;
+    let mut journal = opened(rt.alloc(), disk)?;
+    let fault = JournalRefused::DiskFault { at: 9 };
+    assert_eq!(rt; journal.append(&cancel(1)), Err(fault));
+    assert_eq!(rt; journal.append(&cancel(2)), Err(fault));
+    assert_eq!(rt; journal.records().len(), 0);
+    let mut journal = opened(rt.alloc(), journal.close())?;
+    assert_eq!(rt; journal.append(&cancel(1)), Ok(()));
+    Ok(())
+}
+
+#[test]
+fn a_disk_that_fails_at_once_is_told(rt: HostRuntime) -> Result<(), Fail> {
+    let disk = MemDisk::new(rt.alloc(), b"", 1000, &[1])?;
+    assert_eq!(rt;
+        refusal(rt.alloc(), disk),
+        Some(JournalRefused::DiskFault { at: 0 })
+    );
+    assert_eq!(rt; JournalRefused::DiskFault { at: 0 }.number(), Some(1));
+    assert_eq!(rt; JournalRefused::NoMemory.number(), None);
+    Ok(())
+}
+
+/// How many appends were acknowledged before the disk stopped, and the disk.
+fn run_until_stop(alloc: Global, k: u64) -> Result<(usize, MemDisk), Fail> {
+    let disk = StopDisk::new(MemDisk::new(alloc, b"", 1000, &[])?, k);
+    let mut journal = match Journal::open(alloc, disk) {
+        Ok(journal) => journal,
+        Err((disk, _)) => return Ok((0, disk.into_inner())),
+    };
+    let mut done = 0usize;
+    for mig in 1..4u32 {
+        if journal.append(&cancel(mig)).is_ok() {
+            done = done.saturating_add(1);
+        }
+    }
+    Ok((done, journal.close().into_inner()))
+}
+
+/// How many records an image has.
+fn records_after(alloc: Global, disk: &MemDisk, pick: Pick) -> Result<usize, Fail> {
+    Ok(opened(alloc, disk.image(pick)?)?.records().len())
+}
+
+#[test]
+fn a_stop_at_each_step_leaves_what_was_acknowledged_or_one_more(
+    rt: HostRuntime,
+) -> Result<(), Fail> {
+    // The steps are four of the opening and four of each of three appends. The last is no stop.
+    let acknowledged = [0, 0, 0, 0, 0, 0, 0, 0, 1, 1, 1, 1, 2, 2, 2, 2, 3];
+    let written = [0, 0, 0, 0, 0, 0, 0, 1, 1, 1, 1, 2, 2, 2, 2, 3, 3];
+    for (step, (want, most)) in acknowledged.iter().zip(&written).enumerate() {
+        let (done, disk) = run_until_stop(rt.alloc(), step as u64 + 1)?;
+        assert_eq!(rt; done, *want, "{step}");
+        assert_eq!(rt;
+            records_after(rt.alloc(), &disk, Pick::Old)?,
+            *want,
+            "{step}"
+        );
+        assert_eq!(rt;
+            records_after(rt.alloc(), &disk, Pick::New)?,
+            *most,
+            "{step}"
+        );
+        let mixed = records_after(rt.alloc(), &disk, Pick::Mixed(step as u64))?;
+        assert!(rt; *want <= mixed && mixed <= *most, "{step}");
+    }
+    Ok(())
+}
+
+#[test]
+fn refusals_have_texts(rt: HostRuntime) -> Result<(), Fail> {
+    let full = JournalRefused::Full {
+        length: MAX_BYTES as u64,
+    };
+    let text = format!(in rt.alloc(); "{full}; {}", JournalRefused::BadRecord(3))?;
+    assert_eq!(rt;
+        text.as_str(),
+        "the journal of 67108864 bytes has no room for the record; \
+            record 3 of the journal is cut or no record"
+    );
+    Ok(())
+}

@@ -1,0 +1,104 @@
+//! Sectors of one block, and a mask of the offsets at which they stand.
+ghost use Rattle.std.specs.Prelude.{◌≡◌, ◌<◌, ◌^◌, IfOk, OnOk};
+ghost use Rattle.std.specs.Option.{option_copied};
+ghost use Rattle.snapshot_chain.specs.Page128.{PageState, IsPage, no_sectors, has_offset, rank, sector_at, with_sector, IsReplaced};
+
+use sector_model::{BLOCK_SECTORS, NoMemory, Sector};
+use std::alloc::Global;
+use std::marker::Model;
+
+/// Some sectors of a block in ascending order of their offsets, and no others.
+///
+/// Bit `k` of the mask is set where the sector at offset `k` of the block is one of them.
+#[derive(Debug, Drop)]
+pub(crate) struct PlacedSectors {
+    mask: u128,
+    sectors: Vec<Sector>,
+}
+
+impl Model for PlacedSectors {
+    ghost Value = { PageState };
+
+    ghost view = { λ a. record { mask = a.mask; sectors = a.sectors.items } };
+
+    ghost invariant = { λ a. IsPage (record { mask = a.mask; sectors = a.sectors.items }) };
+}
+
+impl PlacedSectors {
+    /// No sectors, with room for some. It answers only want of memory.
+    pub(crate) fn with_room(alloc: Global, sectors: usize) -> Result<PlacedSectors, NoMemory>
+        ensures { IfOk result (λ placed. placed ≡ no_sectors) }
+    {
+        Ok(PlacedSectors {
+            mask: 0,
+            sectors: Vec::with_capacity(alloc, sectors)?,
+        })
+    }
+
+    /// The offsets that have a sector, a bit for each.
+    pub(crate) fn mask(&self) -> u128
+        ensures mask { result ≡ self.now.mask }
+        ensures page { IsPage self.now }
+    {
+        self.mask
+    }
+
+    /// The sectors, in ascending order of their offsets.
+    pub(crate) fn as_slice(&self) -> &[Sector]
+        ensures { result.now ≡ self.now.sectors }
+    {
+        self.sectors.as_slice()
+    }
+
+    /// Whether the offset has a sector.
+    fn has(&self, offset: u64) -> bool
+        requires { offset < BLOCK_SECTORS }
+        ensures { result ≡ has_offset self.now.mask offset }
+    {
+        self.mask & (1u128 << offset) != 0
+    }
+
+    /// How many of the sectors stand below the offset.
+    fn index_of(&self, offset: u64) -> usize
+        requires { offset < BLOCK_SECTORS }
+        ensures index { result ≡ rank self.now.mask offset }
+        ensures page { IsPage self.now }
+    {
+        (self.mask & ((1u128 << offset) - 1)).count_ones() as usize
+    }
+
+    /// The sector at an offset, or None without one there.
+    pub(crate) fn get(&self, offset: u64) -> Option<&Sector>
+        requires { offset < BLOCK_SECTORS }
+        ensures { option_copied result ≡ sector_at self.now offset }
+    {
+        if !self.has(offset) {
+            return None;
+        }
+        self.sectors.get(self.index_of(offset))
+    }
+
+    /// Adds the sector of an offset above those of all others. An `Err` changes nothing.
+    pub(crate) fn append(&mut self, offset: u64, sector: Sector) -> Result<(), NoMemory>
+        requires offset { offset < BLOCK_SECTORS }
+        requires above { self.old.mask < 2 ^ offset }
+        ensures { OnOk result (self.new ≡ with_sector self.old offset sector) }
+    {
+        self.sectors.push(sector)?;
+        self.mask |= 1u128 << offset;
+        Ok(())
+    }
+
+    /// Puts another sector at an offset that has one. Without one there, nothing changes.
+    pub(crate) fn replace(&mut self, offset: u64, sector: &Sector)
+        requires { offset < BLOCK_SECTORS }
+        ensures mask { self.new.mask ≡ self.old.mask }
+        ensures sectors { IsReplaced self.old offset sector.now self.new }
+        ensures page { IsPage self.new }
+    {
+        if self.has(offset) {
+            let index = self.index_of(offset);
+            self.sectors[index] = *sector;
+        }
+    }
+}
