@@ -49,7 +49,7 @@ staged-grows c d log None snap new v unfinished has low high staged = tt
 staged-grows c d log (Some b) None new v unfinished has low high staged = absurd (false≢true (has refl))
 staged-grows c d log (Some b) (Some old) new v unfinished has low high (inl on) =
     let grows : (s : ℕ) → in_blocks (open_blocks c d log b (Some old)) s ≡ true → in_blocks (open_blocks c d log b (Some new)) s ≡ true =
-        λ s. open-grows c d log b old new s unfinished (low old refl b refl) high in
+    λ s. open-grows c d log b old new s unfinished (low old refl b refl) high in
     inl (record {
       as_base = λ s none. on.as_base s (outside-old (in_blocks (open_blocks c d log b (Some old)) s) (in_blocks (open_blocks c d log b (Some new)) s) (grows s) none);
       loose_inside = λ s loose. grows s (on.loose_inside s loose);
@@ -83,9 +83,9 @@ begun-sound w snapshot last sound may =
     let unfinished : is_unfinished w.base (Some new) ≡ true = above-unfinished w.base new may.above_base in
     let snap_is : IsSnapOf w.log new = record { within = taken.within; mark_is = refl; off_place_is = refl } in
     let staged : Staged w.capacity w.disk w.log w.base (Some new) w.volume =
-        staged-grows w.capacity w.disk w.log w.base w.snap new w.volume unfinished sound.base_has_snap sound.snap_from_base may.from_current sound.staged in
+    staged-grows w.capacity w.disk w.log w.base w.snap new w.volume unfinished sound.base_has_snap sound.snap_from_base may.from_current sound.staged in
     let stands : StageStands w.capacity w.disk w.log w.base new t w.volume =
-        begun-stands w.capacity w.disk w.log w.base new w.volume (is_none w.base) sound.sized unfinished staged (none-is w.base) (is-none w.base) in
+    begun-stands w.capacity w.disk w.log w.base new w.volume (is_none w.base) sound.sized unfinished staged (none-is w.base) (is-none w.base) in
     let here : StageIsSound next new t = record { running = may.running; has_id = may.has_id; fits = stands.fits; holds = stands.holds } in
     record {
       legal = sound.legal;

@@ -14,14 +14,12 @@ use Rattle.log_model.specs.Entry.{contents}
 use Rattle.log_model.specs.Touched.{touched}
 use Rattle.sector_model.specs.Run.{in_blocks}
 use Rattle.log_model.proofs.OffLaws.{off_is_frozen}
-use Rattle.log_model.proofs.LegalLogs.{prefixes_are_legal}
-use Rattle.log_model.proofs.TouchedLaws.{length-contents}
 use Rattle.warm_core.specs.declared.disk_world.Base.{Base}
 use Rattle.warm_core.specs.declared.stage_state.StageState.{StageState}
 use Rattle.warm_core.specs.Staged.{is_unfinished, IsBaseOf, open_blocks, disk_at, IsOnBase, Staged, IsFullCopy}
 use Rattle.warm_core.specs.World.{World, IsLive, MayLose, IsCompleteAt, StageIsSound, IsSound}
 use Rattle.warm_core.specs.Events.{MayComplete}
-use Rattle.warm_core.proofs.Stages.{same_items}
+use Rattle.warm_core.proofs.Stages.{same_items, length-disk_at}
 use Rattle.warm_core.proofs.Holding.{fillings_stay}
 
 -- ---- a stop
@@ -146,10 +144,11 @@ finished-volume c d log base snap b s v sized long finished staged =
         let open_is = nothing-open c d log b s same in
         record {
           tight = all-false v.loose (λ k. not-loose v k (is_loose k v) refl (λ loose.
-          false≢true (sym (ap (λ (bs : List ℕ). in_blocks bs k) open_is) ∙ on.loose_inside k loose)))
+              false≢true (sym (ap (λ (bs : List ℕ). in_blocks bs k) open_is) ∙ on.loose_inside k loose)))
               ∙ ap (λ n. replicate n false) (sized.1 ∙ sym sized.0);
           same = same_items v.sectors (disk_at c d b.mark log) (sized.0 ∙ sym long) (λ k less. on.as_base k (ap (λ (bs : List ℕ). in_blocks bs k) open_is));
         }
+
     finished-at : (c d : ℕ) (log : List Entry) (b : Base) (s : Snapped) (v : VolumeContents) → IsSized c v → length (disk_at c d b.mark log) ≡ c → s.mark ≡ b.mark
         → Staged c d log (Some b) (Some s) v → IsAtBase c d log b v
     finished-at c d log b s v sized long same (inl on) = finished-on c d log b s v sized long same on
@@ -177,7 +176,7 @@ complete-at w p sound may is =
     let snap_is = sound.snap_is s finished.snap_is in
     let place : s.off_place ≡ Some p = place-of w.snap s p finished.snap_is is in
     let long : length (disk_at w.capacity w.disk b.mark w.log) ≡ w.capacity =
-        length-contents (only w.disk w.capacity) w.capacity w.disk (take b.mark w.log) (prefixes_are_legal (only w.disk w.capacity) w.log b.mark sound.legal) (refl, refl) in
+    length-disk_at w.capacity w.disk b.mark w.log sound.legal in
     let at_base = finished-volume w.capacity w.disk w.log w.base w.snap b s w.volume sound.sized long finished sound.staged in
     let frozen_there = off_is_frozen (only w.disk w.capacity) w.log w.capacity w.disk s.id p sound.legal (snap_is.off_place_is ∙ place) in
     let marks = snap_is.mark_is ∙ finished.same in

@@ -149,7 +149,7 @@ entries_keep_sound more w small sound may =
       stage_is = λ snap is t is'.
           let old = sound.stage_is snap is t is' in
           let stands = later-stands w.machine w.capacity w.disk w.log more w.base snap t w.volume (ground-of w snap small sound is)
-              (stands-of w snap t sound (record { snap = is; stage = is' })) in
+          (stands-of w snap t sound (record { snap = is; stage = is' })) in
           record {
             running = old.running;
             has_id = id-later w.machine w.disk w.log more snap (sound.snap_is snap is) old.has_id;

@@ -12,3 +12,4 @@ pub mod Core
 pub mod Pieces
 pub mod Answered
 pub mod AskedLemmas
+pub mod EffectLemmas

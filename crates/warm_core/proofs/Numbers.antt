@@ -67,7 +67,7 @@ answered-fits c d log base snap t end fits ask low high =
         within = omega (arith, sized, high);
         ended = λ flushed. absurd (not-ended order (omega (arith, passed, more)) flushed);
         counted = (let grown = bound-goes_on t.full t.capacity t.at t.covered t.written 0 (omega (arith, passed)) order.counted in
-        let same : t.written + 0 ≡ t.written = omega arith in subst (λ n. n ≤ cond t.full (t.capacity + t.covered) t.covered) same grown);
+            let same : t.written + 0 ≡ t.written = omega arith in subst (λ n. n ≤ cond t.full (t.capacity + t.covered) t.covered) same grown);
       };
       written = written-passes c d log base snap t.full t.at t.covered t.written passed ask.ready fits.written;
       full = fits.full;
@@ -161,7 +161,7 @@ flushed-fits c d log base snap t fits may =
         within = order.within;
         ended = λ flushed. refl;
         counted = (let grown = bound-goes_on t.full t.capacity t.at t.capacity t.written 0 (omega (arith, passed, all)) order.counted in
-        let same : t.written + 0 ≡ t.written = omega arith in subst (λ n. n ≤ cond t.full (t.capacity + t.capacity) t.capacity) same grown);
+            let same : t.written + 0 ≡ t.written = omega arith in subst (λ n. n ≤ cond t.full (t.capacity + t.capacity) t.capacity) same grown);
       };
       written = subst (λ n. HasWritten c d log base snap t.full n t.written) all
           (written-passes c d log base snap t.full t.at t.covered t.written passed may.ready fits.written);

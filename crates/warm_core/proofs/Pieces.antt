@@ -51,7 +51,7 @@ ahead-of blocks at covered rs (Some r) spaced ends tells is =
     let rest : List Run = areas_from (end_of r) rs in
     let apart : AreSpacedFrom 0 (r ∷ rest) = subst (λ (xs : List Run). AreSpacedFrom 0 xs) next.areas (areas_from-spaced 0 at rs spaced) in
     let there : (s : ℕ) → at ≤ s → s < covered → in_blocks blocks s ≡ in_runs (r ∷ rest) s =
-        λ s from less. sym (tells s from less) ∙ sym (from-on rs at s from) ∙ ap (λ (xs : List Run). in_runs xs s) next.areas in
+    λ s from less. sym (tells s from less) ∙ sym (from-on rs at s from) ∙ ap (λ (xs : List Run). in_runs xs s) next.areas in
     record {
       from = low;
       some = next.some;
@@ -63,16 +63,16 @@ ahead-of blocks at covered rs (Some r) spaced ends tells is =
 and-true : (a b e : Bool) → a ≡ true → b ≡ true → (a && b && e) ≡ e
 and-true a b e one two = ap (λ x. x && b && e) one ∙ ap (λ x. x && e) two
 
-page-tells : (blocks : List ℕ) (c at covered : ℕ) (page : PageContents) → c < 2 ^ 64 → page.start ≤ at → page.start + page.covered ≡ covered → covered ≤ c → page.start < c
-    → page ≡ page_of c (areas_of c blocks) page.start → Tells blocks at covered page.areas
+page-tells : (blocks : List ℕ) (c at covered : ℕ) (page : PageContents) → c < 2 ^ 64 → page.start ≤ at → page.start + page.length ≡ covered → covered ≤ c → page.start < c
+    → page ≡ page_from c (areas_of c blocks) page.start → Tells blocks at covered page.areas
 page-tells blocks c at covered page small low end within start is =
     let areas : List Run = areas_of c blocks in
     let kept = runs_of-spaced (in_blocks blocks) c small in
     λ s from less.
     ap (λ (p : PageContents). in_runs p.areas s) is
     ∙ pages_are_exact c areas page.start s kept.spaced (All-from_recursion (λ r. end_of r ≤ c) areas kept.ends) start
-    ∙ and-true (leb page.start s) (ltb s (page.start + (page_of c areas page.start).covered)) (in_runs areas s) (le-leb page.start s (omega (arith, low, from)))
-    (ap (λ (p : PageContents). ltb s (page.start + p.covered)) (sym is) ∙ lt-ltb s (page.start + page.covered) (omega (arith, less, end)))
+    ∙ and-true (leb page.start s) (ltb s (page.start + (page_from c areas page.start).length)) (in_runs areas s) (le-leb page.start s (omega (arith, low, from)))
+    (ap (λ (p : PageContents). ltb s (page.start + p.length)) (sym is) ∙ lt-ltb s (page.start + page.length) (omega (arith, less, end)))
     ∙ in_runs_of (in_blocks blocks) c s ∙ ap (λ b. b && in_blocks blocks s) (lt-ltb s c (omega (arith, less, within)))
 
 no-area : (blocks : List ℕ) (at covered : ℕ) (page : PageContents) (b : Bool) → ltb at covered ≡ b → (b ≡ true → Ahead blocks at covered (next_run at page.areas))
@@ -91,7 +91,7 @@ area-ahead blocks t page small order has =
     let some = lies.some in
     let within = order.within in
     let ends : AllByRecursion (λ r. end_of r ≤ t.covered) page.areas =
-        subst (λ n. AllByRecursion (λ r. end_of r ≤ n) page.areas) end (recursion_from_All (λ r. end_of r ≤ page.start + page.covered) page.areas lies.end_inside) in
+    subst (λ n. AllByRecursion (λ r. end_of r ≤ n) page.areas) end (recursion_from_All (λ r. end_of r ≤ page.start + page.length) page.areas lies.end_inside) in
     ahead-of blocks t.at t.covered page.areas (next_run t.at page.areas) lies.spaced ends
     (page-tells blocks t.capacity t.at t.covered page small page_is.0.start end within (omega (arith, end, some, within)) page_is.1) refl)
 

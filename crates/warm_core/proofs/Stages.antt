@@ -35,8 +35,8 @@ use Rattle.warm_core.proofs.Holding.{outside, inside, loose-outside, on_base-wri
 
 -- ---- the disk at a mark
 
-length-disk_at : (machine c d m : ℕ) (log : List Entry) (base : Option Base) (snap : Snapped) → IsGround machine c d log base snap → length (disk_at c d m log) ≡ c
-length-disk_at machine c d m log base snap ground = length-contents (only d c) c d (take m log) (prefixes_are_legal (only d c) log m ground.legal) (refl, refl)
+pub length-disk_at : (c d m : ℕ) (log : List Entry) → Legal (only d c) log → length (disk_at c d m log) ≡ c
+length-disk_at c d m log legal = length-contents (only d c) c d (take m log) (prefixes_are_legal (only d c) log m legal) (refl, refl)
 
 -- outside what a stage asks for the disk is the same at the place since which it asks and at its mark
 unasked-same : (machine c d : ℕ) (log : List Entry) (base : Option Base) (snap : Snapped) (full : Bool) (s : ℕ) → IsGround machine c d log base snap → since_mark full base ≤ snap.mark
@@ -154,9 +154,9 @@ written-stands machine c d log base snap t v run xs ground stands piece long fit
     let within = order.within in
     let room : run.first + length xs ≤ c = omega (arith, long, end, within, sized) in
     let on : t.full ≡ false → RunsOnBase c d log base snap (volume_written run.first xs v) = λ partial.
-        runs-written c d log base snap v run.first xs stands.sized room old.unfinished
-        (λ s low high. ap (λ b. in_blocks (blocks_asked c d log base snap b) s) (sym partial) ∙ all partial s low (omega (arith, long, high)))
-        (holds.on_base partial (omega (arith, some, end))) in
+    runs-written c d log base snap v run.first xs stands.sized room old.unfinished
+    (λ s low high. ap (λ b. in_blocks (blocks_asked c d log base snap b) s) (sym partial) ∙ all partial s low (omega (arith, long, high)))
+    (holds.on_base partial (omega (arith, some, end))) in
     record {
       sized = written-sized c run.first xs v stands.sized room;
       fits = fits;
@@ -175,7 +175,7 @@ written-stands machine c d log base snap t v run xs ground stands piece long fit
       staged = staged-by c d log base snap (volume_written run.first xs v) t.full old.full on;
     }
 
-length-slice : (xs : List Sector) (first count : ℕ) → first + count ≤ length xs → length (slice_range xs first (first + count)) ≡ count
+pub length-slice : (xs : List Sector) (first count : ℕ) → first + count ≤ length xs → length (slice_range xs first (first + count)) ≡ count
 length-slice xs first count fits = omega (arith, fits, length-take (first + count - first) (drop first xs), length-drop first xs)
 
 in-slice : (xs : List Sector) (first count s : ℕ) → first ≤ s → s < first + count → slice_get (slice_range xs first (first + count)) (s - first) ≡ slice_get xs s
@@ -189,7 +189,7 @@ pub copied-stands : (machine c d : ℕ) (log : List Entry) (base : Option Base) 
 copied-stands machine c d log base snap t v run ground stands may =
     let fits = stands.fits in
     let disk : List Sector = disk_at c d snap.mark log in
-    let whole = length-disk_at machine c d snap.mark log base snap ground in
+    let whole = length-disk_at c d snap.mark log ground.legal in
     let end = may.piece.within in
     let within = fits.order.within in
     let sized = fits.sized in
@@ -273,11 +273,11 @@ flushed-stands machine c d log base snap t v ground stands may =
     let sized = fits.sized in
     let all = may.all in
     let same : (s : ℕ) → s < c → slice_get v.sectors s ≡ slice_get (disk_at c d snap.mark log) s = λ s less.
-        ended-same machine c d log base snap t.full t.at v s (has_to_write (blocks_asked c d log base snap t.full) t s) ground fits.unfinished holds.copied
-        (λ s from below. may.ready s from (omega (arith, all, sized, below)))
-        (λ partial. holds.on_base partial (omega (arith, all, sized, less))) less refl in
+    ended-same machine c d log base snap t.full t.at v s (has_to_write (blocks_asked c d log base snap t.full) t s) ground fits.unfinished holds.copied
+    (λ s from below. may.ready s from (omega (arith, all, sized, below)))
+    (λ partial. holds.on_base partial (omega (arith, all, sized, less))) less refl in
     let whole : v.sectors ≡ disk_at c d snap.mark log =
-        same_items v.sectors (disk_at c d snap.mark log) (stands.sized.0 ∙ sym (length-disk_at machine c d snap.mark log base snap ground)) (λ s less. same s (omega (arith, less, stands.sized.0))) in
+    same_items v.sectors (disk_at c d snap.mark log) (stands.sized.0 ∙ sym (length-disk_at c d snap.mark log ground.legal)) (λ s less. same s (omega (arith, less, stands.sized.0))) in
     record {
       sized = (keep_their_size c v stands.sized).flushed;
       fits = (numbers_stay machine c d log base snap t ground fits).flushed may;

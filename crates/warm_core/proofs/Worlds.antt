@@ -43,7 +43,7 @@ pub some-parts : {A : Type 0} (o : Option A) → IsSome o → (x : A) × (o ≡ 
 some-parts None h = absurd (false≢true h)
 some-parts (Some x) h = (x, refl)
 
-ok-parts : {A B : Type 0} (r : Result A B) → IsOk r → (x : A) × (r ≡ Ok x)
+pub ok-parts : {A B : Type 0} (r : Result A B) → IsOk r → (x : A) × (r ≡ Ok x)
 ok-parts (Ok x) h = (x, refl)
 ok-parts (Err y) h = absurd (false≢true h)
 
@@ -119,7 +119,7 @@ stage-sound w s t next v sound has stands =
       staged = subst (λ (o : Option Snapped). Staged w.capacity w.disk w.log w.base o v) (sym has.snap) stands.staged;
     }
 
-by_stage-is : (f : Snapped → StageState → World → World) (w : World) (s : Snapped) (t : StageState) → HasStage w s t → by_stage f w ≡ f s t w
+pub by_stage-is : (f : Snapped → StageState → World → World) (w : World) (s : Snapped) (t : StageState) → HasStage w s t → by_stage f w ≡ f s t w
 by_stage-is f w s t has =
     ap (λ (o : Option Snapped). at_stage f o w.stage w) has.snap ∙ ap (λ (o : Option StageState). at_stage f (Some s) o w) has.stage
 
@@ -134,8 +134,8 @@ answered-sound w small sound may =
     let ok = ok-parts (answer_now w s t) (parts.3).1 in
     let step : Snapped → StageState → World → World = λ snap t w. record w { stage = Some (with_page (page_end_of w.capacity t.covered (answer_now w snap t)) t) } in
     let is : after_page w ≡ record w { stage = Some (with_page (page_end_of w.capacity t.covered (Ok ok.0)) t) } =
-        by_stage-is step w s t has
-        ∙ ap (λ (r : Result (List Run) (Option ChangeId)). record w { stage = Some (with_page (page_end_of w.capacity t.covered r) t) }) ok.1 in
+    by_stage-is step w s t has
+    ∙ ap (λ (r : Result (List Run) (Option ChangeId)). record w { stage = Some (with_page (page_end_of w.capacity t.covered r) t) }) ok.1 in
     subst IsSound (sym is) (stage-sound w s t (with_page (page_end_of w.capacity t.covered (Ok ok.0)) t) w.volume sound has
     ((stages_stay w.machine w.capacity w.disk w.log w.base s t w.volume (ground-of w s small sound has.snap) (stands-of w s t sound has)).answered ok.0 (parts.3).0 ok.1))
 
@@ -233,5 +233,5 @@ done-sound w small sound may =
     let id = some-parts (id_at w.machine w.disk s.id w.log) ((sound.stage_is s has.snap t has.stage).has_id) in
     let step : Snapped → StageState → World → World = λ snap t w. record w { base = base_of snap.mark (id_at w.machine w.disk snap.id w.log); stage = None } in
     let is : after_done w ≡ record w { base = Some (record { mark = s.mark; id = id.0 }); stage = None } =
-        by_stage-is step w s t has ∙ ap (λ (o : Option ChangeId). record w { base = base_of s.mark o; stage = None }) id.1 in
+    by_stage-is step w s t has ∙ ap (λ (o : Option ChangeId). record w { base = base_of s.mark o; stage = None }) id.1 in
     subst IsSound (sym is) (done-world w s t id.0 small sound has parts.3 id.1)

@@ -87,7 +87,7 @@ snapped_of snapshot log =
 
 -- behind the last sector of the page that an answer has from a sector on
 abbrev pub page_end_of : (capacity start : ℕ) → Result (List Run) (Option ChangeId) → ℕ
-page_end_of capacity start (Ok areas) = start + (page_of capacity areas start).covered
+page_end_of capacity start (Ok areas) = start + (page_from capacity areas start).length
 page_end_of capacity start (Err in_force) = start
 
 -- what the snapshot that is copied and the stage's numbers make of the world, where a stage runs

@@ -125,7 +125,7 @@ pub record AnswersTell (machine capacity disk : ℕ) (log : List Entry) (base : 
       → areas ≡ areas_of capacity (blocks_asked capacity disk log base snap full)
   pub strange : full ≡ false → HasToBeFull disk log base snap
       → IsErr (answer machine capacity disk log base snap full)
-  pub pages : (start : ℕ) → start < capacity → LiesWithin capacity (page_of capacity
+  pub pages : (start : ℕ) → start < capacity → LiesWithin capacity (page_from capacity
       (areas_of capacity (blocks_asked capacity disk log base snap full)) start)
 
 abbrev pub StagesAreAnswered : Type 0

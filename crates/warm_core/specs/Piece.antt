@@ -40,11 +40,11 @@ piece_of t page =
 pub record Reaches (t : StageState) (page : PageContents) : Type 0 where
   pub lies : LiesWithin t.capacity page
   pub start : page.start ≤ t.at
-  pub end : page.start + page.covered ≡ t.covered
+  pub end : page.start + page.length ≡ t.covered
 
 -- the page is one of the areas that the stage asks for
 abbrev pub IsPageOf : (blocks : List ℕ) → StageState → PageContents → Type 0
-IsPageOf blocks t page = page ≡ page_of t.capacity (areas_of t.capacity blocks) page.start
+IsPageOf blocks t page = page ≡ page_from t.capacity (areas_of t.capacity blocks) page.start
 
 -- the piece may be carried out
 abbrev pub MayBeNext : (blocks : List ℕ) → StageState → Piece → Type 0

@@ -1,15 +1,18 @@
 //! What an event leaves of the world of one disk, where it may happen.
-ghost use Rattle.std.specs.Prelude.{◌≡◌, ◌≤◌, ◌<◌, ◌+◌, ◌^◌, [], ◌∷◌, ◌++◌, Some, None, length, replicate, OnOk, OnErr, is_none, option_map, false, true};
+ghost use Rattle.std.specs.Prelude.{◌≡◌, ◌≤◌, ◌<◌, ◌+◌, ◌^◌, length, OnOk, OnErr, IfOk, is_none, option_map, slice_range};
 ghost use Rattle.sector_model.specs.Run.{end_of};
 ghost use Rattle.sector_model.specs.VolumeContents.{volume_written};
-ghost use Rattle.warm_core.specs.StageState.{begun, made_full, IsInOrder, IsPiece, with_piece};
+ghost use Rattle.log_model.specs.Legal.{Legal, only};
+ghost use Rattle.warm_core.specs.Staged.{disk_at};
+ghost use Rattle.warm_core.specs.World.{IsSnapOf};
+ghost use Rattle.warm_core.specs.StageState.{begun, made_full, at_its_end};
 ghost use Rattle.warm_core.specs.DiskWorld.{world_of, LooseLiesWithin, StandsSound, Leaves};
 ghost use Rattle.warm_core.specs.Events.{MayHappen, after, snapped_of};
 
 use crate::conditions::entries_asked;
 use crate::{Base, DiskWorld, Event, StageState};
 use log_model::{
-    Entry, Snapped, before, fill_page, in_force, last_off, mark, read_into, through,
+    Entry, Snapped, answer_page, before, in_force, last_off, mark, sector_at, through,
 };
 use sector_model::{NoMemory, Page, Run, Runs, Sector, SectorList};
 use std::alloc::Global;
@@ -74,7 +77,7 @@ fn take_page(alloc: Global, world: &mut DiskWorld) -> Result<(), NoMemory>
         return Ok(());
     };
     let mut page = Page::new(alloc)?;
-    fill_page(
+    answer_page(
         entries_asked(world, snap, stage.full),
         world.disk,
         world.capacity,
@@ -108,13 +111,34 @@ fn copy(alloc: Global, world: &mut DiskWorld, run: Run) -> Result<(), NoMemory>
     let (Some(snap), Some(mut stage)) = (world.snap, world.stage) else {
         return Ok(());
     };
-    let mut sectors = vec![in alloc; Sector::filled(0); run.count as usize]?;
-    let frozen = before(world.log.as_slice(), snap.id);
-    read_into(frozen, world.disk, run.first, sectors.as_mut_slice());
+    let sectors = read_frozen(alloc, world, snap, run)?;
     write(alloc, world, run.first, sectors.as_slice())?;
     stage.copied(run);
     world.stage = Some(stage);
     Ok(())
+}
+
+/// Reads a run as the snapshot froze it.
+fn read_frozen(
+    alloc: Global,
+    world: &DiskWorld,
+    snap: Snapped,
+    run: Run,
+) -> Result<Vec<Sector>, NoMemory>
+    requires legal { Legal (only world.now.disk world.now.capacity) world.now.log }
+    requires snap { IsSnapOf world.now.log snap }
+    requires within { end_of run ≤ world.now.capacity }
+    ensures { IfOk result (λ sectors. sectors.items ≡ slice_range
+        (disk_at world.now.capacity world.now.disk snap.mark world.now.log) run.first
+        (end_of run)) }
+{
+    prove!(run.first <= world.capacity);
+    let frozen = before(world.log.as_slice(), snap.id);
+    let mut sectors = Vec::new(alloc);
+    for at in run.first..run.first + run.count {
+        sectors.push(sector_at(frozen, world.disk, at))?;
+    }
+    Ok(sectors)
 }
 
 /// Zeroes a run.
@@ -166,11 +190,20 @@ fn flush(alloc: Global, world: &mut DiskWorld)
     requires happens { MayHappen Event.Flushed (world_of world.old) }
     ensures { Leaves Event.Flushed world.old world.new }
 {
+    end_stage(world);
+    world.loose = Runs::new(alloc);
+}
+
+/// Tells the stage that the volume was flushed.
+fn end_stage(world: &mut DiskWorld)
+    requires sound { StandsSound world.old }
+    requires happens { MayHappen Event.Flushed (world_of world.old) }
+    ensures { world.new ≡ record world.old { stage = option_map at_its_end world.old.stage } }
+{
     if let Some(mut stage) = world.stage {
         stage.flushed();
         world.stage = Some(stage);
     }
-    world.loose = Runs::new(alloc);
 }
 
 /// Makes the snapshot of the stage the base.
@@ -198,7 +231,7 @@ fn stop(world: &mut DiskWorld, filling: &SectorList)
     requires happens { MayHappen (Event.Stop filling.now) (world_of world.old) }
     ensures { Leaves (Event.Stop filling.now) world.old world.new }
 {
-    world.volume.with_found(&world.loose, filling.as_slice());
+    world.volume.take_found(&world.loose, filling.as_slice());
     world.stage = None;
     world.running = false;
 }

@@ -90,7 +90,7 @@ impl StageState {
         requires lies { LiesWithin self.old.capacity page.now }
         requires next { page.now.start ≡ self.old.covered }
         requires ready { self.old.full ≡ true → self.old.at ≡ self.old.covered }
-        ensures taken { self.new ≡ with_page (page.now.start + page.now.covered) self.old }
+        ensures taken { self.new ≡ with_page (page.now.start + page.now.length) self.old }
         ensures order { IsInOrder self.new }
     {
         self.at = self.covered;

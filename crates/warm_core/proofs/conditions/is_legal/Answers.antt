@@ -13,7 +13,7 @@ returns-then-log-lt-MAX_LOG_ENTRIES c =
     let n = ap (λ (xs : List Entry). length xs) is in
     let short : length w.log < MAX_LOG_ENTRIES = omega (arith, n, c.if-log-lt-MAX_LOG_ENTRIES.true) in (
       λ stands. legal_grows (only w.disk w.capacity) w.log e c.requires.sound.legal short
-      (subst (λ (xs : List Entry). MayStand (only w.disk w.capacity) xs e) is (c.may_stand_alone.ensures.0 stands)),
+          (subst (λ (xs : List Entry). MayStand (only w.disk w.capacity) xs e) is (c.may_stand_alone.ensures.0 stands)),
       λ legal. c.may_stand_alone.ensures.1
-      (subst (λ (xs : List Entry). MayStand (only w.disk w.capacity) xs e) (sym is) (legal_last (only w.disk w.capacity) w.log e legal)),
+          (subst (λ (xs : List Entry). MayStand (only w.disk w.capacity) xs e) (sym is) (legal_last (only w.disk w.capacity) w.log e legal)),
     )

@@ -1,4 +1,4 @@
-use Rattle.std.proofs.Common.{◌≡◌, ◌+◌, ◌≤◌, List, length, tt, ap, ◌∙◌, arith}
+use Rattle.std.proofs.Common.{◌≡◌, ◌+◌, ◌≤◌, List, length, ap, ◌∙◌, arith}
 use Rattle.sector_model.specs.LooseRuns.{volume_of}
 use Rattle.sector_model.specs.VolumeContents.{VolumeContents, volume_written}
 use Rattle.sector_model.specs.declared.run.Run.{Run}
@@ -16,8 +16,8 @@ returns-clause-written c =
     let xs : List Sector = c.args.sectors.now in
     let fits : c.args.first + length xs ≤ length old.volume = omega (arith, c.requires.within, c.requires.sized) in
     let same : volume_of c.replace.new.self new ≡ volume_written c.args.first xs (volume_of old.volume old.loose) =
-        ap (λ (ys : List Sector). volume_of ys new) c.replace.ensures
-        ∙ loose_runs_grow old.volume old.loose new c.args.first xs fits (c.in_ok-world.ensures.members) in
+    ap (λ (ys : List Sector). volume_of ys new) c.replace.ensures
+    ∙ loose_runs_grow old.volume old.loose new c.args.first xs fits (c.in_ok-world.ensures.members) in
     ap (λ (v : VolumeContents). record w { volume = v }) same
 
 pub returns-clause-loose : goal.returns-clause-loose
