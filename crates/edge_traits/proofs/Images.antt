@@ -3,14 +3,18 @@ use Rattle.std.proofs.Common.{◌≡◌, ℕ, zero, suc, ◌+◌, ◌-◌, ◌/�
 use Rattle.std.specs.Prelude.{Option, Some, None, option_map, Result, Ok, Err, OnOk, OnErr}
 use Rattle.std.specs.Option.{ForSome}
 use Rattle.std.specs.List.{list_any}
-use Rattle.std.proofs.lemmas.List.{get_or-take, ext_get_or, drop-drop, take-append-le, drop-append-le}
+use Rattle.std.proofs.lemmas.List.{get_or-take, ext_get_or, take_all}
 use Rattle.std.proofs.lemmas.Bool.{cases_lt}
 use Rattle.std.proofs.lemmas.List.Folds.{list_any-append}
 use Rattle.std.proofs.lemmas.Bool.Decides.{nat_tests}
 use Rattle.edge_traits.specs.declared.span.Span.{Span}
-use Rattle.edge_traits.specs.Disk.{DiskContents, IsImage, covers, is_loose, settled, loosened, shortened, overwritten, after_write, after_cut, AllowsNoMore, IsBrokenWrite, IsBrokenCut, WhereTold}
+use Rattle.edge_traits.specs.Disk.{DiskContents, IsImage, covers, is_loose, settled, loosened, shortened, overwritten, after_write, after_cut, IsBrokenWrite, IsBrokenCut, WhereTold}
 use Rattle.edge_traits.specs.MemDisk.{IsConsistent, IsOverlaid, IsMixed, mixed_length, noise, advance}
 use Rattle.edge_traits.proofs.Overwritten.{length-overwritten, overwritten_before, overwritten_behind, front_of, rest_of, drop_on}
+
+-- each image now is one that could be before
+abbrev pub AllowsNoMore : (before now : DiskContents) → Type 0
+AllowsNoMore before now = (image : List ℕ) → IsImage now image → IsImage before image
 
 none_of : (a b : Bool) → (a || b) ≡ false → (a ≡ false) × (b ≡ false)
 none_of true b h = absurd (cc)
@@ -80,25 +84,31 @@ written_kept c offset bytes k image begins below synced loose outside =
           overwritten_behind offset bytes c.bytes k begins behind ∙ image.kept k within synced loose
     ]
 
+-- a write leaves what it gives to read among the images
+pub write_possible : (c : DiskContents) (offset : ℕ) (bytes : List ℕ) → IsImage c c.bytes
+    → offset ≤ length c.bytes → IsImage (after_write offset bytes c) (overwritten offset bytes c.bytes)
+write_possible c offset bytes is begins =
+    let len : length (overwritten offset bytes c.bytes) ≡ max (length c.bytes) (offset + length bytes) =
+    length-overwritten offset bytes c.bytes begins in
+    let long : c.least ≤ length c.bytes = is.long in
+    let short : length c.bytes ≤ c.greatest = is.short in
+    let kept : (k : ℕ) → k < length (overwritten offset bytes c.bytes) → k < length c.synced
+        → is_loose k (after_write offset bytes c) ≡ false
+        → get_or (overwritten offset bytes c.bytes) k 0 ≡ get_or c.synced k 0 =
+    λ k below synced loose.
+        let parts = not_loosened c offset (length bytes) k loose in
+        let reached : k < max (length c.bytes) (offset + length bytes) = omega arith in
+        written_kept c offset bytes k is begins reached synced parts.0
+        (not_covered k offset (length bytes) parts.1) in
+    record { long = omega arith; short = omega arith; kept = kept }
+
 pub write_consistent : (c : DiskContents) (offset : ℕ) (bytes : List ℕ) → IsConsistent c
     → offset ≤ length c.bytes → IsConsistent (after_write offset bytes c)
 write_consistent c offset bytes is begins =
-    let len : length (overwritten offset bytes c.bytes) ≡ max (length c.bytes) (offset + length bytes) =
-    length-overwritten offset bytes c.bytes begins in
-    let long : c.least ≤ length c.bytes = is.read.long in
-    let short : length c.bytes ≤ c.greatest = is.read.short in
     let synced_long : c.least ≤ length c.synced = is.synced.long in
     let synced_short : length c.synced ≤ c.greatest = is.synced.short in
-    let kept : (k : ℕ) → k < length (overwritten offset bytes c.bytes) → k < length c.synced
-    → is_loose k (after_write offset bytes c) ≡ false
-    → get_or (overwritten offset bytes c.bytes) k 0 ≡ get_or c.synced k 0 =
-    λ k below synced loose.
-    let parts = not_loosened c offset (length bytes) k loose in
-    let reached : k < max (length c.bytes) (offset + length bytes) = omega arith in
-    written_kept c offset bytes k is.read begins reached synced parts.0
-    (not_covered k offset (length bytes) parts.1) in
     record {
-      read = record { long = omega arith; short = omega arith; kept = kept };
+      read = write_possible c offset bytes is.read begins;
       synced = record { long = omega arith; short = omega arith; kept = λ k b s l. refl };
     }
 
@@ -121,35 +131,6 @@ cut_consistent c len is within =
       synced = record { long = omega arith; short = omega arith; kept = λ k b s l. refl };
     }
 
--- a loosened disk allows what it allowed before
-pub loosened_allows : (c : DiskContents) (first count : ℕ)
-    → AllowsNoMore (loosened first count c) c
-loosened_allows c first count image is =
-    let short : length image ≤ c.greatest = is.short in
-    record {
-      long = is.long;
-      short = omega arith;
-      kept = λ k b s l. is.kept k b s (not_loosened c first count k l).0;
-    }
-
-pub shortened_allows : (c : DiskContents) (len : ℕ) → AllowsNoMore (shortened len c) c
-shortened_allows c len image is =
-    let long : c.least ≤ length image = is.long in
-    record { long = omega arith; short = is.short; kept = is.kept }
-
--- a lesser range loosens less
-pub loosened_less : (c : DiskContents) (first count more : ℕ) → count ≤ more
-    → AllowsNoMore (loosened first more c) (loosened first count c)
-loosened_less c first count more le image is =
-    let short : length image ≤ max c.greatest (first + count) = is.short in
-    record {
-      long = is.long;
-      short = omega arith;
-      kept = λ k b s l.
-          let parts = not_loosened c first more k l in
-          is.kept k b s (still_not_loosened c first count k parts.0 (covered_less k first count more le parts.1));
-    }
-
 -- the images of a disk don't depend on what a read gives
 pub images_of_write : (c : DiskContents) (offset : ℕ) (bytes : List ℕ)
     → AllowsNoMore (loosened offset (length bytes) c) (after_write offset bytes c)
@@ -162,12 +143,34 @@ images_of_cut c len image is = record { long = is.long; short = is.short; kept =
 -- a disk that a failed call left as it was is one that it may leave
 pub unbroken_write : (c : DiskContents) (offset count : ℕ) → IsBrokenWrite offset count c c
 unbroken_write c offset count = record {
-  images = loosened_allows c offset count;
+  synced = refl;
+  loose = λ k l. (not_loosened c offset count k l).0;
+  least = omega arith;
+  greatest = omega arith;
+  possible = λ is. is;
   no_shorter = omega arith;
   no_longer = omega arith;
   before = refl;
   behind = refl;
 }
+
+pub unbroken_cut : (c : DiskContents) (len : ℕ) → IsBrokenCut len c c
+unbroken_cut c len = record {
+  synced = refl;
+  loose = λ k l. l;
+  least = omega arith;
+  greatest = omega arith;
+  possible = λ is. is;
+  no_shorter = omega arith;
+  front = sym (take_all (length c.bytes) c.bytes (omega arith));
+}
+
+-- what is not loose for a range is not for a lesser one
+still_less : (c : DiskContents) (first count more k : ℕ) → count ≤ more
+    → is_loose k (loosened first more c) ≡ false → is_loose k (loosened first count c) ≡ false
+still_less c first count more k le l =
+    let parts = not_loosened c first more k l in
+    still_not_loosened c first count k parts.0 (covered_less k first count more le parts.1)
 
 -- half of a write is a part of it
 pub half_write : (c : DiskContents) (offset : ℕ) (bytes : List ℕ) (n : ℕ) → offset ≤ length c.bytes
@@ -179,8 +182,11 @@ half_write c offset bytes n begins within =
     let len : length (overwritten offset some c.bytes) ≡ max (length c.bytes) (offset + length some) =
     length-overwritten offset some c.bytes begins in
     record {
-      images = λ image is.
-          loosened_less c offset (length some) (length bytes) few image (images_of_write c offset some image is);
+      synced = refl;
+      loose = λ k l. still_less c offset (length some) (length bytes) k few l;
+      least = omega arith;
+      greatest = omega arith;
+      possible = λ is. write_possible c offset some is begins;
       no_shorter = omega arith;
       no_longer = omega arith;
       before = front_of offset some c.bytes begins;
@@ -191,12 +197,43 @@ half_write c offset bytes n begins within =
 pub wider_break : (old new : DiskContents) (offset count more : ℕ) → count ≤ more
     → IsBrokenWrite offset count old new → IsBrokenWrite offset more old new
 wider_break old new offset count more le is = record {
-  images = λ image i. loosened_less old offset count more le image (is.images image i);
+  synced = is.synced;
+  loose = λ k l. is.loose k (still_less old offset count more k le l);
+  least = is.least;
+  greatest = omega (arith, is.greatest);
+  possible = is.possible;
   no_shorter = is.no_shorter;
   no_longer = omega (arith, is.no_longer);
   before = is.before;
   behind = drop_on (offset + count) (offset + more) new.bytes old.bytes (omega arith) is.behind;
 }
+
+-- a failed write allows what its loose range allows, and a failed cut what the lesser length does
+pub broken_write_images : (old new : DiskContents) (offset count : ℕ)
+    → IsBrokenWrite offset count old new → AllowsNoMore (loosened offset count old) new
+broken_write_images old new offset count broken image is =
+    let short : length image ≤ new.greatest = is.short in
+    let long : new.least ≤ length image = is.long in
+    record {
+      long = omega (arith, broken.least);
+      short = omega (arith, broken.greatest);
+      kept = λ k below synced loose.
+          let there : k < length new.synced = omega (arith, ap length broken.synced) in
+          is.kept k below there (broken.loose k loose) ∙ ap (λ xs. get_or xs k 0) broken.synced;
+    }
+
+pub broken_cut_images : (old new : DiskContents) (len : ℕ) → IsBrokenCut len old new
+    → AllowsNoMore (shortened len old) new
+broken_cut_images old new len broken image is =
+    let short : length image ≤ new.greatest = is.short in
+    let long : new.least ≤ length image = is.long in
+    record {
+      long = omega (arith, broken.least);
+      short = omega (arith, broken.greatest);
+      kept = λ k below synced loose.
+          let there : k < length new.synced = omega (arith, ap length broken.synced) in
+          is.kept k below there (broken.loose k loose) ∙ ap (λ xs. get_or xs k 0) broken.synced;
+    }
 
 pub length-noise : (count seed : ℕ) → length (noise count seed) ≡ count
 length-noise zero seed = refl

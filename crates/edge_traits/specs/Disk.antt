@@ -76,14 +76,14 @@ after_cut len c = record (shortened len c) { bytes = take len c.bytes }
 abbrev pub after_sync : DiskContents → DiskContents
 after_sync c = settled c.bytes
 
--- each image now is one that could be before
-abbrev pub AllowsNoMore : (before now : DiskContents) → Type 0
-AllowsNoMore before now = (image : List ℕ) → IsImage now image → IsImage before image
-
 -- what a write of `count` bytes that failed may leave: any part of its work, with any bytes in its
--- range
+-- range. All that later images depend on is as it was, but for the range and the greatest length
 pub record IsBrokenWrite (offset count : ℕ) (old new : DiskContents) : Type 0 where
-  pub images : AllowsNoMore (loosened offset count old) new
+  pub synced : new.synced ≡ old.synced
+  pub loose : (k : ℕ) → is_loose k (loosened offset count old) ≡ false → is_loose k new ≡ false
+  pub least : old.least ≤ new.least
+  pub greatest : new.greatest ≤ max old.greatest (offset + count)
+  pub possible : IsImage old old.bytes → IsImage new new.bytes
   pub no_shorter : length old.bytes ≤ length new.bytes
   pub no_longer : length new.bytes ≤ max (length old.bytes) (offset + count)
   pub before : take offset new.bytes ≡ take offset old.bytes
@@ -91,7 +91,11 @@ pub record IsBrokenWrite (offset count : ℕ) (old new : DiskContents) : Type 0 
 
 -- what a cut that failed may leave: any length between, with the bytes as they were
 pub record IsBrokenCut (len : ℕ) (old new : DiskContents) : Type 0 where
-  pub images : AllowsNoMore (shortened len old) new
+  pub synced : new.synced ≡ old.synced
+  pub loose : (k : ℕ) → is_loose k old ≡ false → is_loose k new ≡ false
+  pub least : min old.least len ≤ new.least
+  pub greatest : new.greatest ≤ old.greatest
+  pub possible : IsImage old old.bytes → IsImage new new.bytes
   pub no_shorter : min len (length old.bytes) ≤ length new.bytes
   pub front : new.bytes ≡ take (length new.bytes) old.bytes
 
@@ -103,3 +107,8 @@ WhereTold P None None = Unit {0}
 WhereTold P None (Some new) = ⊥
 WhereTold P (Some old) None = ⊥
 WhereTold P (Some old) (Some new) = P old new
+
+-- after a crash the disk holds an image, and all of it is synced
+abbrev pub IsCrashOf : (old new : DiskState) → Type 0
+IsCrashOf old new = WhereTold
+    (λ c now. (image : List ℕ) × IsImage c image × (now ≡ settled image)) old.contents new.contents

@@ -1,6 +1,6 @@
 -- A disk that stops at a write, a cut or a sync, as a machine does that loses its power.
-use Rattle.std.specs.Prelude.{◌≡◌, ◌⊎◌, ℕ, ◌+◌, ◌/◌, ◌==◌, nat_le, Bool, ◌&&◌, List, length, take}
-use Rattle.basics.specs.Faults.{counted_by}
+use Rattle.std.specs.Prelude.{◌≡◌, ◌⊎◌, ℕ, ◌+◌, ◌/◌, ◌==◌, nat_le, Bool, ◌&&◌, List, length, take, Result}
+use Rattle.basics.specs.Faults.{HasCause, counted_by}
 use Rattle.edge_traits.specs.Disk.{DiskContents, DiskState, IsBrokenWrite, after_write}
 
 pub record StopDiskState (D : Type 0) : Type 0 where
@@ -36,3 +36,9 @@ stops_by s = nat_le 1 s.stop && nat_le s.stop (counted_by 1 s.made)
 abbrev pub IsHalfWrite : (offset : ℕ) → List ℕ → (old new : DiskContents) → Type 0
 IsHalfWrite offset bytes old new = (new ≡ after_write offset (take (length bytes / 2) bytes) old)
     ⊎ IsBrokenWrite offset (length bytes / 2) old new
+
+-- before it has stopped a call fails only where the inner disk failed it
+abbrev pub Passes : {D T E : Type 0} → (before now : DiskState) (old new : StopDiskState D)
+    (result : Result T E) → Type 0
+Passes before now old new result =
+    (new.faults ≡ old.faults) × HasCause before.faults now.faults result

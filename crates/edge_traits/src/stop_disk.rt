@@ -3,7 +3,7 @@ ghost use Rattle.std.specs.Prelude.{◌≡◌, ◌+◌, ◌≤◌, IsTrue, IsErr
 ghost use Rattle.std.specs.Option.{ForSome};
 ghost use Rattle.basics.specs.Faults.{HasCause, counted_by, Rose};
 ghost use Rattle.edge_traits.specs.Disk.{IsImage, IsBrokenWrite, IsBrokenCut, WhereTold, after_write, after_cut, after_sync};
-ghost use Rattle.edge_traits.specs.StopDisk.{going, has_stopped, stops_by, stop_state, IsHalfWrite};
+ghost use Rattle.edge_traits.specs.StopDisk.{going, has_stopped, stops_by, stop_state, IsHalfWrite, Passes};
 
 use crate::{Disk, Failed};
 use std::marker::Model;
@@ -86,7 +86,10 @@ impl<D: Disk> Disk for StopDisk<D> {
         ensures cause { HasCause (stop_state (D.state self.old.inner) self.old).faults
             (stop_state (D.state self.new.inner) self.new).faults result }
 
-        ensures stopped { IsTrue (has_stopped self.old) → IsErr result }
+        ensures stopped { IsTrue (has_stopped self.old) → IsErr result
+            × (self.new ≡ record self.old { faults = counted_by 1 self.old.faults }) }
+        ensures passes { has_stopped self.old ≡ false
+            → Passes (D.state self.old.inner) (D.state self.new.inner) self.old self.new result }
         ensures made { self.new.made ≡ self.old.made }
         ensures stop { self.new.stop ≡ self.old.stop }
     {
@@ -105,7 +108,10 @@ impl<D: Disk> Disk for StopDisk<D> {
         ensures cause { HasCause (stop_state (D.state self.old.inner) self.old).faults
             (stop_state (D.state self.new.inner) self.new).faults result }
 
-        ensures stopped { IsTrue (has_stopped self.old) → IsErr result }
+        ensures stopped { IsTrue (has_stopped self.old) → IsErr result
+            × (self.new ≡ record self.old { faults = counted_by 1 self.old.faults }) }
+        ensures passes { has_stopped self.old ≡ false
+            → Passes (D.state self.old.inner) (D.state self.new.inner) self.old self.new result }
         ensures made { self.new.made ≡ self.old.made }
         ensures stop { self.new.stop ≡ self.old.stop }
     {
@@ -129,6 +135,10 @@ impl<D: Disk> Disk for StopDisk<D> {
         ensures half { has_stopped self.old ≡ false → IsTrue (stops_by self.old)
             → WhereTold (IsHalfWrite at bytes.now)
             (D.state self.old.inner).contents (D.state self.new.inner).contents }
+        ensures passes { has_stopped self.old ≡ false → stops_by self.old ≡ false
+            → Passes (D.state self.old.inner) (D.state self.new.inner) self.old self.new result }
+        ensures faulted { IsTrue (stops_by self.old)
+            → self.new.faults ≡ counted_by 1 self.old.faults }
         ensures made { self.new.made ≡ counted_by 1 self.old.made }
         ensures stop { self.new.stop ≡ self.old.stop }
     {
@@ -155,6 +165,10 @@ impl<D: Disk> Disk for StopDisk<D> {
 
         ensures stops { IsTrue (stops_by self.old) → IsErr result }
         ensures stopped { IsTrue (stops_by self.old) → self.new.inner ≡ self.old.inner }
+        ensures passes { stops_by self.old ≡ false
+            → Passes (D.state self.old.inner) (D.state self.new.inner) self.old self.new result }
+        ensures faulted { IsTrue (stops_by self.old)
+            → self.new.faults ≡ counted_by 1 self.old.faults }
         ensures made { self.new.made ≡ counted_by 1 self.old.made }
         ensures stop { self.new.stop ≡ self.old.stop }
     {
@@ -177,6 +191,10 @@ impl<D: Disk> Disk for StopDisk<D> {
 
         ensures stops { IsTrue (stops_by self.old) → IsErr result }
         ensures stopped { IsTrue (stops_by self.old) → self.new.inner ≡ self.old.inner }
+        ensures passes { stops_by self.old ≡ false
+            → Passes (D.state self.old.inner) (D.state self.new.inner) self.old self.new result }
+        ensures faulted { IsTrue (stops_by self.old)
+            → self.new.faults ≡ counted_by 1 self.old.faults }
         ensures made { self.new.made ≡ counted_by 1 self.old.made }
         ensures stop { self.new.stop ≡ self.old.stop }
     {

@@ -3,7 +3,7 @@ use Rattle.std.proofs.Common.{◌≡◌, ℕ, ◌+◌, ◌-◌, ◌<◌, ◌≤�
 use Rattle.std.specs.Prelude.{Option, Some, None, option_map}
 use Rattle.std.specs.Option.{ForSome}
 use Rattle.edge_traits.specs.Disk.{DiskContents, IsImage, IsBrokenWrite, WhereTold, settled, loosened, after_write, after_sync, overwritten}
-use Rattle.edge_traits.proofs.Images.{images_of_write}
+use Rattle.edge_traits.proofs.Images.{images_of_write, broken_write_images}
 use Rattle.journal.specs.Devices.{IsSettled, LeavesCutAppend}
 use Rattle.journal.specs.declared.format.TheConstants.{OPEN_GATE}
 use Rattle.journal.proofs.ImageLemmas.{cut_before, cut_after, overwritten_at_end, overwritten_gate}
@@ -33,7 +33,8 @@ write_cut None None len cell at_rest long broken = broken
 write_cut None (Some new) len cell at_rest long broken = broken
 write_cut (Some old) None len cell at_rest long broken = broken
 write_cut (Some old) (Some new) len cell at_rest long broken = λ image is.
-    cut_before old len cell image (at_rest old refl) (long old refl) (broken.images image is)
+    cut_before old len cell image (at_rest old refl) (long old refl)
+    (broken_write_images old new len (length cell) broken image is)
 
 -- its sync failed
 pub sync_cut : (old written new : Option DiskContents) (len : ℕ) (cell : List ℕ)
@@ -66,7 +67,8 @@ gate_cut (Some old) synced new len cell long some is broken = there new (rw is a
     there (Some new) broken = λ image i.
         let bytes : 1 ≤ length old.bytes = omega (arith, long old refl, some) in
         cut_after old.bytes cell image bytes
-        (later_images old len cell image (long old refl) some (broken.images image i))
+        (later_images old len cell image (long old refl) some
+        (broken_write_images (with_cell len cell old) new (len - 1) 1 broken image i))
 
 -- the last sync failed
 pub last_cut : (old synced opened new : Option DiskContents) (len : ℕ) (cell : List ℕ)

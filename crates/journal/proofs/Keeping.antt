@@ -104,15 +104,16 @@ told_after_cut records r failure (Some old) (Some new) spelled has which small h
     held_after_cut records r failure old new spelled has which small held leaves
 
 -- a journal whose append was cut
-pub kept_after_cut : (records : List Record) (len : ℕ) (disk now : DiskState) (r : Record) (failure : Failure)
-    → IsKept (record { records = records; len = len; failure = None; disk = disk })
-    → HasSpelling r → failure.refused ≡ r → len + (5 + length (spelling r)) ≤ MAX_BYTES
+pub kept_after_cut : (records : List Record) (len opened : ℕ) (disk now : DiskState) (r : Record) (failure : Failure)
+    → IsKept (record { records = records; len = len; failure = None; opened = opened; disk = disk })
+    → HasRisen disk.faults now.faults → HasSpelling r → failure.refused ≡ r → len + (5 + length (spelling r)) ≤ MAX_BYTES
     → WhereTold (LeavesCutAppend (cell r ++ CLOSED_GATE ∷ [])) disk.contents now.contents
-    → IsKept (record { records = records; len = len; failure = Some failure; disk = now })
-kept_after_cut records len disk now r failure kept has which small leaves = record {
+    → IsKept (record { records = records; len = len; failure = Some failure; opened = opened; disk = now })
+kept_after_cut records len opened disk now r failure kept rises has which small leaves = record {
   spelled = kept.spelled;
   long = kept.long;
   small = kept.small;
+  licence = subst (λ (n : ℕ). HasRisen n now.faults) kept.licence rises;
   file =
       told_after_cut records r failure disk.contents now.contents kept.spelled has which
       (omega (arith, kept.long)) kept.file leaves;
@@ -144,15 +145,22 @@ front_longer records r =
     omega (arith, ap length (cells_and_one records r), length-append cells (open_cell r), length-cell r)
 
 -- a journal with one record more
-pub kept_after : (records : List Record) (len : ℕ) (disk now : DiskState) (r : Record)
-    → IsKept (record { records = records; len = len; failure = None; disk = disk })
-    → HasSpelling r → len + (5 + length (spelling r)) ≤ MAX_BYTES
+pub kept_after : (records : List Record) (len opened : ℕ) (disk now : DiskState) (r : Record)
+    → IsKept (record { records = records; len = len; failure = None; opened = opened; disk = disk })
+    → now.faults ≡ disk.faults → HasSpelling r → len + (5 + length (spelling r)) ≤ MAX_BYTES
     → now.contents ≡ option_map (λ c. settled (appended r len c.bytes)) disk.contents
-    → IsKept (record { records = records ++ r ∷ []; len = len + (5 + length (spelling r)); failure = None; disk = now })
-kept_after records len disk now r kept has small is = record {
+    → IsKept (record {
+      records = records ++ r ∷ [];
+      len = len + (5 + length (spelling r));
+      failure = None;
+      opened = opened;
+      disk = now;
+    })
+kept_after records len opened disk now r kept faults has small is = record {
   spelled = all_spelled records r kept.spelled has;
   long = omega (arith, kept.long, front_longer records r);
   small = small;
+  licence = faults ∙ kept.licence;
   file = told_after records r len disk.contents now.contents kept.long kept.file is;
 }
 
@@ -217,42 +225,49 @@ cell_len r bytes is =
 
 -- a journal with one record more, as its fields are
 pub kept_by : (records new_records : List Record) (len new_len : ℕ) (failure new_failure : Option Failure)
-    (disk now : DiskState) (r : Record) (bytes : List ℕ)
-    → IsKept (record { records = records; len = len; failure = failure; disk = disk })
-    → failure ≡ None → new_failure ≡ None → HasSpelling r → bytes ≡ cell r ++ CLOSED_GATE ∷ []
+    (opened : ℕ) (disk now : DiskState) (r : Record) (bytes : List ℕ)
+    → IsKept (record { records = records; len = len; failure = failure; opened = opened; disk = disk })
+    → failure ≡ None → new_failure ≡ None → now.faults ≡ disk.faults → HasSpelling r
+    → bytes ≡ cell r ++ CLOSED_GATE ∷ []
     → new_records ≡ records ++ r ∷ [] → new_len ≡ len + length bytes → len + length bytes ≤ MAX_BYTES
     → now.contents ≡ option_map (λ c. settled (take (len - 1) c.bytes ++ OPEN_GATE ∷ bytes)) disk.contents
-    → IsKept (record { records = new_records; len = new_len; failure = new_failure; disk = now })
-kept_by records new_records len new_len failure new_failure disk now r bytes kept whole still has cells more longer small is =
-    let before : IsKept (record { records = records; len = len; failure = None; disk = disk }) =
-    subst (λ (f : Option Failure). IsKept (record { records = records; len = len; failure = f; disk = disk })) whole kept in
+    → IsKept (record { records = new_records; len = new_len; failure = new_failure; opened = opened; disk = now })
+kept_by records new_records len new_len failure new_failure opened disk now r bytes kept whole still faults has cells more longer small is =
+    let state : List Record → ℕ → Option Failure → DiskState → JournalState =
+    λ rs n f d. record { records = rs; len = n; failure = f; opened = opened; disk = d } in
+    let before : IsKept (state records len None disk) =
+    subst (λ (f : Option Failure). IsKept (state records len f disk)) whole kept in
     let size : length bytes ≡ 5 + length (spelling r) = cell_len r bytes cells in
     let room : len + (5 + length (spelling r)) ≤ MAX_BYTES = omega (arith, size, small) in
     let contents : now.contents ≡ option_map (λ c. settled (appended r len c.bytes)) disk.contents =
     is ∙ ap (λ (xs : List ℕ). option_map (λ (c : DiskContents). settled (take (len - 1) c.bytes ++ OPEN_GATE ∷ xs)) disk.contents) cells in
-    let after = kept_after records len disk now r before has room contents in
+    let after : IsKept (state (records ++ r ∷ []) (len + (5 + length (spelling r))) None now) =
+    kept_after records len opened disk now r before faults has room contents in
     let total : len + (5 + length (spelling r)) ≡ new_len = omega (arith, size, longer) in
-    subst (λ (f : Option Failure). IsKept (record { records = new_records; len = new_len; failure = f; disk = now })) (sym still)
-    (subst (λ (n : ℕ). IsKept (record { records = new_records; len = n; failure = None; disk = now })) total
-    (subst (λ (rs : List Record). IsKept (record { records = rs; len = len + (5 + length (spelling r)); failure = None; disk = now })) (sym more) after))
+    subst (λ (f : Option Failure). IsKept (state new_records new_len f now)) (sym still)
+    (subst (λ (n : ℕ). IsKept (state new_records n None now)) total
+    (subst (λ (rs : List Record). IsKept (state rs (len + (5 + length (spelling r))) None now)) (sym more) after))
 
 -- and one whose append was cut
-pub cut_by : (records new_records : List Record) (len : ℕ) (failure : Option Failure)
+pub cut_by : (records new_records : List Record) (len : ℕ) (failure : Option Failure) (opened : ℕ)
     (disk now : DiskState) (r : Record) (bytes : List ℕ) (new : Failure)
-    → IsKept (record { records = records; len = len; failure = failure; disk = disk })
-    → failure ≡ None → HasSpelling r → bytes ≡ cell r ++ CLOSED_GATE ∷ [] → new_records ≡ records
+    → IsKept (record { records = records; len = len; failure = failure; opened = opened; disk = disk })
+    → failure ≡ None → HasRisen disk.faults now.faults → HasSpelling r
+    → bytes ≡ cell r ++ CLOSED_GATE ∷ [] → new_records ≡ records
     → new.refused ≡ r → len + length bytes ≤ MAX_BYTES
     → WhereTold (LeavesCutAppend bytes) disk.contents now.contents
-    → IsKept (record { records = new_records; len = len; failure = Some new; disk = now })
-cut_by records new_records len failure disk now r bytes new kept whole has cells same which small leaves =
-    let before : IsKept (record { records = records; len = len; failure = None; disk = disk }) =
-    subst (λ (f : Option Failure). IsKept (record { records = records; len = len; failure = f; disk = disk })) whole kept in
+    → IsKept (record { records = new_records; len = len; failure = Some new; opened = opened; disk = now })
+cut_by records new_records len failure opened disk now r bytes new kept whole rises has cells same which small leaves =
+    let state : List Record → ℕ → Option Failure → DiskState → JournalState =
+    λ rs n f d. record { records = rs; len = n; failure = f; opened = opened; disk = d } in
+    let before : IsKept (state records len None disk) =
+    subst (λ (f : Option Failure). IsKept (state records len f disk)) whole kept in
     let size : length bytes ≡ 5 + length (spelling r) = cell_len r bytes cells in
     let room : len + (5 + length (spelling r)) ≤ MAX_BYTES = omega (arith, size, small) in
     let there : WhereTold (LeavesCutAppend (cell r ++ CLOSED_GATE ∷ [])) disk.contents now.contents =
     subst (λ (xs : List ℕ). WhereTold (LeavesCutAppend xs) disk.contents now.contents) cells leaves in
-    subst (λ (rs : List Record). IsKept (record { records = rs; len = len; failure = Some new; disk = now })) (sym same)
-    (kept_after_cut records len disk now r new before has which room there)
+    subst (λ (rs : List Record). IsKept (state rs len (Some new) now)) (sym same)
+    (kept_after_cut records len opened disk now r new before rises has which room there)
 
 -- a disk that tells is at rest where its length is told, too
 pub settled_there : (records : List Record) (failure : Option Failure) (contents : Option DiskContents) (len : ℕ)
@@ -290,11 +305,12 @@ pub accepted : (o : Option JournalRefused) (P : Type 0) (Q : JournalRefused → 
 accepted o P Q none fact = rw none fact
 
 state_same : (a b : JournalState) → a.records ≡ b.records → a.len ≡ b.len → a.failure ≡ b.failure
-    → a.disk.contents ≡ b.disk.contents → a.disk.faults ≡ b.disk.faults → a ≡ b
-state_same a b records len failure contents faults = λ i. record {
+    → a.opened ≡ b.opened → a.disk.contents ≡ b.disk.contents → a.disk.faults ≡ b.disk.faults → a ≡ b
+state_same a b records len failure opened contents faults = λ i. record {
   records = records i;
   len = len i;
   failure = failure i;
+  opened = opened i;
   disk = record { contents = contents i; faults = faults i };
 }
 
@@ -302,13 +318,13 @@ after_is : (r : Record) (j new : JournalState) (bytes : List ℕ) → bytes ≡ 
     → new.records ≡ j.records ++ r ∷ [] → new.len ≡ j.len + length bytes → new.failure ≡ j.failure
     → new.disk.faults ≡ j.disk.faults
     → new.disk.contents ≡ option_map (λ c. settled (take (j.len - 1) c.bytes ++ OPEN_GATE ∷ bytes)) j.disk.contents
-    → new ≡ after_append r j
-after_is r j new bytes cells records len failure faults contents =
+    → new.opened ≡ j.opened → new ≡ after_append r j
+after_is r j new bytes cells records len failure faults contents opened =
     let size : length bytes ≡ 5 + length (spelling r) = cell_len r bytes cells in
     let total : new.len ≡ j.len + CELL_BYTES + length (spelling r) = omega (arith, size, len) in
     let held : new.disk.contents ≡ option_map (λ c. settled (appended r j.len c.bytes)) j.disk.contents =
     contents ∙ ap (λ (xs : List ℕ). option_map (λ (c : DiskContents). settled (take (j.len - 1) c.bytes ++ OPEN_GATE ∷ xs)) j.disk.contents) cells in
-    state_same new (after_append r j) records total failure held faults
+    state_same new (after_append r j) records total failure opened held faults
 
 -- what an append answers that was done, of a journal that is seen as `j`
 pub answered_ok : (r : Record) (view j new : JournalState) (bytes : List ℕ) (Q : JournalState → JournalRefused → Type 0)
@@ -316,12 +332,13 @@ pub answered_ok : (r : Record) (view j new : JournalState) (bytes : List ℕ) (Q
     → new.records ≡ view.records ++ r ∷ [] → new.len ≡ view.len + length bytes
     → new.failure ≡ view.failure → new.disk.faults ≡ view.disk.faults
     → new.disk.contents ≡ option_map (λ c. settled (take (view.len - 1) c.bytes ++ OPEN_GATE ∷ bytes)) view.disk.contents
-    → MatchOption (append_refusal r j) (new ≡ after_append r j) (Q j)
-answered_ok r view j new bytes Q seen whole cells small records len failure faults contents =
-    subst (λ (k : JournalState). MatchOption (append_refusal r k) (new ≡ after_append r k) (Q k)) seen
-    (accepted (append_refusal r view) (new ≡ after_append r view) (Q view)
-    (nothing_against r view bytes whole cells small)
-    (after_is r view new bytes cells records len failure faults contents))
+    → new.opened ≡ view.opened → IsKept new
+    → MatchOption (append_refusal r j) ((new ≡ after_append r j) × LeavesOneOf (outcomes new) new.disk) (Q j)
+answered_ok r view j new bytes Q seen whole cells small records len failure faults contents opened kept =
+    let Done : JournalState → Type 0 = λ k. (new ≡ after_append r k) × LeavesOneOf (outcomes new) new.disk in
+    subst (λ (k : JournalState). MatchOption (append_refusal r k) (Done k) (Q k)) seen
+    (accepted (append_refusal r view) (Done view) (Q view) (nothing_against r view bytes whole cells small)
+    (after_is r view new bytes cells records len failure faults contents opened, kept_leaves new kept))
 
 offset_of : (r : Record) (view : JournalState) (bytes : List ℕ) (at : ℕ) → bytes ≡ cell r ++ CLOSED_GATE ∷ []
     → (at ≡ view.len) ⊎ ((at ≡ view.len - 1) ⊎ (at ≡ view.len + length bytes)) → IsAppendOffset r view at
@@ -336,13 +353,18 @@ pub answered_err : (r : Record) (at : ℕ) (view j new : JournalState) (bytes : 
     → view ≡ j → view.failure ≡ None → bytes ≡ cell r ++ CLOSED_GATE ∷ [] → view.len + length bytes ≤ MAX_BYTES
     → (at ≡ view.len) ⊎ ((at ≡ view.len - 1) ⊎ (at ≡ view.len + length bytes))
     → new.records ≡ view.records → new.len ≡ view.len → new.failure ≡ Some (record { at = at; refused = r })
-    → HasRisen view.disk.faults new.disk.faults
+    → new.opened ≡ view.opened → HasRisen view.disk.faults new.disk.faults → IsKept new
     → MatchOption (append_refusal r j) (FailsAt r at j new) (Q j)
-answered_err r at view j new bytes Q seen whole cells small offset records len failure rises =
+answered_err r at view j new bytes Q seen whole cells small offset records len failure opened rises still =
     let kept : new ≡ record view { failure = Some (record { at = at; refused = r }); disk = new.disk } =
-    state_same new (record view { failure = Some (record { at = at; refused = r }); disk = new.disk }) records len failure refl refl in
+    state_same new (record view { failure = Some (record { at = at; refused = r }); disk = new.disk }) records len failure opened refl refl in
     let fails : FailsAt r at view new =
-    record { offset = offset_of r view bytes at cells offset; kept = kept; rises = rises } in
+    record {
+      offset = offset_of r view bytes at cells offset;
+      kept = kept;
+      rises = rises;
+      leaves = kept_leaves new still;
+    } in
     subst (λ (k : JournalState). MatchOption (append_refusal r k) (FailsAt r at k new) (Q k)) seen
     (accepted (append_refusal r view) (FailsAt r at view new) (Q view)
     (nothing_against r view bytes whole cells small) fails)

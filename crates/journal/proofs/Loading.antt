@@ -21,8 +21,8 @@ use Rattle.journal.specs.declared.refusal.JournalRefused.TheVariants.{DiskFault,
 use Rattle.journal.specs.Format.{Standing, Holds, NotAJournal as NoJournal, BadRecord as BadAt, StandsFor, Short, Foreign, Parsed, StandsAs, front}
 use Rattle.journal.specs.Cells.{IsFound}
 use Rattle.journal.specs.Journal.{IsKept, IsHeldOn, IsAtRest}
-use Rattle.journal.specs.Opening.{reopened, IsOpenedAs, Opens, KeepsStanding, IsOnlySynced, IsFoundAs, IsOpenOffset, FaultsAt, SaysWhy, Refuses, IsWhole, IsLoaded}
-use Rattle.journal.specs.Devices.{IsSettled, LeavesFew, LeavesCut, IsJustSynced, IsSyncedOrNot, IsPieceOffset, IsFileRead}
+use Rattle.journal.specs.Opening.{reopened, IsOpenedAs, Opens, KeepsStanding, IsOnlySynced, IsFoundAs, IsSyncedOrNot, IsFaultOffset, IsOpenOffset, FaultsAt, SaysWhy, Refuses, IsWhole, IsLoaded}
+use Rattle.journal.specs.Devices.{IsSettled, LeavesFew, LeavesCut, IsJustSynced, IsPieceOffset, IsFileRead}
 use Rattle.journal.proofs.StandingLemmas.{stands_for_one, stands_closed, closed_in, none_in_short, short_alike, HasClosed}
 use Rattle.journal.proofs.Keeping.{reopened_rests}
 
@@ -137,6 +137,10 @@ offset_as at None fact = tt
 offset_as at (Some c) (inl first) = inl first
 offset_as at (Some c) (inr piece) = inr (inl piece)
 
+fault_offset : (at : ℕ) → (at ≡ 0) ⊎ ((at < MAX_BYTES) × (at % PIECE_BYTES ≡ 0)) → IsFaultOffset at
+fault_offset at (inl first) = inl first
+fault_offset at (inr piece) = inr (inl piece)
+
 -- the disk could not be read
 pub unread : (why : JournalRefused) (old new : DiskState) → IsFileRead old new (Err why)
     → Refuses why old new
@@ -149,8 +153,13 @@ unread NotAJournal old new (just, long) = record {
   images = just_keeps old new just;
 }
 unread NoMemory old new just = record { cause = just.synced; images = just_keeps old new just }
-unread (DiskFault at) old new (rises, synced, offset) = record {
-  cause = record { rises = rises; offset = offset_as at old.contents offset };
+unread (DiskFault at) old new (rises, synced, offset, told) = record {
+  cause = record {
+    rises = rises;
+    offset = fault_offset at offset;
+    told_offset = offset_as at old.contents told;
+    file = inl synced;
+  };
   images = synced_or_not_keeps old new synced;
 }
 unread (BadRecord number) old new fact = absurd fact
@@ -255,34 +264,53 @@ end_as at (Some c) bytes found fact same (inr end) =
       end ∙ fact.1,
     ))
 
+end_offset : (at : ℕ) (found : Found) → IsWhole found → (at ≡ 0) ⊎ (at ≡ found.end) → IsFaultOffset at
+end_offset at found whole (inl first) = inl first
+end_offset at found whole (inr end) =
+    inr (inr (found.records.items, end ∙ whole.long, omega (arith, end, whole.small)))
+
+holds_there : (old : Option DiskContents) (bytes : List ℕ) (found : Found) → IsFound bytes (Ok found)
+    → IfSome old (λ c. bytes ≡ c.bytes)
+    → IfSome old (λ c. (records : List Record) × StandsFor c.bytes (Holds records))
+holds_there None bytes found fact same = tt
+holds_there (Some c) bytes found fact same =
+    (found.records.items, subst (λ (xs : List ℕ). StandsFor xs (Holds found.records.items)) same fact.0)
+
 -- the repair failed
-pub unrepaired : (at : ℕ) (old mid new : DiskState) (bytes : List ℕ) (found : Found) → IsJustSynced old mid
+pub unrepaired : (at : ℕ) (old mid new : DiskState) (bytes : List ℕ) (found : Found)
+    → length bytes ≤ MAX_BYTES → IsJustSynced old mid
     → IfSome old.contents (λ c. bytes ≡ c.bytes) → IsFound bytes (Ok found)
     → WhereTold KeepsStanding mid.contents new.contents → HasRisen mid.faults new.faults
     → (at ≡ 0) ⊎ (at ≡ found.end) → Refuses (DiskFault at) old new
-unrepaired at old mid new bytes found just same fact kept rises offset =
+unrepaired at old mid new bytes found small just same fact kept rises offset =
     let faults : mid.faults ≡ old.faults = ap (λ (d : DiskState). d.faults) just.synced in
     record {
       cause = record {
         rises = subst (λ (n : ℕ). HasRisen n new.faults) faults rises;
-        offset = end_as at old.contents bytes found fact same offset;
+        offset = end_offset at found (whole_found bytes found small fact) offset;
+        told_offset = end_as at old.contents bytes found fact same offset;
+        file = inr (holds_there old.contents bytes found fact same);
       };
       images = keeps_on old.contents mid.contents new.contents (just_keeps old mid just) kept;
     }
 
 -- a journal that was opened is kept as one
-pub kept_open : (old new : DiskState) (found : Found) (records : List Record) (len : ℕ) → IsLoaded old new (Ok found)
-    → records ≡ found.records.items → len ≡ found.end
-    → IsKept (record { records = records; len = len; failure = None; disk = new })
-kept_open old new found records len (whole, opens) same end =
-    subst (λ (rs : List Record). IsKept (record { records = rs; len = len; failure = None; disk = new })) (sym same)
-    (subst (λ (n : ℕ). IsKept (record { records = found.records.items; len = n; failure = None; disk = new })) (sym end)
-    (record {
-      spelled = whole.spelled;
-      long = whole.long;
-      small = whole.small;
-      file = held old.contents new.contents opens.told opens.untold;
-    }))
+pub kept_open : (old new : DiskState) (found : Found) (opened : ℕ) → IsLoaded old new (Ok found)
+    → opened ≡ new.faults
+    → IsKept (record {
+      records = found.records.items;
+      len = found.end;
+      failure = None;
+      opened = opened;
+      disk = new;
+    })
+kept_open old new found opened (whole, opens) count = record {
+  spelled = whole.spelled;
+  long = whole.long;
+  small = whole.small;
+  licence = sym count;
+  file = held old.contents new.contents opens.told opens.untold;
+}
   where
     held : (o n : Option DiskContents) → IfSome o (λ c. IsOpenedAs c found.records.items n)
         → (o ≡ None → n ≡ None) → IfSome n (IsHeldOn found.records.items None)

@@ -6,7 +6,7 @@ use Rattle.std.proofs.lemmas.List.{take_all}
 use Rattle.std.proofs.lemmas.Bool.{cases_lt}
 use Rattle.std.proofs.Math.Seq.{take-append_seam, take-add}
 use Rattle.edge_traits.specs.Disk.{DiskContents, IsImage, IsBrokenWrite, IsBrokenCut, WhereTold, settled, loosened, shortened, after_write, after_cut, after_sync, overwritten}
-use Rattle.edge_traits.proofs.Images.{images_of_write, images_of_cut}
+use Rattle.edge_traits.proofs.Images.{images_of_write, broken_write_images, broken_cut_images}
 use Rattle.journal.specs.Devices.{IsSettled, LeavesFew}
 use Rattle.journal.specs.declared.format.TheConstants.{PIECE_BYTES}
 
@@ -56,7 +56,7 @@ cut_few None None most at_rest few broken = broken
 cut_few None (Some new) most at_rest few broken = broken
 cut_few (Some old) None most at_rest few broken = broken
 cut_few (Some old) (Some new) most at_rest few broken = λ image is.
-    omega (arith, (broken.images image is).short, few_now old most (at_rest old refl) (few old refl))
+    omega (arith, (broken_cut_images old new 0 broken image is).short, few_now old most (at_rest old refl) (few old refl))
 
 -- or the write
 pub write_few : (old cut new : Option DiskContents) (count most : ℕ) → count ≤ most
@@ -76,7 +76,7 @@ write_few (Some old) cut new count most within at_rest few is broken = there new
         → WhereTold (LeavesFew most) (Some old) new
     there None broken = broken
     there (Some new) broken = λ image i.
-        omega (arith, (broken.images image i).short, few_now old most (at_rest old refl) (few old refl))
+        omega (arith, (broken_write_images (after_cut 0 old) new 0 count broken image i).short, few_now old most (at_rest old refl) (few old refl))
 
 -- or the sync
 pub sync_few : (old cut written new : Option DiskContents) (file : List ℕ) (most : ℕ)

@@ -8,7 +8,7 @@ use Rattle.record_codec.specs.Record.{HasSpelling, spelling, word_bytes}
 use Rattle.record_codec.proofs.Numbers.{length-word_bytes}
 use Rattle.journal.specs.declared.format.TheConstants.{MAGIC, OPEN_GATE, EMPTY_BYTES, MAX_BYTES}
 use Rattle.journal.specs.Format.{Standing, Holds, NotAJournal, BadRecord, BeginsWithCell, IsParsed, StandsFor, Short, Foreign, Parsed, StandsAs, cell, open_cell, front, standing_at}
-use Rattle.journal.specs.Laws.{StandsForOne}
+use Rattle.journal.specs.Laws.{StandsForAtMostOne}
 use Rattle.journal.proofs.CellLemmas.{same_record, no_cell_behind}
 
 pub length-front : (records : List Record) → length (front records) ≡ 8 + length (flat_map open_cell records)
@@ -73,7 +73,7 @@ not_foreign : (bytes : List ℕ) (standing : Standing) → length bytes ≤ MAX_
 not_foreign bytes standing small is (inl long) = absurd (omega arith)
 not_foreign bytes standing small is (inr strange) = strange (parsed_begins bytes standing is)
 
-pub stands_for_one : StandsForOne
+pub stands_for_one : StandsForAtMostOne
 stands_for_one bytes one other (Short a is) (Short b is') = is ∙ sym is'
 stands_for_one bytes one other (Short a is) (Foreign b why is') = absurd (omega arith)
 stands_for_one bytes one other (Short a is) (Parsed b small parsed) = absurd (omega arith)

@@ -5,7 +5,7 @@ use Rattle.std.specs.declared.vec.Vec.{Vec}
 use Rattle.std.specs.declared.alloc.Global.{Global}
 use Rattle.basics.specs.Faults.{HasRisen}
 use Rattle.edge_traits.specs.Disk.{DiskContents, DiskState, IsImage, after_sync, settled}
-use Rattle.journal.specs.Opening.{IsOnlySynced}
+use Rattle.journal.specs.Opening.{IsOnlySynced, IsSyncedOrNot}
 use Rattle.journal.specs.declared.format.TheConstants.{MAX_BYTES, PIECE_BYTES}
 use Rattle.journal.specs.declared.refusal.JournalRefused.{JournalRefused}
 use Rattle.journal.specs.declared.refusal.JournalRefused.TheVariants.{DiskFault, NotAJournal, BadRecord, Full, NoMemory}
@@ -34,18 +34,12 @@ LeavesCut end old new = (image : List ℕ) → IsImage new image
 abbrev pub LeavesFew : (most : ℕ) → (old new : DiskContents) → Type 0
 LeavesFew most old new = (image : List ℕ) → IsImage new image → length image ≤ most
 
--- the disk as a sync left it, or as a sync that failed did
-abbrev pub IsSyncedOrNot : (old new : DiskState) → Type 0
-IsSyncedOrNot old new = (new.contents ≡ old.contents)
-    ⊎ ((new.contents ≡ option_map after_sync old.contents)
-    × IfSome old.contents (λ c. IsImage c c.bytes))
-
 -- nothing was done but one sync, and what a read gives was possible before
 pub record IsJustSynced (old new : DiskState) : Type 0 where
   pub synced : IsOnlySynced old new
   pub possible : IfSome old.contents (λ c. IsImage c c.bytes)
 
--- the bytes of a short file all at once, or of a longer one piece by piece
+-- a piece of the file begins here
 abbrev pub IsPieceOffset : (at : ℕ) → (file : List ℕ) → Type 0
 IsPieceOffset at file = (at < length file) × (at % PIECE_BYTES ≡ 0)
 
@@ -58,6 +52,7 @@ IsFileRead old new (Err NotAJournal) = IsJustSynced old new
 IsFileRead old new (Err NoMemory) = IsJustSynced old new
 IsFileRead old new (Err (DiskFault at)) = HasRisen old.faults new.faults
     × IsSyncedOrNot old new
+    × ((at ≡ 0) ⊎ ((at < MAX_BYTES) × (at % PIECE_BYTES ≡ 0)))
     × IfSome old.contents (λ c. (at ≡ 0) ⊎ IsPieceOffset at c.bytes)
 IsFileRead old new (Err (BadRecord number)) = ⊥
 IsFileRead old new (Err (Full len)) = ⊥

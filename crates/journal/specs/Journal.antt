@@ -22,6 +22,8 @@ pub record JournalState : Type 0 where
   pub len : ℕ
   -- after a failure nothing is written any more
   pub failure : Option Failure
+  -- how often the disk had failed when it was opened
+  pub opened : ℕ
   pub disk : DiskState
 
 -- the lists of records that a crash may leave: these, and after a failure these and the one whose
@@ -53,11 +55,17 @@ IsHeldOn records None c = IsAtRest records c
 IsHeldOn records (Some failure) c = (image : List ℕ) → IsImage c image
     → StandsForOneOf (records ∷ with_refused records (Some failure)) image
 
+-- a failure is kept only where the disk failed since the opening
+abbrev pub IsLicensed : Option Failure → (opened now : ℕ) → Type 0
+IsLicensed None opened now = now ≡ opened
+IsLicensed (Some failure) opened now = HasRisen opened now
+
 -- what the type of a journal keeps
 pub record IsKept (j : JournalState) : Type 0 where
   pub spelled : AllByRecursion HasSpelling j.records
   pub long : j.len ≡ length (front j.records) + 1
   pub small : j.len ≤ MAX_BYTES
+  pub licence : IsLicensed j.failure j.opened j.disk.faults
   pub file : IfSome j.disk.contents (IsHeldOn j.records j.failure)
 
 -- why a record isn't taken, but for want of memory and a new fault: an earlier failure, or no room
@@ -84,6 +92,7 @@ after_append r j = record {
   records = j.records ++ r ∷ [];
   len = j.len + CELL_BYTES + length (spelling r);
   failure = j.failure;
+  opened = j.opened;
   disk = record {
     contents = option_map (λ c. settled (appended r j.len c.bytes)) j.disk.contents;
     faults = j.disk.faults;
@@ -103,10 +112,12 @@ pub record FailsAt (r : Record) (at : ℕ) (old new : JournalState) : Type 0 whe
     disk = new.disk;
   }
   pub rises : HasRisen old.disk.faults new.disk.faults
+  pub leaves : LeavesOneOf (outcomes new) new.disk
 
 -- what an append answers that nothing refuses
 abbrev pub Appends : Record → (old new : JournalState) → Result (Unit {0}) JournalRefused → Type 0
-Appends r old new (Ok answer) = new ≡ after_append r old
+Appends r old new (Ok answer) =
+    (new ≡ after_append r old) × LeavesOneOf (outcomes new) new.disk
 Appends r old new (Err (DiskFault at)) = FailsAt r at old new
 Appends r old new (Err NoMemory) = new ≡ old
 Appends r old new (Err NotAJournal) = ⊥

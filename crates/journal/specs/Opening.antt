@@ -44,13 +44,24 @@ abbrev pub IsOnlySynced : (old new : DiskState) → Type 0
 IsOnlySynced old new =
     new ≡ record { contents = option_map after_sync old.contents; faults = old.faults }
 
--- the file isn't a journal, and the refusal says why
+-- or that sync failed
+abbrev pub IsSyncedOrNot : (old new : DiskState) → Type 0
+IsSyncedOrNot old new = (new.contents ≡ old.contents)
+    ⊎ ((new.contents ≡ option_map after_sync old.contents)
+    × IfSome old.contents (λ c. IsImage c c.bytes))
+
+-- the file was found to be such, and was left as it was
 abbrev pub IsFoundAs : Standing → (old new : DiskState) → Type 0
 IsFoundAs standing old new =
     IsOnlySynced old new × IfSome old.contents (λ c. StandsFor c.bytes standing)
 
 -- the offset that a failed opening tells: of a piece that was read, of the cut or the write, or for
 -- a sync the length by then, as far as it was known
+abbrev pub IsFaultOffset : (at : ℕ) → Type 0
+IsFaultOffset at = (at ≡ 0) ⊎ (((at < MAX_BYTES) × (at % PIECE_BYTES ≡ 0))
+    ⊎ ((records : List Record) × (at ≡ length (front records) + 1) × (at ≤ MAX_BYTES)))
+
+-- the same where the disk tells its file
 abbrev pub IsOpenOffset : (at : ℕ) → DiskContents → Type 0
 IsOpenOffset at c = (at ≡ 0) ⊎ (((at < length c.bytes) × (at % PIECE_BYTES ≡ 0))
     ⊎ ((records : List Record) × StandsFor c.bytes (Holds records)
@@ -58,7 +69,11 @@ IsOpenOffset at c = (at ≡ 0) ⊎ (((at < length c.bytes) × (at % PIECE_BYTES 
 
 pub record FaultsAt (at : ℕ) (old new : DiskState) : Type 0 where
   pub rises : HasRisen old.faults new.faults
-  pub offset : IfSome old.contents (IsOpenOffset at)
+  pub offset : IsFaultOffset at
+  pub told_offset : IfSome old.contents (IsOpenOffset at)
+  -- nothing is written before all of the file was read and holds records
+  pub file : IsSyncedOrNot old new
+      ⊎ IfSome old.contents (λ c. (records : List Record) × StandsFor c.bytes (Holds records))
 
 -- what each refusal says, and what it leaves
 abbrev pub SaysWhy : JournalRefused → (old new : DiskState) → Type 0

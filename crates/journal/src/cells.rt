@@ -6,7 +6,7 @@ ghost use Rattle.journal.specs.Cells.{IsOpen, AreRead, IsFound, IsRecordRead, be
 ghost use Rattle.journal.specs.Format.{cell};
 
 use crate::JournalRefused;
-use crate::format::{CELL_BYTES, CLOSED_GATE, EMPTY_BYTES, MAGIC, MAX_BYTES, OPEN_GATE};
+use crate::format::{CELL_BYTES, CLOSED_GATE, EMPTY_BYTES, LEAST_SPELLING, MAGIC, MAX_BYTES, OPEN_GATE};
 use byteorder::{BigEndian, ByteOrder};
 use record_codec::{CodecRefused, Record, decode, encode, spelled_len};
 use std::alloc::Global;
@@ -75,11 +75,15 @@ fn read_record(alloc: Global, body: &[u8], before: usize) -> Result<Record, Jour
     }
 }
 
-/// How many open cells stand here, one behind another.
+/// How many open cells with room for a record stand here, one behind another. So no file can ask
+/// for more places than its bytes could fill.
 fn count_cells(cells: &[u8]) -> usize {
     let mut count = 0usize;
     let mut rest = cells;
-    while let Some((_, behind)) = open_cell(rest) {
+    while let Some((body, behind)) = open_cell(rest) {
+        if body.len() < LEAST_SPELLING {
+            break;
+        }
         count = count.saturating_add(1);
         rest = behind;
     }

@@ -21,3 +21,6 @@ pub(crate) const CELL_BYTES: usize = 5;
 
 /// How many bytes of a file are read in one call: 64 KiB.
 pub(crate) const PIECE_BYTES: usize = 1 << 16;
+
+/// No record's spelling has fewer bytes: a kind and a number of four bytes.
+pub(crate) const LEAST_SPELLING: usize = 5;

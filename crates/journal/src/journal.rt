@@ -5,7 +5,7 @@ ghost use Rattle.basics.specs.Faults.{HasCause};
 ghost use Rattle.edge_traits.specs.Disk.{WhereTold, settled};
 ghost use Rattle.record_codec.specs.Record.{KeepsRule};
 ghost use Rattle.journal.specs.Format.{Holds, StandsFor};
-ghost use Rattle.journal.specs.Journal.{append_refusal, Appends, LeavesOneOf, outcomes};
+ghost use Rattle.journal.specs.Journal.{append_refusal, Appends, IsKept, LeavesOneOf, outcomes};
 ghost use Rattle.journal.specs.Opening.{Opens, Refuses, IsLoaded, IsWhole, KeepsStanding, reopened};
 ghost use Rattle.journal.specs.Devices.{IsSettled};
 
@@ -31,6 +31,7 @@ pub struct Journal<D: Disk> {
     records: Vec<Record>,
     len: usize,
     failure: Option<Failure>,
+    opened: u64,
     disk: D,
 }
 
@@ -46,6 +47,7 @@ impl<D: Disk> Model for Journal<D> {
       records = j.records.items;
       len = j.len;
       failure = option_map failure_of j.failure;
+      opened = j.opened;
       disk = D.state j.disk;
     } };
 
@@ -53,22 +55,26 @@ impl<D: Disk> Model for Journal<D> {
       records = j.records.items;
       len = j.len;
       failure = option_map failure_of j.failure;
+      opened = j.opened;
       disk = D.state j.disk;
     }) };
 }
 
 impl<D: Disk> Journal<D> {
     /// Opens the journal on a disk: syncs it, reads it, makes an empty journal of a file of at most
-    /// [`EMPTY_BYTES`] bytes, and cuts any other right behind its first closed gate. The disk comes
-    /// back with each refusal, which left it as it was but for the first sync, or for
-    /// [`JournalRefused::DiskFault`] with no records but those that it had: that is answered only
-    /// where the disk failed; [`JournalRefused::NotAJournal`] and [`JournalRefused::BadRecord`]
-    /// where the file is such; [`JournalRefused::Full`] never.
+    /// [`EMPTY_BYTES`] bytes, and cuts any other right behind its first closed gate. Nothing is
+    /// written before all of the file was read and holds records. The disk comes back with each
+    /// refusal, and whatever a crash leaves of it then has the records that it had.
+    /// [`JournalRefused::DiskFault`] comes only where the disk failed,
+    /// [`JournalRefused::NotAJournal`] and [`JournalRefused::BadRecord`] exactly where the file is
+    /// such, [`JournalRefused::Full`] never.
     pub fn open(alloc: Global, disk: D) -> Result<Journal<D>, (D, JournalRefused)>
         ensures opened { IfOk result
             (λ journal. Opens (D.state disk) journal.records journal.disk) }
-        ensures whole { IfOk result (λ journal. journal.failure ≡ None) }
-        ensures kept { IfOk result (λ journal. LeavesOneOf (outcomes journal) journal.disk) }
+        ensures unfailed { IfOk result (λ journal. journal.failure ≡ None) }
+        ensures licence { IfOk result (λ journal. journal.opened ≡ (D.state disk).faults) }
+        ensures kept { IfOk result IsKept }
+        ensures leaves { IfOk result (λ journal. LeavesOneOf (outcomes journal) journal.disk) }
         ensures refused { IfErr result
             (λ refused. Refuses refused.1 (D.state disk) (D.state refused.0)) }
     {
@@ -79,6 +85,7 @@ impl<D: Disk> Journal<D> {
                 records: found.records,
                 len: found.end,
                 failure: None,
+                opened: disk.faults(),
                 disk,
             }),
             Err(why) => Err((disk, why)),
@@ -125,7 +132,8 @@ impl<D: Disk> Journal<D> {
     /// The records, in order.
     pub fn records(&self) -> &[Record]
         ensures records { result.now ≡ self.now.records }
-        ensures kept { LeavesOneOf (outcomes self.now) self.now.disk }
+        ensures kept { IsKept self.now }
+        ensures leaves { LeavesOneOf (outcomes self.now) self.now.disk }
     {
         &self.records
     }
@@ -133,7 +141,8 @@ impl<D: Disk> Journal<D> {
     /// Gives the disk back, as it is.
     pub fn close(self) -> D
         ensures disk { D.state result ≡ self.disk }
-        ensures kept { LeavesOneOf (outcomes self) (D.state result) }
+        ensures kept { IsKept self }
+        ensures leaves { LeavesOneOf (outcomes self) (D.state result) }
     {
         let Journal { disk, .. } = self;
         disk

@@ -1,7 +1,28 @@
-//! A law of files. The function's contract is the law, and its body does nothing.
-ghost use Rattle.journal.specs.Laws.{StandsForOne};
+//! Laws of files and of journals across openings and crashes. Each function's contract is the law, and
+//! its body does nothing.
+ghost use Rattle.journal.specs.Laws.{StandsForAtMostOne, OpensOneOf, RefusesKeep, CrashesKeep, NeverStrange};
 
 /// No file stands for two things: its records, or why it has none, are its own.
 pub fn a_file_stands_for_one_thing()
-    ensures { StandsForOne }
+    ensures { StandsForAtMostOne }
+{}
+
+/// Where each image has one of some lists of records, an opening gives one of them.
+pub fn an_opening_gives_one_of_them()
+    ensures { OpensOneOf }
+{}
+
+/// A refused opening leaves them so.
+pub fn a_refused_opening_keeps_them()
+    ensures { RefusesKeep }
+{}
+
+/// And so does a crash.
+pub fn a_crash_keeps_them()
+    ensures { CrashesKeep }
+{}
+
+/// Such a disk is never refused for what its file holds.
+pub fn their_file_is_a_journal()
+    ensures { NeverStrange }
 {}

@@ -45,5 +45,5 @@ returns g c =
     rw c.deref.ensures.value at c.in_ok-found.ensures in
     let read = c.in_ok-bytes.ensures.read in
     unrepaired c.in-Err.field-0.0 (g.D.Disk.state c.args.disk.now) (g.D.Disk.state c.read_disk.new.disk)
-    (g.D.Disk.state c.repair.new.disk) c.in_ok-bytes.bytes.items c.in_ok-found.found read.0 read.2 found
+    (g.D.Disk.state c.repair.new.disk) c.in_ok-bytes.bytes.items c.in_ok-found.found read.1 read.0 read.2 found
     c.in-Err.ensures.kept (c.in-Err.ensures.cause.later, c.in-Err.ensures.cause.failed) c.in-Err.ensures.offset
