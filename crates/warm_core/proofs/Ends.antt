@@ -44,7 +44,7 @@ filled-complete w filling p sized complete =
 pub stopped-sound : (w : World) (filling : List Sector) → IsSound w → IsSound (record w { volume = volume_stopped filling w.volume; stage = None; running = false })
 stopped-sound w filling sound = record {
   legal = sound.legal;
-  sized = (keep_their_size w.capacity w.volume sound.sized).filled filling;
+  sized = (keep_their_size w.capacity w.volume sound.sized).stopped filling;
   base_is = sound.base_is;
   base_has_snap = sound.base_has_snap;
   snap_is = sound.snap_is;

@@ -158,6 +158,6 @@ entries_keep_sound more w small sound may =
           };
       complete_is = λ p is. complete-later w more p sound (sound.complete_is p is);
       staged = staged-later w.capacity w.disk w.log more w.base w.snap w.volume
-          (λ b is. let h = (sound.base_is b is).within in omega (arith, h))
+          (λ b is. let h = (sound.base_is b is).snapshot.within in omega (arith, h))
           (λ s is. let h = (sound.snap_is s is).within in omega (arith, h)) sound.staged;
     }

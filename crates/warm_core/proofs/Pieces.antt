@@ -46,18 +46,14 @@ ahead-of blocks at covered rs None spaced ends tells is =
     λ s low less. sym (tells s low less) ∙ sym (from-on rs at s low) ∙ ap (λ (xs : List Run). in_runs xs s) (areas_from-none rs at is)
 ahead-of blocks at covered rs (Some r) spaced ends tells is =
     let next : Next rs at covered r = next_is 0 covered rs at r spaced ends is in
-    let low = next.from in
-    let high = next.ends in
-    let rest : List Run = areas_from (end_of r) rs in
-    let apart : AreSpacedFrom 0 (r ∷ rest) = subst (λ (xs : List Run). AreSpacedFrom 0 xs) next.areas (areas_from-spaced 0 at rs spaced) in
-    let there : (s : ℕ) → at ≤ s → s < covered → in_blocks blocks s ≡ in_runs (r ∷ rest) s =
-    λ s from less. sym (tells s from less) ∙ sym (from-on rs at s from) ∙ ap (λ (xs : List Run). in_runs xs s) next.areas in
+    let low = next.is.from in
+    let high = next.is.inside in
     record {
       from = low;
-      some = next.some;
+      some = next.is.some;
       within = high;
-      none = λ s from less. there s from (omega (arith, less, high)) ∙ none_in_gap 0 r rest s apart less;
-      all = λ s from less. there s (omega (arith, low, from)) (omega (arith, less, high)) ∙ in_first r rest s from less;
+      none = λ s from less. sym (tells s from (omega (arith, less, high))) ∙ next.is.gap s from less;
+      all = λ s from less. sym (tells s (omega (arith, low, from)) (omega (arith, less, high))) ∙ next.is.held s from less;
     }
 
 and-true : (a b e : Bool) → a ≡ true → b ≡ true → (a && b && e) ≡ e

@@ -191,8 +191,10 @@ has-id : (machine d : ℕ) (log : List Entry) (s : Snapped) (id : ChangeId) → 
 has-id machine d log s id snap is =
     let at = snap.mark_is in
     record {
-      within = snap.within;
-      by_snap = λ e read. snap-takes s.id e.act (takes-at_mark s.id log e (ap (slice_get log) at ∙ read));
+      snapshot = record {
+        within = snap.within;
+        by_snap = λ e read. snap-takes s.id e.act (takes-at_mark s.id log e (ap (slice_get log) at ∙ read));
+      };
       identified = ap (λ n. in_force machine d (take (n + 1) log)) (sym at) ∙ is;
     }
 
