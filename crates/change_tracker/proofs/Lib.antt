@@ -9,3 +9,4 @@ pub mod Results
 pub mod Lookups
 pub mod Queries
 pub mod AnswerPages
+pub mod Windows

@@ -1,5 +1,5 @@
 -- What the state of a tracker is for the maps and the snapshots that it keeps.
-use Rattle.std.proofs.Common.{◌≡◌, ℕ, zero, suc, ◌+◌, ◌-◌, ◌/◌, ◌%◌, ◌<◌, ◌≤◌, List, [], ◌∷◌, ◌++◌, length, take, drop, map, Bool, true, false, cond, ◌&&◌, ◌||◌, ◌==◌, eqb, ltb, leb, nat_eq, Option, Some, None, is_some, is_none, unwrap_or, option_map, sym, ap, subst, refl, ◌∙◌, arith, inl, inr, length-append, length-drop, slice_range}
+use Rattle.std.proofs.Common.{◌≡◌, ℕ, zero, suc, ◌+◌, ◌-◌, ◌/◌, ◌%◌, ◌<◌, ◌≤◌, List, [], ◌∷◌, ◌++◌, length, take, drop, map, Bool, true, false, cond, ◌&&◌, ◌||◌, ◌==◌, eqb, ltb, leb, nat_eq, Option, Some, None, is_some, IfSome, unwrap_or, option_map, sym, ap, subst, refl, ◌∙◌, arith, inl, inr, length-append, length-drop, slice_range}
 use Rattle.std.specs.List.{list_any, find, filter, slice_get, position, enumerate_from, range_with_len}
 use Rattle.std.proofs.Math.Bool.{or-false}
 use Rattle.std.proofs.lemmas.Bool.{cases_eq, cases_lt, eq-eqb, ne_eqb, lt-ltb, le-ltb, le-leb, lt-leb, leb-true, ltb-true, false≢true}
@@ -14,7 +14,7 @@ use Rattle.change_tracker.specs.declared.word.Touch.{Touch}
 use Rattle.change_tracker.specs.declared.word.Window.{Window}
 use Rattle.change_tracker.specs.Tracker.{TrackerState, Snapshot, snapshot_of, fresh, with_met, after_marking, after_freezing, after_reset, without_changes}
 use Rattle.change_tracker.specs.Touches.{WordState, TouchState, is_inside, is_of, has_bit, touched_in, word_of, is_touched, HasSame, blocks_in}
-use Rattle.change_tracker.specs.Maps.{window, HasSameTouches, IsTouchedWhere, is_met_by}
+use Rattle.change_tracker.specs.Maps.{window, HasSameTouches, IsTouchedWhere, NoneTouchedLater, is_met_by}
 use Rattle.change_tracker.specs.Kept.{snapshot_at, state_of, AreIds, NoLater, IsByNow}
 use Rattle.change_tracker.specs.History.{changed_in}
 use Rattle.change_tracker.proofs.Blocks.{among, same_blocks, met_more}
@@ -297,6 +297,16 @@ no_later_same old new n same past = λ w b less. same w b ∙ past w b less
 
 pub no_later_more : (t : TouchState) (n m : ℕ) → n ≤ m → NoLater t n → NoLater t m
 no_later_more t n m le past = λ w b less. past w b (omega (arith, le, less))
+
+at_most_more : (o : Option WordState) (n m : ℕ) → n ≤ m → IfSome o (λ w. w.latest.freezes ≤ n) → IfSome o (λ w. w.latest.freezes ≤ m)
+at_most_more None n m le is = tt
+at_most_more (Some w) n m le is = omega (arith, le, is)
+
+pub none_later_more : (maps : Maps) (n m : ℕ) → n ≤ m → NoneTouchedLater maps n → NoneTouchedLater maps m
+none_later_more maps n m le is = record {
+  first = λ word. at_most_more (word_of maps.first word) n m le (is.first word);
+  changes = λ word. at_most_more (word_of maps.changes word) n m le (is.changes word);
+}
 
 pub changes_marked_now : (p : ℕ → Bool) (n : ℕ) (old new : Maps) → IsTouchedWhere p n old new → NoLater old.changes n → NoLater new.changes n
 changes_marked_now p n old new is past = λ w b less. is.changes w b ∙ (λ i. past w b less i || ((lt-leb w.from n less i && ltb n w.end) && p b))

@@ -12,7 +12,7 @@ use Rattle.change_tracker.specs.declared.kept.Kept.{Kept}
 use Rattle.change_tracker.specs.declared.word.Window.{Window}
 use Rattle.change_tracker.specs.declared.maps.Maps.{Maps}
 use Rattle.change_tracker.specs.Touches.{TouchState, is_touched, blocks_in}
-use Rattle.change_tracker.specs.Maps.{window, is_met_by, HasRoomWhere}
+use Rattle.change_tracker.specs.Maps.{window, is_met_by, HasRoomWhere, NoneTouchedLater}
 use Rattle.change_tracker.specs.Tracker.{TrackerState, Snapshot}
 
 -- the snapshot at a place of the list
@@ -77,6 +77,7 @@ pub record IsKept (capacity : ℕ) (counted : Option ℕ) (maps : Maps)
     : Type 0 where
   pub ascending : AreIds 0 free_from snapshots.items
   pub few : unwrap_or counted 0 ≤ length snapshots.items
+  pub later : NoneTouchedLater maps (length snapshots.items)
   pub first_past : IsByNow maps.first (length snapshots.items)
   pub changes_past : NoLater maps.changes (length snapshots.items)
   pub can_mark : IfSome mark_room (CanMark capacity maps (length snapshots.items))

@@ -1,5 +1,6 @@
 pub mod Tracker
 pub mod History
+pub mod Rising
 pub mod Touches
 pub mod Maps
 pub mod Kept

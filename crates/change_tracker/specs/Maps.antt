@@ -5,7 +5,7 @@ use Rattle.sector_model.specs.declared.run.Run.{Run}
 use Rattle.change_tracker.specs.declared.maps.Maps.{Maps}
 use Rattle.change_tracker.specs.declared.word.TheConstants.{WORD_BLOCKS}
 use Rattle.change_tracker.specs.declared.word.Window.{Window}
-use Rattle.change_tracker.specs.Touches.{is_touched, is_inside, HasRoom, HasSame, KeepsRoom}
+use Rattle.change_tracker.specs.Touches.{is_touched, is_inside, HasRoom, HasSame, KeepsRoom, NoneLater}
 
 abbrev pub window : (from end : ℕ) → Window
 window from end = record { from = from; end = end }
@@ -19,6 +19,11 @@ pub record HasSameTouches (old new : Maps) : Type 0 where
 pub record KeepsPlaces (freezes : ℕ) (old new : Maps) : Type 0 where
   pub first : KeepsRoom old.first new.first freezes
   pub changes : KeepsRoom old.changes new.changes freezes
+
+-- in neither map a word was touched after more than this many freezes
+pub record NoneTouchedLater (maps : Maps) (freezes : ℕ) : Type 0 where
+  pub first : NoneLater maps.first freezes
+  pub changes : NoneLater maps.changes freezes
 
 -- the blocks that pass a test are touched after this many freezes: among the changes, and among the
 -- touches since the beginning

@@ -1,6 +1,6 @@
 -- How touches are kept: under the number of each word, which is 64 blocks, the bits of the blocks
 -- that were touched between two freezes, beside how many freezes came before.
-use Rattle.std.specs.Prelude.{◌≡◌, ℕ, ◌+◌, ◌*◌, ◌/◌, ◌%◌, ◌<◌, ◌≤◌, ◌==◌, ◌&&◌, ◌||◌, nat_lt, nat_le, List, [], ◌∷◌, ◌++◌, Bool, false, not, Option, Some, None, IsSomeAnd, if◌then◌else◌}
+use Rattle.std.specs.Prelude.{◌≡◌, ℕ, ◌+◌, ◌*◌, ◌/◌, ◌%◌, ◌<◌, ◌≤◌, ◌==◌, ◌&&◌, ◌||◌, nat_lt, nat_le, List, [], ◌∷◌, ◌++◌, Bool, false, not, Option, Some, None, IsSomeAnd, IfSome, if◌then◌else◌}
 use Rattle.std.specs.List.{list_any}
 use Rattle.std.specs.Int.{bit_at}
 use Rattle.std.specs.Map.{lookup}
@@ -61,6 +61,11 @@ HasRoom touches word freezes =
 
 abbrev pub KeepsRoom : (old new : TouchState) (freezes : ℕ) → Type 0
 KeepsRoom old new freezes = (word : ℕ) → HasRoom old word freezes → HasRoom new word freezes
+
+-- no word was touched after more than this many freezes
+abbrev pub NoneLater : TouchState → (freezes : ℕ) → Type 0
+NoneLater touches freezes = (word : ℕ)
+    → IfSome (word_of touches word) (λ w. w.latest.freezes ≤ freezes)
 
 -- the blocks of a word that have these bits are touched too, after this many freezes
 abbrev pub IsAdded : (old new : TouchState) (word freezes bits : ℕ) → Type 0

@@ -2,7 +2,7 @@
 ghost use Rattle.std.specs.Prelude.{◌≡◌, ◌+◌, ◌-◌, ◌*◌, ◌/◌, ◌<◌, ◌≤◌, ◌^◌, ◌||◌, ◌&&◌, [], ℕ, OnOk, nat_le, nat_lt, ◌==◌};
 ghost use Rattle.sector_model.specs.Run.{meets};
 ghost use Rattle.change_tracker.specs.Touches.{has_bit, touched_in, word_of};
-ghost use Rattle.change_tracker.specs.Maps.{window, HasSameTouches, KeepsPlaces, IsTouchedWhere, is_met_by, is_met_in, HasRoomWhere};
+ghost use Rattle.change_tracker.specs.Maps.{window, HasSameTouches, KeepsPlaces, NoneTouchedLater, IsTouchedWhere, is_met_by, is_met_in, HasRoomWhere};
 
 use crate::touches::Touches;
 use crate::word::{WORD_BLOCKS, Window};
@@ -25,7 +25,9 @@ impl Maps {
         requires some { 0 < run.count }
         requires fits { run.first + run.count < 2 ^ 64 }
         requires few { freezes + 1 < 2 ^ 64 }
+        requires later { NoneTouchedLater self.old freezes }
         ensures room { OnOk result (HasRoomWhere (is_met_by run) self.new freezes) }
+        ensures later { NoneTouchedLater self.new freezes }
         ensures same { HasSameTouches self.old self.new }
         ensures kept { KeepsPlaces freezes self.old self.new }
     {
@@ -48,7 +50,9 @@ impl Maps {
         requires few { freezes + 1 < 2 ^ 64 }
         requires from { run.first / 128 / 64 ≤ word }
         requires upto { word ≤ (run.first + run.count - 1) / 128 / 64 }
+        requires later { NoneTouchedLater self.old freezes }
         ensures room { OnOk result (HasRoomWhere (is_met_in word run) self.new freezes) }
+        ensures later { NoneTouchedLater self.new freezes }
         ensures same { HasSameTouches self.old self.new }
         ensures kept { KeepsPlaces freezes self.old self.new }
     {
@@ -65,7 +69,8 @@ impl Maps {
         requires fits { run.first + run.count < 2 ^ 64 }
         requires few { freezes + 1 < 2 ^ 64 }
         requires room { HasRoomWhere (is_met_by run) self.old freezes }
-        ensures { IsTouchedWhere (is_met_by run) freezes self.old self.new }
+        ensures later { NoneTouchedLater self.old freezes → NoneTouchedLater self.new freezes }
+        ensures touched { IsTouchedWhere (is_met_by run) freezes self.old self.new }
     {
         for word in first_word(run)..last_word(run) + 1 {
             self.mark_word(run, freezes, word);
@@ -80,6 +85,7 @@ impl Maps {
         requires from { run.first / 128 / 64 ≤ word }
         requires upto { word ≤ (run.first + run.count - 1) / 128 / 64 }
         requires room { HasRoomWhere (is_met_in word run) self.old freezes }
+        ensures later { NoneTouchedLater self.old freezes → NoneTouchedLater self.new freezes }
         ensures touched { IsTouchedWhere (is_met_in word run) freezes self.old self.new }
         ensures kept { KeepsPlaces freezes self.old self.new }
     {

@@ -2,7 +2,7 @@
 ghost use Rattle.std.specs.Prelude.{◌≡◌, ◌+◌, ◌*◌, ◌/◌, ◌<◌, ◌≤◌, ◌^◌, [], ℕ, true, false, Some, None, MatchOption, OnOk};
 ghost use Rattle.sector_model.specs.Run.{block_count, next_run};
 ghost use Rattle.sector_model.specs.Page.{page_from};
-ghost use Rattle.change_tracker.specs.Touches.{TouchState, word_of, is_touched, touched_in, has_bit, HasSame, HasRoom, KeepsRoom, IsAdded, IsFirst, areas_in};
+ghost use Rattle.change_tracker.specs.Touches.{TouchState, word_of, is_touched, touched_in, has_bit, HasSame, HasRoom, KeepsRoom, NoneLater, IsAdded, IsFirst, areas_in};
 
 use crate::word::{WORD_BLOCKS, Window, Word};
 use sector_model::{BLOCK_SECTORS, NoMemory, PAGE_AREAS, Page, Run};
@@ -42,7 +42,9 @@ impl Touches {
     /// Makes a place in a word for touches after that many freezes. Nothing that was touched
     /// changes.
     pub(crate) fn reserve(&mut self, alloc: Global, word: u64, freezes: u64) -> Result<(), NoMemory>
+        requires { NoneLater self.old freezes }
         ensures room { OnOk result (HasRoom self.new word freezes) }
+        ensures later { NoneLater self.new freezes }
         ensures same { HasSame self.old self.new }
         ensures kept { KeepsRoom self.old self.new freezes }
     {
@@ -56,6 +58,7 @@ impl Touches {
     /// Adds touched blocks to a word's place. It takes no memory.
     pub(crate) fn add(&mut self, word: u64, freezes: u64, bits: u64)
         requires { HasRoom self.old word freezes }
+        ensures later { NoneLater self.old freezes → NoneLater self.new freezes }
         ensures added { IsAdded self.old self.new word freezes bits }
         ensures kept { KeepsRoom self.old self.new freezes }
     {

@@ -1,6 +1,7 @@
 //! The touches of one word: 64 blocks in a row.
-ghost use Rattle.std.specs.Prelude.{◌≡◌, ◌<◌, ◌+◌, ◌^◌, ◌&&◌, ◌||◌, [], OnOk, OnErr, ℕ};
-ghost use Rattle.change_tracker.specs.Touches.{WordState, is_inside, has_bit, touched_at};
+ghost use Rattle.std.specs.Prelude.{◌≡◌, ◌<◌, ◌≤◌, ◌+◌, ◌^◌, ◌&&◌, ◌||◌, [], OnOk, OnErr, ℕ};
+ghost use Rattle.change_tracker.specs.Touches.{WordState, is_inside, is_of, has_bit, touched_at};
+ghost use Rattle.std.specs.List.{list_any};
 
 use sector_model::NoMemory;
 use std::alloc::Global;
@@ -47,9 +48,14 @@ pub struct Word {
 }
 
 impl Model for Word {
+    ghost use Rattle.change_tracker.specs.Rising.{AreRising};
+    ghost use Rattle.change_tracker.specs.Touches.{WordState};
+
     ghost Value = { WordState };
 
     ghost view = { λ a. record { latest = a.latest; earlier = a.earlier.items } };
+
+    ghost invariant = { λ a. AreRising 0 a.latest.freezes a.earlier.items };
 }
 
 impl Word {
@@ -64,9 +70,10 @@ impl Word {
         }
     }
 
-    /// Makes the place for touches after that many freezes, if there is none. An `Err` changes
-    /// nothing.
+    /// Makes the place for touches after that many freezes, if there is none. No touch came later.
+    /// An `Err` changes nothing.
     pub(crate) fn reserve(&mut self, freezes: u64) -> Result<(), NoMemory>
+        requires { self.old.latest.freezes ≤ freezes }
         ensures place { OnOk result (self.new.latest.freezes ≡ freezes) }
         ensures same { (window : Window) (place : ℕ)
             → touched_at window place self.new ≡ touched_at window place self.old }
@@ -94,9 +101,21 @@ impl Word {
         ensures { (place : ℕ) → has_bit result place ≡ touched_at window place self.now }
     {
         let mut bits = self.latest.bits_in(window);
-        for touch in &self.earlier {
+        for touch in self.earlier_in(window) {
             bits |= touch.bits_in(window);
         }
         bits
+    }
+
+    /// The earlier touches inside the window, which lie next to each other.
+    fn earlier_in(&self, window: Window) -> &[Touch]
+        ensures { (place : ℕ) → list_any (is_of window place) result.now
+            ≡ list_any (is_of window place) self.now.earlier }
+    {
+        let earlier = self.earlier.as_slice();
+        let start = earlier.partition_point(|touch| touch.freezes < window.from);
+        let later = &earlier[start..];
+        let count = later.partition_point(|touch| touch.freezes < window.end);
+        &later[..count]
     }
 }

@@ -5,7 +5,7 @@ use Rattle.change_id.specs.declared.ChangeId.{ChangeId}
 use Rattle.change_tracker.specs.declared.kept.Kept.{Kept}
 use Rattle.change_tracker.specs.Tracker.{TrackerState, after_freezing}
 use Rattle.change_tracker.specs.Kept.{state_of, AreIds, NoLater, IsByNow}
-use Rattle.change_tracker.proofs.States.{frozen_state, ids_push, by_now_more, no_later_more}
+use Rattle.change_tracker.proofs.States.{frozen_state, ids_push, by_now_more, no_later_more, none_later_more}
 use Rattle.change_tracker.proofs.tracker.Tracker.add_snapshot.Goals as goal
 
 counts : (o : Option ℕ) (n : ℕ) → unwrap_or o 0 ≤ n → unwrap_or (option_map (λ k. k + 1) o) 0 ≤ n + 1
@@ -34,6 +34,7 @@ invariant_of-self c =
       few = (let P : Option ℕ → Type 0 = λ o. unwrap_or o 0 ≤ length c.push.new.self.items in
           let low = counts was.counted (length was.snapshots.items) c.self.invariant.few in
           subst P (sym counted) (omega (arith, low, long)));
+      later = none_later_more was.maps (length was.snapshots.items) (length c.push.new.self.items) (omega (arith, long)) c.self.invariant.later;
       first_past = by_now_more was.maps.first (length was.snapshots.items) (length c.push.new.self.items) (omega (arith, long)) c.self.invariant.first_past;
       changes_past = no_later_more was.maps.changes (length was.snapshots.items) (length c.push.new.self.items) (omega (arith, long)) c.self.invariant.changes_past;
       can_mark = tt;

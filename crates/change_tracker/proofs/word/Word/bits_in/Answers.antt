@@ -21,9 +21,9 @@ more w p bits now i first xs d less is before =
     assoc false b c = refl
 
 pub loop-touch-preserved : goal.loop-touch-preserved
-loop-touch-preserved c = λ place. more c.args.window place c.loop-touch.bits c.bits_in-bits-in-loop-touch.result c.loop-touch.touch-index (is_of c.args.window place c.args.self.now.latest) c.deref-touch-items.result.now (record { freezes = 0; bits = 0 }) c.loop-touch-test.true (c.bits_in-bits-in-loop-touch.ensures place) (c.loop-touch.invariant place)
+loop-touch-preserved c = λ place. more c.args.window place c.loop-touch.bits c.bits_in-bits-in-loop-touch.result c.loop-touch.touch-index (is_of c.args.window place c.args.self.now.latest) c.earlier_in-touch-items.result.now (record { freezes = 0; bits = 0 }) c.loop-touch-test.true (c.bits_in-bits-in-loop-touch.ensures place) (c.loop-touch.invariant place)
 
 pub returns : goal.returns
 returns c = λ place. c.loop-touch.invariant place
-    ∙ ap (λ (xs : List Touch). is_of c.args.window place c.args.self.now.latest || list_any (is_of c.args.window place) xs)
-    (take_all c.loop-touch.touch-index c.deref-touch-items.result.now (omega arith) ∙ c.deref-touch-items.ensures.value ∙ ap (λ (s : WordState). s.earlier) c.self.view_is)
+    ∙ ap (λ (xs : List Touch). is_of c.args.window place c.args.self.now.latest || list_any (is_of c.args.window place) xs) (take_all c.loop-touch.touch-index c.earlier_in-touch-items.result.now (omega arith))
+    ∙ ap (λ x. is_of c.args.window place c.args.self.now.latest || x) (c.earlier_in-touch-items.ensures place)
