@@ -27,9 +27,9 @@ pub enum Pick {
 
 /// A disk in memory, of a fixed room, which fails where it was told to.
 ///
-/// Its use is the bytes that it began with and, for each write, cut and sync that did what it was
-/// asked, [`CALL_USE`] and the bytes that were written. A call that would raise the use above the
-/// room fails. A call that fails changes nothing that it holds.
+/// It counts what it uses of its room: the bytes that it had at first, and then [`CALL_USE`] bytes
+/// and what is written for each write, cut and sync that succeeds. Where one finds no room it
+/// fails. Whichever call fails, what the disk holds stays as it was.
 #[derive(Debug, Drop)]
 pub struct MemDisk {
     alloc: Global,

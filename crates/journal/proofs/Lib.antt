@@ -4,6 +4,7 @@ mod OpenCells
 mod Reading
 mod Keeping
 mod Loading
+mod Crashes
 mod Results
 mod ImageLemmas
 mod AppendSteps

@@ -1,6 +1,6 @@
--- The bytes of a journal's file, and what a file stands for. The file is the magic, then one cell a
--- record, each behind a gate byte, and a last gate byte that is closed. What stands behind a closed
--- gate doesn't count, whatever it is: so an append that is cut leaves its record whole or not at all.
+-- The bytes of a journal's file, and what a file stands for. The file is the magic, then a cell for
+-- each record behind a gate byte, and a last gate byte that is closed. Nothing behind a closed gate
+-- counts, whatever it is: so an append that is cut leaves its record whole or not at all.
 use Rattle.std.specs.Prelude.{◌≡◌, ◌≢◌, ◌⊎◌, ℕ, ◌+◌, ◌<◌, ◌≤◌, ◌==◌, if◌then◌else◌, List, [], ◌∷◌, ◌++◌, length, take}
 use Rattle.std.specs.List.{flat_map, AllByRecursion}
 use Rattle.record_codec.specs.declared.record.Record.{Record}
@@ -45,8 +45,8 @@ pub record IsParsed (bytes : List ℕ) (standing : Standing) : Type 0 where
   pub ends : ¬ BeginsWithCell rest
   pub is : standing ≡ standing_at records rest
 
--- a file of a few bytes is an empty journal, since a creation that was cut may leave any such
--- bytes; one that is too long or begins otherwise is no journal
+-- a file of a few bytes is an empty journal: what is there may be left of one whose making was cut.
+-- One that is too long or begins otherwise is no journal
 pub data StandsFor (bytes : List ℕ) (standing : Standing) : Type 0 where
   Short : length bytes ≤ EMPTY_BYTES → standing ≡ Holds [] → StandsFor bytes standing
   Foreign : EMPTY_BYTES < length bytes

@@ -99,7 +99,8 @@ after_append r j = record {
   };
 }
 
--- the offset that a failed append tells: of its write, of the gate, or for a sync the length by then
+-- what a failed append tells: the offset of its write or of the gate, or for a sync the length by
+-- then
 abbrev pub IsAppendOffset : Record → JournalState → (at : ℕ) → Type 0
 IsAppendOffset r j at =
     (at ≡ j.len) ⊎ ((at ≡ j.len - 1) ⊎ (at ≡ j.len + CELL_BYTES + length (spelling r)))

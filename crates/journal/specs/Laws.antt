@@ -20,7 +20,8 @@ IsOneOf records (first ∷ lists) = (records ≡ first) ⊎ IsOneOf records list
 -- an opening gives one of the lists that a crash may have left
 abbrev pub OpensOneOf : Type 0
 OpensOneOf = (lists : List (List Record)) (old new : DiskState) (records : List Record)
-    → LeavesOneOf lists old → Opens old records new → IfSome old.contents (λ c. IsOneOf records lists)
+    → LeavesOneOf lists old → Opens old records new
+    → IfSome old.contents (λ c. IsOneOf records lists)
 
 -- a refused opening leaves no other list
 abbrev pub RefusesKeep : Type 0
@@ -34,6 +35,7 @@ CrashesKeep = (lists : List (List Record)) (old new : DiskState) → LeavesOneOf
 
 -- a journal's file is never refused for what it holds
 abbrev pub NeverStrange : Type 0
-NeverStrange = (lists : List (List Record)) (old new : DiskState) (number : ℕ) → LeavesOneOf lists old
+NeverStrange = (lists : List (List Record)) (old new : DiskState) (number : ℕ)
+    → LeavesOneOf lists old
     → (Refuses NotAJournal old new → IfSome old.contents (λ c. ⊥))
     × (Refuses (BadRecord number) old new → IfSome old.contents (λ c. ⊥))

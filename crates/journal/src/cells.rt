@@ -6,7 +6,9 @@ ghost use Rattle.journal.specs.Cells.{IsOpen, AreRead, IsFound, IsRecordRead, be
 ghost use Rattle.journal.specs.Format.{cell};
 
 use crate::JournalRefused;
-use crate::format::{CELL_BYTES, CLOSED_GATE, EMPTY_BYTES, LEAST_SPELLING, MAGIC, MAX_BYTES, OPEN_GATE};
+use crate::format::{
+    CELL_BYTES, CLOSED_GATE, EMPTY_BYTES, LEAST_SPELLING, MAGIC, MAX_BYTES, OPEN_GATE,
+};
 use byteorder::{BigEndian, ByteOrder};
 use record_codec::{CodecRefused, Record, decode, encode, spelled_len};
 use std::alloc::Global;

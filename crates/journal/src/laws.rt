@@ -1,5 +1,5 @@
-//! Laws of files and of journals across openings and crashes. Each function's contract is the law, and
-//! its body does nothing.
+//! Laws of files, and of journals across openings and crashes. Each function's contract is the law,
+//! and its body does nothing.
 ghost use Rattle.journal.specs.Laws.{StandsForAtMostOne, OpensOneOf, RefusesKeep, CrashesKeep, NeverStrange};
 
 /// No file stands for two things: its records, or why it has none, are its own.

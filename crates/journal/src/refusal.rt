@@ -10,8 +10,9 @@ use std::fmt;
 /// Why a journal can't be opened, or a record isn't taken.
 #[derive(Clone, Copy, Debug, PartialEq, Eq)]
 pub enum JournalRefused {
-    /// The disk failed: at the offset that the failed call named, or else with that length of the
-    /// file.
+    /// The disk failed. For a read, a write or a cut `at` is the offset where it was to be done.
+    /// For a sync, or where the length could not be had, it is how long the file was by then, as
+    /// far as that was known, or else 0.
     DiskFault { at: u64 },
     /// The file has more than [`crate::EMPTY_BYTES`] bytes and doesn't begin as a journal, or has
     /// more than [`crate::MAX_BYTES`].

@@ -1,6 +1,8 @@
 //! What a journal leaves on disks in memory, byte for byte, and after a stop at each of its steps.
-use crate::{Disk, Journal, JournalRefused, MAX_BYTES, Record};
+use crate::{Disk, Journal, JournalRefused, MAGIC, MAX_BYTES, Record};
+use change_id::ChangeId;
 use edge_traits::{MemDisk, Pick, StopDisk};
+use record_codec::IdList;
 use std::alloc::Global;
 use std::process::Abort;
 use std::test::Fail;
@@ -77,19 +79,24 @@ fn an_odd_closed_gate_stays(rt: HostRuntime) -> Result<(), Fail> {
 }
 
 #[test]
-fn a_record_that_runs_past_the_end_is_bad(rt: HostRuntime) -> Result<(), Fail> {
-    let mut file = ONE_CANCEL;
-    file[12] = 6;
-    let disk = MemDisk::new(rt.alloc(), &file, 1000, &[])?;
-    assert_eq!(rt;
-        refusal(rt.alloc(), disk),
-        Some(JournalRefused::BadRecord(1))
-    );
-    let disk = MemDisk::new(rt.alloc(), &ONE_CANCEL[..18], 1000, &[])?;
-    assert_eq!(rt;
-        refusal(rt.alloc(), disk),
-        Some(JournalRefused::BadRecord(2))
-    );
+fn records_that_are_cut_or_none_are_bad(rt: HostRuntime) -> Result<(), Fail> {
+    let mut longer = ONE_CANCEL;
+    longer[12] = 6;
+    let files: [(&[u8], u64); 4] = [
+        (&longer, 1),
+        (&ONE_CANCEL[..18], 2),
+        (b"WARMJNL1\x01\0\0\0\0\0", 1),
+        (b"WARMJNL1\x01\0\0\0\x01\x11\0", 1),
+    ];
+    for (file, number) in files {
+        let disk = MemDisk::new(rt.alloc(), file, 1000, &[]);
+        let refused = refusal(rt.alloc(), disk?);
+        assert_eq!(rt;
+            refused,
+            Some(JournalRefused::BadRecord(number)),
+            "{file:?}"
+        );
+    }
     Ok(())
 }
 
@@ -102,6 +109,44 @@ fn other_files_are_no_journals(rt: HostRuntime) -> Result<(), Fail> {
     );
     let disk = MemDisk::new(rt.alloc(), b"012345678", 1000, &[])?;
     assert_eq!(rt; refusal(rt.alloc(), disk), None);
+    Ok(())
+}
+
+#[test]
+fn a_file_of_more_than_the_limit_is_no_journal(rt: HostRuntime) -> Result<(), Fail> {
+    let mut file = vec![in rt.alloc(); 0; MAX_BYTES + 1]?;
+    file[..8].copy_from_slice(&MAGIC);
+    let disk = MemDisk::new(rt.alloc(), &file, MAX_BYTES + 100, &[])?;
+    assert_eq!(rt;
+        refusal(rt.alloc(), disk),
+        Some(JournalRefused::NotAJournal)
+    );
+    Ok(())
+}
+
+#[test]
+fn a_piece_that_is_not_read_is_told(rt: HostRuntime) -> Result<(), Fail> {
+    let file = vec![in rt.alloc(); 0; 70_000]?;
+    let disk = MemDisk::new(rt.alloc(), &file, 80_000, &[4])?;
+    let fault = JournalRefused::DiskFault { at: 65_536 };
+    assert_eq!(rt; refusal(rt.alloc(), disk), Some(fault));
+    Ok(())
+}
+
+#[test]
+fn a_record_past_the_limit_is_refused(rt: HostRuntime) -> Result<(), Fail> {
+    let ids = vec![in rt.alloc(); ChangeId { uuid: 1, seq: 1 }; 2_796_202]?;
+    let stored = Record::IdsStored {
+        mig: 1,
+        ids: IdList::from_vec(ids),
+    };
+    let disk = MemDisk::new(rt.alloc(), b"", 1000, &[])?;
+    let mut journal = opened(rt.alloc(), disk)?;
+    assert_eq!(rt;
+        journal.append(&stored),
+        Err(JournalRefused::Full { length: 9 })
+    );
+    assert_eq!(rt; journal.append(&cancel(1)), Ok(()));
     Ok(())
 }
 
@@ -146,9 +191,19 @@ fn run_until_stop(alloc: Global, k: u64) -> Result<(usize, MemDisk), Fail> {
     Ok((done, journal.close().into_inner()))
 }
 
-/// How many records an image has.
-fn records_after(alloc: Global, disk: &MemDisk, pick: Pick) -> Result<usize, Fail> {
-    Ok(opened(alloc, disk.image(pick)?)?.records().len())
+/// How many records an image has, which are the cancels in order.
+fn records_after(
+    rt: &impl Abort,
+    alloc: Global,
+    disk: &MemDisk,
+    pick: Pick,
+) -> Result<usize, Fail> {
+    let journal = opened(alloc, disk.image(pick)?)?;
+    let records = journal.records();
+    for (at, record) in records.iter().enumerate() {
+        assert!(rt; matches!(record, Record::CancelAsked { mig } if *mig as usize == at + 1));
+    }
+    Ok(records.len())
 }
 
 #[test]
@@ -161,18 +216,29 @@ fn a_stop_at_each_step_leaves_what_was_acknowledged_or_one_more(
     for (step, (want, most)) in acknowledged.iter().zip(&written).enumerate() {
         let (done, disk) = run_until_stop(rt.alloc(), step as u64 + 1)?;
         assert_eq!(rt; done, *want, "{step}");
-        assert_eq!(rt;
-            records_after(rt.alloc(), &disk, Pick::Old)?,
-            *want,
-            "{step}"
-        );
-        assert_eq!(rt;
-            records_after(rt.alloc(), &disk, Pick::New)?,
-            *most,
-            "{step}"
-        );
-        let mixed = records_after(rt.alloc(), &disk, Pick::Mixed(step as u64))?;
+        let old = records_after(&rt, rt.alloc(), &disk, Pick::Old)?;
+        assert_eq!(rt; old, *want, "{step}");
+        let new = records_after(&rt, rt.alloc(), &disk, Pick::New)?;
+        assert_eq!(rt; new, *most, "{step}");
+        let mixed = records_after(&rt, rt.alloc(), &disk, Pick::Mixed(step as u64))?;
         assert!(rt; *want <= mixed && mixed <= *most, "{step}");
+    }
+    Ok(())
+}
+
+#[test]
+fn a_stop_while_a_torn_end_is_cut_keeps_the_records(rt: HostRuntime) -> Result<(), Fail> {
+    for k in 1..4u64 {
+        let mut file = [1; 30];
+        file[..19].copy_from_slice(&ONE_CANCEL);
+        let disk = StopDisk::new(MemDisk::new(rt.alloc(), &file, 1000, &[])?, k);
+        let Err((disk, _)) = Journal::open(rt.alloc(), disk) else {
+            return Err("opened")?;
+        };
+        let disk = disk.into_inner();
+        for pick in [Pick::Old, Pick::New, Pick::Mixed(k)] {
+            assert_eq!(rt; records_after(&rt, rt.alloc(), &disk, pick)?, 1);
+        }
     }
     Ok(())
 }

@@ -46,8 +46,8 @@ returns-in-Ok g c =
     let longer : c.self.inside.len + c.len.result ≡ c.self.inside.len + length c.deref.result.now =
     grind (arith, common_steps) in
     let contents : (g.D.Disk.state c.append_cell.new.disk).contents
-        ≡ option_map (λ d. settled (take (c.self.inside.len - 1) d.bytes ++ OPEN_GATE ∷ c.deref.result.now))
-        (g.D.Disk.state c.self.inside.disk).contents =
+    ≡ option_map (λ d. settled (take (c.self.inside.len - 1) d.bytes ++ OPEN_GATE ∷ c.deref.result.now))
+    (g.D.Disk.state c.self.inside.disk).contents =
     grind (arith, common_steps, c.in-Ok.ensures.appended) in
     let room : c.self.inside.len + length c.deref.result.now ≤ MAX_BYTES = omega (arith, size) in
     answered_ok r _ c.args.self.now new c.deref.result.now (λ j why. (Ok tt ≡ Err why) × (new ≡ j)) c.self.view_is
