@@ -1,5 +1,5 @@
 -- What a world in memory stands for. It keeps the loose sectors of its volume as runs.
-use Rattle.std.specs.Prelude.{◌≡◌, ◌≤◌, All}
+use Rattle.std.specs.Prelude.{◌≡◌, ℕ, ◌≤◌, All, Option, Some, None}
 use Rattle.sector_model.specs.Run.{end_of}
 use Rattle.sector_model.specs.LooseRuns.{volume_of}
 use Rattle.warm_core.specs.declared.disk_world.DiskWorld.{DiskWorld}
@@ -43,3 +43,8 @@ pub record Leaves (event : Event) (old new : DiskWorld) : Type 0 where
 abbrev pub IsRefusalOf : Event → World → CoreRefused → Type 0
 IsRefusalOf event w NotNow = ¬ MayHappen event w
 IsRefusalOf event w NoMemory = MayHappen event w
+
+-- the number of a refusal; want of memory has none
+abbrev pub refusal_number : CoreRefused → Option ℕ
+refusal_number NotNow = Some 1
+refusal_number NoMemory = None

@@ -1,8 +1,13 @@
 //! The world of one disk, in memory.
+ghost use Rattle.std.specs.Prelude.{◌≡◌, [], length, IfOk};
+ghost use Rattle.warm_core.specs.DiskWorld.{world_of, StandsSound};
+ghost use Rattle.warm_core.specs.World.{IsStart};
+
 use crate::StageState;
 use change_id::ChangeId;
 use log_model::{EntryList, Snapped};
-use sector_model::{Runs, SectorList};
+use sector_model::{NoMemory, Runs, SectorList};
+use std::alloc::Global;
 
 /// The last stage that was finished.
 #[derive(Clone, Copy, Debug, PartialEq, Eq)]
@@ -43,4 +48,37 @@ pub struct DiskWorld {
     pub cancelled: bool,
     /// Where it is complete: up to which place of the log.
     pub complete: Option<u64>,
+}
+
+impl DiskWorld {
+    /// A world in which nothing was done yet, of a machine to which nothing happened. The volume
+    /// holds anything, and has as many sectors as the disk. It answers only want of memory.
+    pub fn new(
+        alloc: Global,
+        machine: u32,
+        disk: u32,
+        volume: SectorList,
+    ) -> Result<DiskWorld, NoMemory>
+        ensures start { IfOk result (λ world. IsStart (world_of world)) }
+        ensures sound { IfOk result StandsSound }
+        ensures disk { IfOk result (λ world. world.disk ≡ disk) }
+        ensures volume { IfOk result (λ world. world.volume ≡ volume) }
+        ensures log { IfOk result (λ world. world.log ≡ []) }
+    {
+        Ok(DiskWorld {
+            machine,
+            disk,
+            capacity: volume.as_slice().len() as u64,
+            log: EntryList::of(alloc, &[])?,
+            volume,
+            loose: Runs::new(alloc),
+            base: None,
+            snap: None,
+            last: false,
+            stage: None,
+            running: true,
+            cancelled: false,
+            complete: None,
+        })
+    }
 }

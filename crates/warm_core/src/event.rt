@@ -1,5 +1,6 @@
 //! What may happen to the world of one disk.
 ghost use Rattle.std.specs.Prelude.{◌≡◌};
+ghost use Rattle.warm_core.specs.DiskWorld.{refusal_number};
 
 use log_model::Entry;
 use sector_model::{NoMemory, Run, SectorList};
@@ -47,6 +48,18 @@ pub enum CoreRefused {
     NotNow,
     /// Memory ran out.
     NoMemory,
+}
+
+impl CoreRefused {
+    /// The number of the refusal. Want of memory has none.
+    pub fn number(&self) -> Option<u8>
+        ensures { result ≡ refusal_number self.now }
+    {
+        match self {
+            CoreRefused::NotNow => Some(1),
+            CoreRefused::NoMemory => None,
+        }
+    }
 }
 
 impl fmt::Display for CoreRefused {

@@ -16,6 +16,8 @@ mod event;
 mod laws;
 mod stage_state;
 mod stepping;
+#[cfg(test)]
+mod tests;
 
 pub use disk_world::{Base, DiskWorld};
 pub use event::{CoreRefused, Event};
@@ -24,4 +26,4 @@ pub use laws::{
     whatever_happens, worlds_stay_sound,
 };
 pub use stage_state::{MAX_PIECE_SECTORS, Piece, StageState};
-pub use stepping::step;
+pub use stepping::{follow, step};

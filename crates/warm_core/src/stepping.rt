@@ -1,11 +1,13 @@
-//! One event happens to the world of one disk.
-ghost use Rattle.std.specs.Prelude.{◌≡◌, ◌≤◌, ◌↔◌, IfOk, IfErr, OnOk, OnErr, IsTrue};
-ghost use Rattle.warm_core.specs.DiskWorld.{world_of, LooseLiesWithin, StandsSound, IsRefusalOf};
-ghost use Rattle.warm_core.specs.Events.{MayHappen, after};
+//! Events happen to the world of one disk, one or more in a row.
+ghost use Rattle.std.specs.Prelude.{◌≡◌, ℕ, IfOk, IfErr, OnOk, take};
+ghost use Rattle.warm_core.specs.DiskWorld.{world_of, StandsSound, IsRefusalOf};
+ghost use Rattle.warm_core.specs.Events.{MayHappen, after, Follows};
+ghost use Rattle.warm_core.specs.Laws.{GoesOn};
 
 use crate::conditions::may_happen;
 use crate::effects::carry_out;
 use crate::{CoreRefused, DiskWorld, Event};
+use sector_model::NoMemory;
 use std::alloc::Global;
 
 /// Carries an event out on a sound world, which stays sound. [`CoreRefused::NotNow`] exactly where
@@ -30,4 +32,29 @@ pub fn step(
         Ok(()) => Ok(world),
         Err(_) => Err((world, CoreRefused::NoMemory)),
     }
+}
+
+/// Carries events out in a row, each where it may happen then, and passes over the others. Whatever
+/// they are, a sound world stays sound, and one that is complete stays so. Where memory runs out,
+/// it gives back the world as it is after the events up to there.
+pub fn follow(
+    alloc: Global,
+    mut world: DiskWorld,
+    events: Vec<Event>,
+) -> Result<DiskWorld, (DiskWorld, NoMemory)>
+    requires { StandsSound world }
+    ensures all { IfOk result (λ end. Follows events.items (world_of world) (world_of end)) }
+    ensures law { IfOk result (λ end. GoesOn (world_of world) (world_of end)) }
+    ensures sound { IfOk result StandsSound }
+    ensures cut { IfErr result (λ cut. StandsSound cut.0 × ((n : ℕ)
+        × Follows (take n events.items) (world_of world) (world_of cut.0))) }
+{
+    for event in events {
+        world = match step(alloc, world, event) {
+            Ok(next) => next,
+            Err((same, CoreRefused::NotNow)) => same,
+            Err((same, CoreRefused::NoMemory)) => return Err((same, NoMemory)),
+        };
+    }
+    Ok(world)
 }
