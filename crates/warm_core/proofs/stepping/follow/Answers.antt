@@ -51,8 +51,11 @@ returns-in-Err-default-NoMemory-clause-cut c =
     let yielded = c.loop-event.yielded in
     let left = c.loop-event.invariant.left ∙ c.into_iter-event-iterator.ensures.into_iter_gives.0 in (
       subst (λ (w : DiskWorld). StandsSound w) (sym kept) c.loop-event.invariant.sound,
-      (length yielded, subst (λ (w : DiskWorld). Follows (take (length yielded) c.args.events.items) (world_of c.args.world) (world_of w)) (sym kept)
-      (followed-front yielded c.loop-event.event-iterator.rest.items c.args.events.items (world_of c.args.world) (world_of old) left c.loop-event.invariant.all)),
+      (
+        length yielded,
+        subst (λ (w : DiskWorld). Follows (take (length yielded) c.args.events.items) (world_of c.args.world) (world_of w)) (sym kept)
+            (followed-front yielded c.loop-event.event-iterator.rest.items c.args.events.items (world_of c.args.world) (world_of old) left c.loop-event.invariant.all),
+      ),
     )
 
 pub returns-clause-law : goal.returns-clause-law
