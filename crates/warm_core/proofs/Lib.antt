@@ -9,6 +9,8 @@ pub mod Begins
 pub mod Ends
 pub mod Entries
 pub mod Core
+pub mod Starts
+pub mod Following
 pub mod Pieces
 pub mod Answered
 pub mod AskedLemmas

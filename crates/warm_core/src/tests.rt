@@ -150,7 +150,10 @@ fn a_reset_refuses_the_page(rt: HostRuntime) -> Result<(), Fail> {
     assert!(rt; !went);
     let (world, went) = go(alloc, world, Event::PageRefused)?;
     assert!(rt; went);
-    assert_eq!(rt; world.stage.map(|stage| (stage.full, stage.at)), Some((true, 0)));
+    assert_eq!(rt;
+        world.stage.map(|stage| (stage.full, stage.at)),
+        Some((true, 0))
+    );
     Ok(())
 }
 
