@@ -256,7 +256,7 @@ flag-at n runs k less =
     slice_get-map (in_runs runs) (range_with_len 0 n) k
     ∙ ap (option_map (in_runs runs)) (slice_get-get_or (range_with_len 0 n) k 0 (omega (arith, less, length-range_with_len 0 n)) ∙ ap Some (get_or-range_with_len 0 n k 0 less ∙ (let z : 0 + k ≡ k = omega arith in z)))
 
-pub length-flags : (n : ℕ) (runs : List Run) → length (flags_of n runs) ≡ n
+length-flags : (n : ℕ) (runs : List Run) → length (flags_of n runs) ≡ n
 length-flags n runs = length-map-range_with_len (in_runs runs) 0 n
 
 same_flags : (xs ys : List Bool) → length xs ≡ length ys → ((s : ℕ) → s < length xs → slice_get xs s ≡ slice_get ys s) → xs ≡ ys

@@ -7,7 +7,8 @@ use Rattle.sector_model.specs.VolumeContents.{IsSized}
 use Rattle.sector_model.specs.LooseRuns.{volume_of}
 use Rattle.sector_model.specs.declared.run.Run.{Run}
 use Rattle.sector_model.specs.declared.sector.Sector.{Sector}
-use Rattle.sector_model.proofs.LooseRuns.{length-flags}
+use Rattle.std.proofs.lemmas.List.FromFn.{length-map-range_with_len}
+use Rattle.sector_model.specs.Run.{in_runs}
 use Rattle.log_model.specs.declared.entry.Entry.{Entry}
 use Rattle.log_model.specs.Legal.{Disks, Legal}
 use Rattle.warm_core.specs.World.{World, IsStart, IsSound}
@@ -21,7 +22,7 @@ legal-none disks log is = subst (λ (xs : List Entry). Legal disks xs) (sym is) 
 })
 
 pub sized-of : (sectors : List Sector) (loose : List Run) (c : ℕ) → length sectors ≡ c → IsSized c (volume_of sectors loose)
-sized-of sectors loose c is = (is, length-flags (length sectors) loose ∙ is)
+sized-of sectors loose c is = (is, length-map-range_with_len (in_runs loose) 0 (length sectors) ∙ is)
 
 none-is-some : {A : Type 0} (o : Option A) → o ≡ None → IsSome o → ⊥
 none-is-some None is some = false≢true some
