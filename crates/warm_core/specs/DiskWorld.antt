@@ -1,5 +1,5 @@
 -- What a world in memory stands for. It keeps the loose sectors of its volume as runs.
-use Rattle.std.specs.Prelude.{◌≡◌, ℕ, ◌≤◌, All, Option, Some, None}
+use Rattle.std.specs.Prelude.{◌≡◌, ℕ, ◌≤◌, All, List, Option, Some, None, codes}
 use Rattle.sector_model.specs.Run.{end_of}
 use Rattle.sector_model.specs.LooseRuns.{volume_of}
 use Rattle.warm_core.specs.declared.disk_world.DiskWorld.{DiskWorld}
@@ -48,3 +48,8 @@ IsRefusalOf event w NoMemory = MayHappen event w
 abbrev pub refusal_number : CoreRefused → Option ℕ
 refusal_number NotNow = Some 1
 refusal_number NoMemory = None
+
+-- how a refusal is told
+abbrev pub refusal_text : CoreRefused → List ℕ
+refusal_text NotNow = codes "not now"
+refusal_text NoMemory = codes "no memory"

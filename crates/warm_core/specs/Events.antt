@@ -1,6 +1,6 @@
 -- What may happen to the world of one disk, and what it leaves. Each event has one condition and one
 -- effect; where its condition doesn't hold, it isn't carried out and leaves nothing.
-use Rattle.std.specs.Prelude.{◌≡◌, ℕ, ◌+◌, ◌<◌, ◌≤◌, ◌==◌, ◌⊎◌, List, [], ◌∷◌, ◌++◌, length, Bool, true, false, Option, Some, None, IsSome, IfSome, IsSomeAnd, is_none, option_map, Result, Ok, Err, IsOk, IsErr}
+use Rattle.std.specs.Prelude.{◌≡◌, ℕ, ◌+◌, ◌<◌, ◌≤◌, ◌==◌, ◌⊎◌, List, [], ◌∷◌, ◌++◌, length, take, slice_get, Bool, true, false, Option, Some, None, IsSome, IfSome, IsSomeAnd, is_none, option_map, Result, Ok, Err, IsOk, IsErr}
 use Rattle.std.specs.Option.{ForSome, option_and_then}
 use Rattle.sector_model.specs.Run.{end_of}
 use Rattle.sector_model.specs.Page.{page_from}
@@ -160,3 +160,8 @@ abbrev pub Follows : List Event → (old new : World) → Type 0
 Follows [] old new = new ≡ old
 Follows (event ∷ events) old new =
     (next : World) × Steps event old next × Follows events next new
+
+-- the events before one of them were followed, and that one might happen then
+abbrev pub IsCutShort : List Event → (old new : World) → Type 0
+IsCutShort events old new = (n : ℕ) × Follows (take n events) old new
+    × IsSomeAnd (slice_get events n) (λ event. MayHappen event new)

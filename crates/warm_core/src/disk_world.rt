@@ -1,5 +1,5 @@
 //! The world of one disk, in memory.
-ghost use Rattle.std.specs.Prelude.{◌≡◌, [], length, IfOk};
+ghost use Rattle.std.specs.Prelude.{◌≡◌, [], length, true, false, None, IfOk};
 ghost use Rattle.warm_core.specs.DiskWorld.{world_of, StandsSound};
 ghost use Rattle.warm_core.specs.World.{IsStart};
 
@@ -61,9 +61,21 @@ impl DiskWorld {
     ) -> Result<DiskWorld, NoMemory>
         ensures start { IfOk result (λ world. IsStart (world_of world)) }
         ensures sound { IfOk result StandsSound }
-        ensures disk { IfOk result (λ world. world.disk ≡ disk) }
-        ensures volume { IfOk result (λ world. world.volume ≡ volume) }
-        ensures log { IfOk result (λ world. world.log ≡ []) }
+        ensures made { IfOk result (λ world. world ≡ record {
+          machine = machine;
+          disk = disk;
+          capacity = length volume;
+          log = [];
+          volume = volume;
+          loose = [];
+          base = None;
+          snap = None;
+          last = false;
+          stage = None;
+          running = true;
+          cancelled = false;
+          complete = None;
+        }) }
     {
         Ok(DiskWorld {
             machine,

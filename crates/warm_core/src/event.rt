@@ -63,11 +63,16 @@ impl CoreRefused {
 }
 
 impl fmt::Display for CoreRefused {
+    ghost use Rattle.std.specs.Prelude.{Some};
+    ghost use Rattle.warm_core.specs.DiskWorld.{refusal_text};
+
+    ghost output = { λ refusal. Some (refusal_text refusal) };
+
     fn fmt<W: fmt::Write>(&self, f: &mut fmt::Formatter<W>) -> fmt::Result {
-        f.write_str(match self {
-            CoreRefused::NotNow => "not now",
-            CoreRefused::NoMemory => "no memory",
-        })
+        match self {
+            CoreRefused::NotNow => write!(f, "not now"),
+            CoreRefused::NoMemory => write!(f, "no memory"),
+        }
     }
 }
 

@@ -1,7 +1,7 @@
 //! Events happen to the world of one disk, one or more in a row.
-ghost use Rattle.std.specs.Prelude.{◌≡◌, ℕ, IfOk, IfErr, OnOk, take};
+ghost use Rattle.std.specs.Prelude.{◌≡◌, IfOk, IfErr, OnOk};
 ghost use Rattle.warm_core.specs.DiskWorld.{world_of, StandsSound, IsRefusalOf};
-ghost use Rattle.warm_core.specs.Events.{MayHappen, after, Follows};
+ghost use Rattle.warm_core.specs.Events.{MayHappen, after, Follows, IsCutShort};
 ghost use Rattle.warm_core.specs.Laws.{GoesOn};
 
 use crate::conditions::may_happen;
@@ -35,8 +35,8 @@ pub fn step(
 }
 
 /// Carries events out in a row, each where it may happen then, and passes over the others. Whatever
-/// they are, a sound world stays sound, and one that is complete stays so. Where memory runs out,
-/// it gives back the world as it is after the events up to there.
+/// they are, a sound world stays sound, and one that is complete stays so. Where memory runs out at
+/// an event that might happen, it gives back the world as the events before that one left it.
 pub fn follow(
     alloc: Global,
     mut world: DiskWorld,
@@ -46,8 +46,9 @@ pub fn follow(
     ensures all { IfOk result (λ end. Follows events.items (world_of world) (world_of end)) }
     ensures law { IfOk result (λ end. GoesOn (world_of world) (world_of end)) }
     ensures sound { IfOk result StandsSound }
-    ensures cut { IfErr result (λ cut. StandsSound cut.0 × ((n : ℕ)
-        × Follows (take n events.items) (world_of world) (world_of cut.0))) }
+    ensures cut { IfErr result (λ cut. StandsSound cut.0
+        × IsCutShort events.items (world_of world) (world_of cut.0)) }
+    ensures law_cut { IfErr result (λ cut. GoesOn (world_of world) (world_of cut.0)) }
 {
     for event in events {
         world = match step(alloc, world, event) {

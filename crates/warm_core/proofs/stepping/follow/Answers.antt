@@ -1,11 +1,14 @@
-use Rattle.std.proofs.Common.{◌≡◌, [], ◌∷◌, ◌++◌, ◌<◌, ◌^◌, List, length, take, sym, ap, subst, ◌∙◌, inl, inr, arith, append_assoc}
+use Rattle.std.proofs.Common.{◌≡◌, [], ◌∷◌, ◌++◌, ◌<◌, ◌^◌, List, length, take, Option, Some, refl, sym, ap, subst, ◌∙◌, inl, inr, arith, append_assoc}
+use Rattle.std.specs.List.{slice_get}
+use Rattle.std.specs.Option.{IsSomeAnd}
 use Rattle.std.proofs.Math.Seq.{take-append_seam}
 use Rattle.warm_core.specs.declared.disk_world.DiskWorld.{DiskWorld}
 use Rattle.warm_core.specs.declared.event.Event.{Event}
 use Rattle.warm_core.specs.declared.event.CoreRefused.{CoreRefused}
 use Rattle.warm_core.specs.DiskWorld.{world_of, StandsSound, IsRefusalOf}
 use Rattle.warm_core.specs.World.{World}
-use Rattle.warm_core.specs.Events.{Steps, Follows}
+use Rattle.warm_core.specs.Events.{MayHappen, Steps, Follows, IsCutShort}
+use Rattle.warm_core.specs.Laws.{GoesOn}
 use Rattle.warm_core.proofs.Core.{law_of_the_core}
 use Rattle.warm_core.proofs.Following.{follows-one-more}
 use Rattle.warm_core.proofs.stepping.follow.Goals as goal
@@ -43,20 +46,43 @@ followed-front : (yielded rest all : List Event) (a b : World) → yielded ++ re
 followed-front yielded rest all a b left follows =
     subst (λ (xs : List Event). Follows xs a b) (sym (ap (take (length yielded)) (sym left) ∙ take-append_seam yielded rest)) follows
 
+-- and the next of them stands behind
+next-of : (yielded more : List Event) (event : Event) → slice_get (yielded ++ event ∷ more) (length yielded) ≡ Some event
+next-of [] more event = refl
+next-of (first ∷ yielded) more event = next-of yielded more event
+
+cut-at : (yielded rest more all : List Event) (event : Event) (a b : World) → yielded ++ rest ≡ all → rest ≡ event ∷ more → Follows yielded a b → MayHappen event b → IsCutShort all a b
+cut-at yielded rest more all event a b left is follows may =
+    let next : slice_get all (length yielded) ≡ Some event =
+    ap (λ (xs : List Event). slice_get xs (length yielded)) (sym left ∙ ap (λ (xs : List Event). yielded ++ xs) is) ∙ next-of yielded more event in
+    (
+      length yielded,
+      followed-front yielded rest all a b left follows,
+      subst (λ (o : Option Event). IsSomeAnd o (λ e. MayHappen e b)) (sym next) may,
+    )
+
 pub returns-in-Err-default-NoMemory-clause-cut : goal.returns-in-Err-default-NoMemory-clause-cut
 returns-in-Err-default-NoMemory-clause-cut c =
     let old = c.loop-event.world in
     let same = c.in-Err-default-NoMemory.same in
     let kept : same ≡ old = c.in-Err-default-NoMemory.ensures.kept in
     let yielded = c.loop-event.yielded in
-    let left = c.loop-event.invariant.left ∙ c.into_iter-event-iterator.ensures.into_iter_gives.0 in (
+    let event = c.in-Some.event in
+    let left = c.loop-event.invariant.left ∙ c.into_iter-event-iterator.ensures.into_iter_gives.0 in
+    let may = subst (λ (why : CoreRefused). IsRefusalOf event (world_of old) why) c.in-Err-default-NoMemory.field-0-1-is c.in-Err-default-NoMemory.ensures.refused in
+    (
       subst (λ (w : DiskWorld). StandsSound w) (sym kept) c.loop-event.invariant.sound,
-      (
-        length yielded,
-        subst (λ (w : DiskWorld). Follows (take (length yielded) c.args.events.items) (world_of c.args.world) (world_of w)) (sym kept)
-            (followed-front yielded c.loop-event.event-iterator.rest.items c.args.events.items (world_of c.args.world) (world_of old) left c.loop-event.invariant.all),
-      ),
+      subst (λ (w : DiskWorld). IsCutShort c.args.events.items (world_of c.args.world) (world_of w)) (sym kept)
+          (cut-at yielded c.loop-event.event-iterator.rest.items c.next.new.self.rest.items c.args.events.items event (world_of c.args.world) (world_of old) left
+          (c.in-Some.ensures.steps.0) c.loop-event.invariant.all may),
     )
+
+pub returns-in-Err-default-NoMemory-clause-law_cut : goal.returns-in-Err-default-NoMemory-clause-law_cut
+returns-in-Err-default-NoMemory-clause-law_cut c =
+    let old = c.loop-event.world in
+    let kept : c.in-Err-default-NoMemory.same ≡ old = c.in-Err-default-NoMemory.ensures.kept in
+    subst (λ (w : DiskWorld). GoesOn (world_of c.args.world) (world_of w)) (sym kept)
+    (law_of_the_core c.loop-event.yielded (world_of c.args.world) (world_of old) (omega arith) c.requires.sound c.loop-event.invariant.all)
 
 pub returns-clause-law : goal.returns-clause-law
 returns-clause-law c =
