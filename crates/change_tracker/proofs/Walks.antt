@@ -7,8 +7,8 @@ use Rattle.change_tracker.specs.declared.word.Window.{Window}
 use Rattle.change_tracker.specs.Touches.{WordState, TouchState, has_bit, touched_at, touched_in, word_of, is_touched}
 use Rattle.change_tracker.proofs.Bits.{and_has, not_has, from_has, none_has}
 
-pub in_word : (t : TouchState) (w : Window) (b word : ℕ) (x : WordState) → b / 64 ≡ word → word_of t word ≡ Some x → is_touched t w b ≡ touched_at w (b % 64) x
-in_word t w b word x at here = ap (λ n. touched_in w (b % 64) (word_of t n)) at ∙ ap (touched_in w (b % 64)) here
+pub in_word : (t : TouchState) (w : Window) (b word : ℕ) → b / 64 ≡ word → is_touched t w b ≡ touched_in w (b % 64) (word_of t word)
+in_word t w b word at = ap (λ n. touched_in w (b % 64) (word_of t n)) at
 
 pub no_word : (t : TouchState) (w : Window) (b : ℕ) → word_of t (b / 64) ≡ None → is_touched t w b ≡ false
 no_word t w b none = ap (touched_in w (b % 64)) none
@@ -56,28 +56,27 @@ no_bits n p none = ap (λ x. has_bit x p) none ∙ none_has p
 -- ---- the next block that was touched
 
 -- a word that is met from block `at` on, and its bits inside the window
-pub record Met (t : TouchState) (w : Window) (at word bits : ℕ) (x : WordState) : Type 0 where
+pub record Met (t : TouchState) (w : Window) (at word bits : ℕ) : Type 0 where
   pub from : at / 64 ≤ word
-  pub here : word_of t word ≡ Some x
   pub between : (v : ℕ) → at / 64 ≤ v → v < word → word_of t v ≡ None
-  pub told : (p : ℕ) → has_bit bits p ≡ touched_at w p x
+  pub told : (p : ℕ) → has_bit bits p ≡ touched_in w p (word_of t word)
 
-pub none_before : (t : TouchState) (w : Window) (at word bits first k b : ℕ) (x : WordState) → Met t w at word bits x → first ≡ max at (64 * word) → k ≤ 64
+pub none_before : (t : TouchState) (w : Window) (at word bits first k b : ℕ) → Met t w at word bits → first ≡ max at (64 * word) → k ≤ 64
     → ((p : ℕ) → p < k → has_bit (masked bits first) p ≡ false) → at ≤ b → b < 64 * word + k → is_touched t w b ≡ false
-none_before t w at word bits first k b x met is few none from less =
+none_before t w at word bits first k b met is few none from less =
     let low = met.from in
     elim (cases_lt (b / 64) word) [
       | inl early ↦ no_word t w b (met.between (b / 64) (omega (arith, from)) early)
       | inr late ↦ let same : b / 64 ≡ word = omega (arith, late, less, few) in
-          in_word t w b word x same met.here ∙ sym (met.told (b % 64)) ∙ clear bits first (b % 64) (omega arith) (omega (arith, is, same, from, low)) (none (b % 64) (omega (arith, same, less)))
+          in_word t w b word same ∙ sym (met.told (b % 64)) ∙ clear bits first (b % 64) (omega arith) (omega (arith, is, same, from, low)) (none (b % 64) (omega (arith, same, less)))
     ]
 
-pub touched_here : (t : TouchState) (w : Window) (at word bits first k : ℕ) (x : WordState) → Met t w at word bits x → first ≡ max at (64 * word) → Lowest (masked bits first) k → is_touched t w (64 * word + k) ≡ true
-touched_here t w at word bits first k x met is low =
+pub touched_here : (t : TouchState) (w : Window) (at word bits first k : ℕ) → Met t w at word bits → first ≡ max at (64 * word) → Lowest (masked bits first) k → is_touched t w (64 * word + k) ≡ true
+touched_here t w at word bits first k met is low =
     let inside = low.within in
     let same : (64 * word + k) / 64 ≡ word = omega (arith, inside) in
     let place : (64 * word + k) % 64 ≡ k = omega (arith, inside) in
-    in_word t w (64 * word + k) word x same met.here ∙ ap (λ p. touched_at w p x) place ∙ sym (met.told k)
+    in_word t w (64 * word + k) word same ∙ ap (λ p. touched_in w p (word_of t word)) place ∙ sym (met.told k)
     ∙ and_left (has_bit bits k) (leb (first % 64) k) (sym (masked_has bits first k inside) ∙ low.here)
 
 -- the lowest bit is of a block from `at` on

@@ -70,3 +70,7 @@ inside w place xs start count low high =
 pub rising_push : (from bound : ℕ) (xs : List Touch) (x : Touch) (top : ℕ) → AreRising from bound xs → bound ≤ x.freezes → x.freezes < top → AreRising from top (xs ++ x ∷ [])
 rising_push from bound [] x top are le less = (omega (arith, are, le), omega (arith, less))
 rising_push from bound (y ∷ xs) x top are le less = (are.0, rising_push (y.freezes + 1) bound xs x top are.1 le less)
+
+pub rising_more : (from bound top : ℕ) (xs : List Touch) → bound ≤ top → AreRising from bound xs → AreRising from top xs
+rising_more from bound top [] le are = omega (arith, le, are)
+rising_more from bound top (x ∷ xs) le are = (are.0, rising_more (x.freezes + 1) bound top xs le are.1)

@@ -20,7 +20,7 @@ pub record KeepsPlaces (freezes : ℕ) (old new : Maps) : Type 0 where
   pub first : KeepsRoom old.first new.first freezes
   pub changes : KeepsRoom old.changes new.changes freezes
 
--- in neither map a word was touched after more than this many freezes
+-- in neither map a word was touched or has a place after more than this many freezes
 pub record NoneTouchedLater (maps : Maps) (freezes : ℕ) : Type 0 where
   pub first : NoneLater maps.first freezes
   pub changes : NoneLater maps.changes freezes

@@ -1,6 +1,6 @@
 -- How touches are kept: under the number of each word, which is 64 blocks, the bits of the blocks
 -- that were touched between two freezes, beside how many freezes came before.
-use Rattle.std.specs.Prelude.{◌≡◌, ℕ, ◌+◌, ◌*◌, ◌/◌, ◌%◌, ◌<◌, ◌≤◌, ◌==◌, ◌&&◌, ◌||◌, nat_lt, nat_le, List, [], ◌∷◌, ◌++◌, Bool, false, not, Option, Some, None, IsSomeAnd, IfSome, if◌then◌else◌}
+use Rattle.std.specs.Prelude.{◌≡◌, ℕ, ◌+◌, ◌*◌, ◌/◌, ◌%◌, ◌<◌, ◌≤◌, ◌==◌, ◌&&◌, ◌||◌, nat_lt, nat_le, List, [], ◌∷◌, ◌++◌, Bool, true, false, Option, Some, None, IsSomeAnd, IfSome, if◌then◌else◌}
 use Rattle.std.specs.List.{list_any}
 use Rattle.std.specs.Int.{bit_at}
 use Rattle.std.specs.Map.{lookup}
@@ -12,7 +12,8 @@ use Rattle.change_tracker.specs.declared.word.Touch.{Touch}
 use Rattle.change_tracker.specs.declared.word.Window.{Window}
 use Rattle.change_tracker.specs.declared.word.TheConstants.{WORD_BLOCKS}
 
--- the touches of a word's blocks: those since the latest freeze that had some, and the earlier ones
+-- the touches of a word's blocks: those after the latest freeze for which a place was made, and the
+-- earlier ones
 pub record WordState : Type 0 where
   pub latest : Touch
   pub earlier : List Touch
@@ -62,7 +63,7 @@ HasRoom touches word freezes =
 abbrev pub KeepsRoom : (old new : TouchState) (freezes : ℕ) → Type 0
 KeepsRoom old new freezes = (word : ℕ) → HasRoom old word freezes → HasRoom new word freezes
 
--- no word was touched after more than this many freezes
+-- no word was touched, and none has a place for touches, after more than this many freezes
 abbrev pub NoneLater : TouchState → (freezes : ℕ) → Type 0
 NoneLater touches freezes = (word : ℕ)
     → IfSome (word_of touches word) (λ w. w.latest.freezes ≤ freezes)
@@ -75,13 +76,21 @@ IsAdded old new word freezes bits = (window : Window) (block : ℕ)
     || (is_inside window freezes
     && (block / WORD_BLOCKS == word && has_bit bits (block % WORD_BLOCKS))))
 
--- the first block from one on, and before another, that was touched inside the window, or wasn't;
--- else none
-pub record IsFirst (touches : TouchState) (window : Window) (is : Bool) (from block : ℕ)
-    : Type 0 where
+-- a word was looked up: these are the bits of its blocks that were touched inside the window
+abbrev pub IsSeen : TouchState → Window → (word bits : ℕ) → Type 0
+IsSeen touches window word bits =
+    (place : ℕ) → has_bit bits place ≡ touched_in window place (word_of touches word)
+
+-- no word between the two has an entry
+pub record IsAhead (touches : TouchState) (word next : ℕ) : Type 0 where
+  pub from_on : word ≤ next
+  pub between : (w : ℕ) → word ≤ w → w < next → word_of touches w ≡ None
+
+-- the first block from one on that was touched inside the window
+pub record IsFirst (touches : TouchState) (window : Window) (from block : ℕ) : Type 0 where
   pub from_on : from ≤ block
-  pub passes : is_touched touches window block ≡ is
-  pub earlier : (b : ℕ) → from ≤ b → b < block → is_touched touches window b ≡ not is
+  pub passes : is_touched touches window block ≡ true
+  pub earlier : (b : ℕ) → from ≤ b → b < block → is_touched touches window b ≡ false
 
 -- the blocks of the disk that were touched inside the window
 abbrev pub blocks_in : (capacity : ℕ) → TouchState → Window → List ℕ

@@ -10,19 +10,21 @@ use Rattle.change_id.specs.declared.ChangeId.{ChangeId}
 use Rattle.change_tracker.specs.declared.refusals.TrackRefused.{TrackRefused}
 use Rattle.change_tracker.specs.declared.refusals.TrackRefused.TheVariants.{Range}
 
--- a snapshot that was frozen. A reset forgets its changes and nothing else of it.
+-- a snapshot that was frozen. A later reset forgets its changes and nothing else of it.
 pub record Snapshot : Type 0 where
   pub id : ℕ
   pub change_id : Option ChangeId  -- none where tracking wasn't enabled before it
   pub blocks : List ℕ  -- touched before it, ascending
-  pub changes : List ℕ  -- touched since the snapshot before it, ascending
+  -- touched since the snapshot before it and the last reset before it, ascending
+  pub changes : List ℕ
 
 pub record TrackerState : Type 0 where
   pub machine : ℕ
   pub disk : ℕ
   pub capacity : ℕ
   pub epoch : ℕ  -- how often tracking was reset
-  pub counted : Option ℕ  -- snapshots since it was enabled and last reset
+  -- snapshots since tracking was enabled and last reset, none before it was enabled
+  pub counted : Option ℕ
   pub blocks : List ℕ  -- touched so far, ascending
   pub changes : List ℕ  -- touched since the last snapshot and the last reset, ascending
   pub snapshots : List Snapshot  -- in the order in which they were frozen

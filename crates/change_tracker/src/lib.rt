@@ -3,7 +3,7 @@
 //!
 //! A tracker is told what is written, and when a snapshot is frozen. It keeps, under the number of
 //! each word of 64 blocks, which of them were touched between two freezes; and, once for each block,
-//! when it was touched first, which alone outlives a reset.
+//! when it was touched first, which outlives a reset.
 #![tactic(auto)]
 
 mod kept;

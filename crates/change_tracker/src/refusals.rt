@@ -32,8 +32,14 @@ impl fmt::Display for TrackRefused {
     fn fmt<W: fmt::Write>(&self, f: &mut fmt::Formatter<W>) -> fmt::Result {
         match self {
             TrackRefused::UnknownSnap => write!(f, "no snapshot was frozen under that id"),
-            TrackRefused::Range => write!(f, "the range is empty or passes the disk's end"),
-            TrackRefused::Strange(_) => write!(f, "the identifier is not of this epoch"),
+            TrackRefused::Range => write!(
+                f,
+                "the range is empty or passes the disk's end, or starts at it"
+            ),
+            TrackRefused::Strange(_) => write!(
+                f,
+                "the identifier is none of this epoch up to the snapshot"
+            ),
             TrackRefused::NoMemory => write!(f, "out of memory"),
         }
     }

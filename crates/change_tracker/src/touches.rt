@@ -1,8 +1,8 @@
 //! Touches of a disk's blocks, and pages of the areas that were touched.
-ghost use Rattle.std.specs.Prelude.{◌≡◌, ◌+◌, ◌*◌, ◌/◌, ◌<◌, ◌≤◌, ◌^◌, [], ℕ, true, false, Some, None, MatchOption, OnOk};
+ghost use Rattle.std.specs.Prelude.{◌≡◌, ◌+◌, ◌*◌, ◌/◌, ◌<◌, ◌≤◌, ◌^◌, [], ℕ, true, false, Some, None, MatchOption, MatchBool, OnOk};
 ghost use Rattle.sector_model.specs.Run.{block_count, next_run};
 ghost use Rattle.sector_model.specs.Page.{page_from};
-ghost use Rattle.change_tracker.specs.Touches.{TouchState, word_of, is_touched, touched_in, has_bit, HasSame, HasRoom, KeepsRoom, NoneLater, IsAdded, IsFirst, areas_in};
+ghost use Rattle.change_tracker.specs.Touches.{TouchState, word_of, is_touched, touched_in, has_bit, HasSame, HasRoom, KeepsRoom, NoneLater, IsAdded, IsFirst, IsSeen, IsAhead, areas_in};
 
 use crate::word::{WORD_BLOCKS, Window, Word};
 use sector_model::{BLOCK_SECTORS, NoMemory, PAGE_AREAS, Page, Run};
@@ -10,7 +10,15 @@ use std::alloc::Global;
 use std::collections::BTreeMap;
 use std::marker::Model;
 
-/// The words of which a block was touched, under their numbers.
+/// A word that was looked up, and which of its blocks were touched inside a window.
+#[derive(Clone, Copy, Debug, PartialEq, Eq)]
+pub struct Seen {
+    word: u64,
+    bits: u64,
+}
+
+/// Words under their numbers: those of which a block was touched, and those for which a place was
+/// made.
 #[derive(Debug, Drop)]
 pub struct Touches {
     words: BTreeMap<u64, Word>,
@@ -79,7 +87,7 @@ impl Touches {
         }
     }
 
-    /// The first word from `word` on of which a block was ever touched.
+    /// The first word from `word` on that has an entry.
     fn next_word(&self, word: u64) -> Option<(u64, &Word)>
         ensures { MatchOption result
             ((w : ℕ) → word ≤ w → w < 2 ^ 64 → word_of self.now w ≡ None)
@@ -90,21 +98,56 @@ impl Touches {
         Some((*next, touches))
     }
 
+    /// Looks a word up, unless it is the last one that was.
+    fn look_up(&self, window: Window, word: u64, seen: &mut Seen)
+        requires { IsSeen self.now window seen.old.word seen.old.bits }
+        ensures word { seen.new.word ≡ word }
+        ensures seen { IsSeen self.now window seen.new.word seen.new.bits }
+    {
+        if seen.word != word {
+            let bits = self.bits_in(word, window);
+            *seen = Seen { word, bits };
+        }
+    }
+
+    /// Looks up the first word from `word` on that has an entry, unless `word` is the last one that
+    /// was looked up. Whether there is one.
+    fn look_ahead(&self, window: Window, word: u64, seen: &mut Seen) -> bool
+        requires { IsSeen self.now window seen.old.word seen.old.bits }
+        ensures seen { IsSeen self.now window seen.new.word seen.new.bits }
+        ensures ahead { MatchBool result (IsAhead self.now word seen.new.word)
+            ((w : ℕ) → word ≤ w → w < 2 ^ 64 → word_of self.now w ≡ None) }
+    {
+        if seen.word == word {
+            return true;
+        }
+        match self.next_word(word) {
+            Some((next, touches)) => {
+                let bits = touches.bits_in(window);
+                *seen = Seen { word: next, bits };
+                true
+            }
+            None => false,
+        }
+    }
+
     /// The first block from `block` on, and below `end`, that was touched inside the window.
-    fn next_touched(&self, window: Window, block: u64, end: u64) -> Option<u64>
-        requires { end < 2 ^ 58 }
-        ensures { MatchOption result
+    fn next_touched(&self, window: Window, block: u64, end: u64, seen: &mut Seen) -> Option<u64>
+        requires small { end < 2 ^ 58 }
+        requires seen { IsSeen self.now window seen.old.word seen.old.bits }
+        ensures found { MatchOption result
             ((b : ℕ) → block ≤ b → b < end → is_touched self.now window b ≡ false)
-            (λ b. IsFirst self.now window true block b × (b < end)) }
+            (λ b. IsFirst self.now window block b × (b < end)) }
+        ensures seen { IsSeen self.now window seen.new.word seen.new.bits }
     {
         let mut at = block;
-        while at < end {
-            let (word, touches) = self.next_word(at / WORD_BLOCKS)?;
+        while at < end && self.look_ahead(window, at / WORD_BLOCKS, seen) {
+            let word = seen.word;
             if word >= end.div_ceil(WORD_BLOCKS) {
                 return None;
             }
             let first = at.max(WORD_BLOCKS * word);
-            let bits = touches.bits_in(window) & (u64::MAX << (first % WORD_BLOCKS));
+            let bits = seen.bits & (u64::MAX << (first % WORD_BLOCKS));
             if bits != 0 {
                 let found = WORD_BLOCKS * word + u64::from(bits.trailing_zeros());
                 return if found < end { Some(found) } else { None };
@@ -115,18 +158,21 @@ impl Touches {
     }
 
     /// The first block from `block` on that wasn't touched inside the window, but at most `end`.
-    fn next_untouched(&self, window: Window, block: u64, end: u64) -> u64
+    fn next_untouched(&self, window: Window, block: u64, end: u64, seen: &mut Seen) -> u64
         requires small { end < 2 ^ 58 }
         requires below { block < end }
+        requires seen { IsSeen self.now window seen.old.word seen.old.bits }
         ensures from { block ≤ result }
         ensures within { result ≤ end }
         ensures touched { (b : ℕ) → block ≤ b → b < result → is_touched self.now window b ≡ true }
         ensures found { result < end → is_touched self.now window result ≡ false }
+        ensures seen { IsSeen self.now window seen.new.word seen.new.bits }
     {
         let mut at = block;
         while at < end {
             let word = at / WORD_BLOCKS;
-            let bits = !self.bits_in(word, window) & (u64::MAX << (at % WORD_BLOCKS));
+            self.look_up(window, word, seen);
+            let bits = !seen.bits & (u64::MAX << (at % WORD_BLOCKS));
             if bits != 0 {
                 return end.min(WORD_BLOCKS * word + u64::from(bits.trailing_zeros()));
             }
@@ -135,19 +181,34 @@ impl Touches {
         end
     }
 
-    /// The area that was touched inside the window and holds sector `at`, from there on, or else
-    /// the next one.
-    fn next_area(&self, window: Window, capacity: u64, at: u64) -> Option<Run>
-        requires { at ≤ capacity }
-        ensures { result ≡ next_run at (areas_in capacity self.now window) }
+    /// The first block from sector `at` on that was touched inside the window.
+    fn next_block(&self, window: Window, capacity: u64, at: u64, seen: &mut Seen) -> Option<u64>
+        requires within { at ≤ capacity }
+        requires seen { IsSeen self.now window seen.old.word seen.old.bits }
+        ensures found { MatchOption result (next_run at (areas_in capacity self.now window) ≡ None)
+            (λ b. IsFirst self.now window (at / BLOCK_SECTORS) b
+            × (BLOCK_SECTORS * b < capacity) × (at < capacity)) }
+        ensures seen { IsSeen self.now window seen.new.word seen.new.bits }
     {
         if at == capacity {
             return None;
         }
         let blocks = capacity.div_ceil(BLOCK_SECTORS);
-        let block = self.next_touched(window, at / BLOCK_SECTORS, blocks)?;
+        self.next_touched(window, at / BLOCK_SECTORS, blocks, seen)
+    }
+
+    /// The area that was touched inside the window and holds sector `at`, from there on, or else
+    /// the next one.
+    fn next_area(&self, window: Window, capacity: u64, at: u64, seen: &mut Seen) -> Option<Run>
+        requires within { at ≤ capacity }
+        requires seen { IsSeen self.now window seen.old.word seen.old.bits }
+        ensures found { result ≡ next_run at (areas_in capacity self.now window) }
+        ensures seen { IsSeen self.now window seen.new.word seen.new.bits }
+    {
+        let block = self.next_block(window, capacity, at, seen)?;
+        let blocks = capacity.div_ceil(BLOCK_SECTORS);
         let first = at.max(BLOCK_SECTORS * block);
-        let behind = self.next_untouched(window, block, blocks);
+        let behind = self.next_untouched(window, block, blocks, seen);
         let end = if behind < blocks {
             BLOCK_SECTORS * behind
         } else {
@@ -160,20 +221,30 @@ impl Touches {
     }
 
     /// Fills the page with the areas that were touched inside the window, from sector `start` on.
+    /// No area behind the page is looked at but for its first block.
     pub(crate) fn fill_page(&self, window: Window, capacity: u64, start: u64, page: &mut Page)
         requires { start < capacity }
         ensures { page.new ≡ page_from capacity (areas_in capacity self.now window) start }
     {
         page.clear(start);
+        let word = start / BLOCK_SECTORS / WORD_BLOCKS;
+        let mut seen = Seen {
+            word,
+            bits: self.bits_in(word, window),
+        };
         let mut at = start;
-        while let Some(run) = self.next_area(window, capacity, at) {
-            if page.areas().len() == PAGE_AREAS {
-                page.cover(at - start);
+        while page.areas().len() < PAGE_AREAS {
+            let Some(run) = self.next_area(window, capacity, at, &mut seen) else {
+                page.cover(capacity - start);
                 return;
-            }
+            };
             page.push(run);
             at = run.first + run.count;
         }
-        page.cover(capacity - start);
+        let end = match self.next_block(window, capacity, at, &mut seen) {
+            Some(_) => at,
+            None => capacity,
+        };
+        page.cover(end - start);
     }
 }

@@ -57,6 +57,7 @@ impl Tracker {
 
     /// The tracker of a disk of that many sectors, of which nothing was told. It takes no memory.
     pub fn new(alloc: Global, machine: u32, disk: u32, capacity: u64) -> Result<Tracker, NoMemory>
+        ensures always { IsOk result }
         ensures fresh { IfOk result (λ tracker. tracker ≡ fresh machine disk capacity) }
         ensures stands { IfOk result (λ tracker. StandsFor tracker []) }
     {
@@ -122,7 +123,7 @@ impl Tracker {
 
     /// The blocks that the run meets are touched. `Range` comes where it is empty or passes the
     /// capacity. Want of memory doesn't come after a `reserve_mark` of this run since the last
-    /// change.
+    /// mark, freeze and reset.
     pub fn mark(&mut self, run: Run) -> Result<(), TrackRefused>
         ensures refused { IsRefusedOr (mark_refusal run self.old) TrackRefused.NoMemory result }
         ensures ok { OnOk result (self.new ≡ after_marking run self.old) }

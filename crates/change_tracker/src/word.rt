@@ -80,7 +80,9 @@ impl Word {
         ensures kept { OnErr result (self.new ≡ self.old) }
     {
         if self.latest.freezes != freezes {
-            self.earlier.push(self.latest)?;
+            if self.latest.bits != 0 {
+                self.earlier.push(self.latest)?;
+            }
             self.latest = Touch { freezes, bits: 0 };
         }
         Ok(())

@@ -1,11 +1,12 @@
 use Rattle.std.proofs.Common.{◌-◌, ◌≡◌, ◌<◌, ◌≤◌, ℕ, true}
-use Rattle.change_tracker.specs.Touches.{is_touched}
+use Rattle.change_tracker.specs.Touches.{is_touched, IsSeen}
 use Rattle.change_tracker.proofs.touches.Touches.next_untouched.Given as goal
 
 -- each block before `at` was touched
 abbrev pub invariant-loop-at : goal.invariant-loop-at
 invariant-loop-at l = record {
   from : l.block ≤ l.at;
+  seen : IsSeen l.self l.window l.seen.word l.seen.bits;
   all : (b : ℕ) → l.block ≤ b → b < l.at → is_touched l.self l.window b ≡ true;
 }
 
