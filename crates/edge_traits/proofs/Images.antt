@@ -93,13 +93,13 @@ write_possible c offset bytes is begins =
     let long : c.least ≤ length c.bytes = is.long in
     let short : length c.bytes ≤ c.greatest = is.short in
     let kept : (k : ℕ) → k < length (overwritten offset bytes c.bytes) → k < length c.synced
-        → is_loose k (after_write offset bytes c) ≡ false
-        → get_or (overwritten offset bytes c.bytes) k 0 ≡ get_or c.synced k 0 =
+    → is_loose k (after_write offset bytes c) ≡ false
+    → get_or (overwritten offset bytes c.bytes) k 0 ≡ get_or c.synced k 0 =
     λ k below synced loose.
-        let parts = not_loosened c offset (length bytes) k loose in
-        let reached : k < max (length c.bytes) (offset + length bytes) = omega arith in
-        written_kept c offset bytes k is begins reached synced parts.0
-        (not_covered k offset (length bytes) parts.1) in
+    let parts = not_loosened c offset (length bytes) k loose in
+    let reached : k < max (length c.bytes) (offset + length bytes) = omega arith in
+    written_kept c offset bytes k is begins reached synced parts.0
+    (not_covered k offset (length bytes) parts.1) in
     record { long = omega arith; short = omega arith; kept = kept }
 
 pub write_consistent : (c : DiskContents) (offset : ℕ) (bytes : List ℕ) → IsConsistent c
