@@ -138,7 +138,7 @@ told_after : (records : List Record) (r : Record) (len : ℕ) (old new : Option 
 told_after records r len None new long held is = rw is tt
 told_after records r len (Some old) new long held is = rw is (at_rest_after records r len old long held)
 
-front_longer : (records : List Record) (r : Record)
+pub front_longer : (records : List Record) (r : Record)
     → length (front (records ++ r ∷ [])) ≡ length (front records) + (5 + length (spelling r))
 front_longer records r =
     let cells : List ℕ = flat_map open_cell records in

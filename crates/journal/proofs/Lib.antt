@@ -2,9 +2,9 @@ mod CellLemmas
 pub mod StandingLemmas
 mod OpenCells
 mod Reading
-mod Keeping
+pub mod Keeping
 mod Loading
-mod Crashes
+pub mod Crashes
 mod Results
 mod ImageLemmas
 mod AppendSteps

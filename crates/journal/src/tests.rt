@@ -1,4 +1,7 @@
 //! What a journal leaves on disks in memory, byte for byte, and after a stop at each of its steps.
+ghost use Rattle.std.specs.Prelude.{◌≡◌, ◌≤◌, length, IfOk};
+ghost use Rattle.record_codec.specs.Record.{KeepsRule};
+
 use crate::{Disk, Journal, JournalRefused, MAGIC, MAX_BYTES, Record};
 use change_id::ChangeId;
 use edge_traits::{MemDisk, Pick, StopDisk};
@@ -10,8 +13,20 @@ use std::test::Fail;
 /// The file after the cancel of migration 1, put together by hand.
 const ONE_CANCEL: [u8; 19] = *b"WARMJNL1\x01\0\0\0\x05\x11\0\0\0\x01\0";
 
-fn cancel(mig: u32) -> Record {
+fn cancel(mig: u32) -> Record
+    ensures { KeepsRule result }
+{
     Record::CancelAsked { mig }
+}
+
+/// A file of so many bytes that begins as a journal and has no open gate.
+fn long_file(alloc: Global, len: usize) -> Result<Vec<u8>, Fail>
+    requires { 8 ≤ len }
+    ensures { IfOk result (λ file. length file.items ≡ len) }
+{
+    let mut file = vec![in alloc; 0; len]?;
+    file[..8].copy_from_slice(&MAGIC);
+    Ok(file)
 }
 
 /// What a disk of at most 64 bytes holds.
@@ -114,8 +129,7 @@ fn other_files_are_no_journals(rt: HostRuntime) -> Result<(), Fail> {
 
 #[test]
 fn a_file_of_more_than_the_limit_is_no_journal(rt: HostRuntime) -> Result<(), Fail> {
-    let mut file = vec![in rt.alloc(); 0; MAX_BYTES + 1]?;
-    file[..8].copy_from_slice(&MAGIC);
+    let file = long_file(rt.alloc(), MAX_BYTES + 1)?;
     let disk = MemDisk::new(rt.alloc(), &file, MAX_BYTES + 100, &[])?;
     assert_eq!(rt;
         refusal(rt.alloc(), disk),
@@ -126,7 +140,7 @@ fn a_file_of_more_than_the_limit_is_no_journal(rt: HostRuntime) -> Result<(), Fa
 
 #[test]
 fn a_piece_that_is_not_read_is_told(rt: HostRuntime) -> Result<(), Fail> {
-    let file = vec![in rt.alloc(); 0; 70_000]?;
+    let file = long_file(rt.alloc(), 70_000)?;
     let disk = MemDisk::new(rt.alloc(), &file, 80_000, &[4])?;
     let fault = JournalRefused::DiskFault { at: 65_536 };
     assert_eq!(rt; refusal(rt.alloc(), disk), Some(fault));
