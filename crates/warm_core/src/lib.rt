@@ -22,8 +22,8 @@ mod tests;
 pub use disk_world::{Base, DiskWorld};
 pub use event::{CoreRefused, Event};
 pub use laws::{
-    fillings_stay, pieces_may_be_next, stages_are_answered, stages_end, stages_stay,
-    whatever_happens, worlds_stay_sound,
+    fillings_stay, finished_is_whole, pieces_may_be_next, staged_stays, stages_are_answered,
+    stages_end, stages_stay, whatever_happens, worlds_stay_sound,
 };
 pub use stage_state::{MAX_PIECE_SECTORS, Piece, StageState};
 pub use stepping::{follow, step};
