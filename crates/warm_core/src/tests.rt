@@ -61,11 +61,12 @@ fn run(first: u64, count: u64) -> Run
 
 /// A guest's write of one sector, number 200.
 fn write(alloc: Global) -> Result<Event, Fail> {
-    Ok(entry(Act::Write {
+    let act = Act::Write {
         disk: 0,
         first: 200,
         sectors: SectorList::of(alloc, &[Sector::filled(WRITTEN)])?,
-    }))
+    };
+    Ok(Event::Machine(Entry { who: 3, act }))
 }
 
 /// The steps of a full stage from the first snapshot, then of a partial one from the second.
@@ -121,6 +122,16 @@ fn a_partial_stage_counts_what_it_copied(rt: HostRuntime) -> Result<(), Fail> {
     let world = after(&rt, rt.alloc(), 13)?;
     assert_eq!(rt; world.stage.map(|stage| stage.written), Some(128));
     Ok(())
+}
+
+#[test]
+fn nothing_completes_before_the_last_snapshot(rt: HostRuntime) -> Result<(), Fail> {
+    not_now(&rt, rt.alloc(), 15, Event::Complete)
+}
+
+#[test]
+fn a_snapshot_that_is_copied_stays(rt: HostRuntime) -> Result<(), Fail> {
+    not_now(&rt, rt.alloc(), 12, entry(Act::Remove { id: 2 }))
 }
 
 #[test]
