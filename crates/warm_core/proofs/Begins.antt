@@ -18,7 +18,7 @@ use Rattle.warm_core.specs.StageState.{begun}
 use Rattle.warm_core.specs.Staged.{is_unfinished, open_blocks, IsOnBase, IsForgotten, Staged}
 use Rattle.warm_core.specs.World.{World, IsSnapOf, IsLive, StageIsSound, IsSound}
 use Rattle.warm_core.specs.Events.{MayBegin, snapped_of}
-use Rattle.warm_core.specs.Laws.{StageStands}
+use Rattle.warm_core.specs.Laws.{StageStands, LaterSnapshotsStay}
 use Rattle.warm_core.proofs.Stages.{begun-stands}
 use Rattle.warm_core.proofs.Worlds.{some-parts}
 
@@ -42,19 +42,26 @@ outside-old : (a b : Bool) → (a ≡ true → b ≡ true) → b ≡ false → a
 outside-old true b grows none = absurd (false≢true (sym none ∙ grows refl))
 outside-old false b grows none = refl
 
-staged-grows : (c d : ℕ) (log : List Entry) (base : Option Base) (snap : Option Snapped) (new : Snapped) (v : VolumeContents) → is_unfinished base (Some new) ≡ true
-    → (IsSome base → IsSome snap) → ((s : Snapped) → snap ≡ Some s → (b : Base) → base ≡ Some b → b.mark ≤ s.mark) → IfSome snap (λ s. s.mark ≤ new.mark)
-    → Staged c d log base snap v → Staged c d log base (Some new) v
-staged-grows c d log None snap new v unfinished has low high staged = tt
-staged-grows c d log (Some b) None new v unfinished has low high staged = absurd (false≢true (has refl))
-staged-grows c d log (Some b) (Some old) new v unfinished has low high (inl on) =
+pub staged-grows : LaterSnapshotsStay
+staged-grows c d log None old new v unfinished after staged = tt
+staged-grows c d log (Some b) None new v unfinished after (inl on) = inl (record {
+  as_base = λ s none. on.as_base s refl;
+  loose_inside = λ s loose. absurd (false≢true (on.loose_inside s loose));
+})
+staged-grows c d log (Some b) None new v unfinished after (inr forgotten) = inr (record { unfinished = unfinished; reset = forgotten.reset })
+staged-grows c d log (Some b) (Some old) new v unfinished after (inl on) =
+    let marks = after old refl in
     let grows : (s : ℕ) → in_blocks (open_blocks c d log b (Some old)) s ≡ true → in_blocks (open_blocks c d log b (Some new)) s ≡ true =
-    λ s. open-grows c d log b old new s unfinished (low old refl b refl) high in
+    λ s. open-grows c d log b old new s unfinished (marks.0 b refl) marks.1 in
     inl (record {
       as_base = λ s none. on.as_base s (outside-old (in_blocks (open_blocks c d log b (Some old)) s) (in_blocks (open_blocks c d log b (Some new)) s) (grows s) none);
       loose_inside = λ s loose. grows s (on.loose_inside s loose);
     })
-staged-grows c d log (Some b) (Some old) new v unfinished has low high (inr forgotten) = inr (record { unfinished = unfinished; reset = forgotten.reset })
+staged-grows c d log (Some b) (Some old) new v unfinished after (inr forgotten) = inr (record { unfinished = unfinished; reset = forgotten.reset })
+
+high-at : (snap : Option Snapped) (n : ℕ) → IfSome snap (λ s. s.mark ≤ n) → (s : Snapped) → snap ≡ Some s → s.mark ≤ n
+high-at None n high s is = absurd (none-some s is)
+high-at (Some x) n high s is = let same = ap (λ (y : Snapped). y.mark) (same_Some x s is) in omega (arith, high, same)
 
 -- a snapshot above the base is unfinished
 above-unfinished : (base : Option Base) (new : Snapped) → IfSome base (λ b. b.mark < new.mark) → is_unfinished base (Some new) ≡ true
@@ -64,13 +71,6 @@ above-unfinished (Some b) new above = ap not (ne_eqb new.mark b.mark (λ same. o
 low-base : (base : Option Base) (n : ℕ) → IfSome base (λ b. b.mark < n) → (b : Base) → base ≡ Some b → b.mark ≤ n
 low-base None n above b is = absurd (none-some b is)
 low-base (Some x) n above b is = let same = ap (λ (y : Base). y.mark) (same_Some x b is) in omega (arith, above, same)
-
-none-is : (base : Option Base) → is_none base ≡ true → base ≡ None
-none-is None h = refl
-none-is (Some b) h = absurd (false≢true h)
-
-is-none : (base : Option Base) → base ≡ None → is_none base ≡ true
-is-none base h = ap (λ (o : Option Base). is_none o) h
 
 pub begun-sound : (w : World) (snapshot : ℕ) (last : Bool) → IsSound w → MayBegin snapshot last w
     → IsSound (record w { snap = Some (snapped_of snapshot w.log); last = last; stage = Some (begun w.capacity (is_none w.base)) })
@@ -83,9 +83,10 @@ begun-sound w snapshot last sound may =
     let unfinished : is_unfinished w.base (Some new) ≡ true = above-unfinished w.base new may.above_base in
     let snap_is : IsSnapOf w.log new = record { within = taken.within; mark_is = refl; off_place_is = refl } in
     let staged : Staged w.capacity w.disk w.log w.base (Some new) w.volume =
-    staged-grows w.capacity w.disk w.log w.base w.snap new w.volume unfinished sound.base_has_snap sound.snap_from_base may.from_current sound.staged in
+    staged-grows w.capacity w.disk w.log w.base w.snap new w.volume unfinished
+    (λ s is. (sound.snap_from_base s is, high-at w.snap new.mark may.from_current s is)) sound.staged in
     let stands : StageStands w.capacity w.disk w.log w.base new t w.volume =
-    begun-stands w.capacity w.disk w.log w.base new w.volume (is_none w.base) sound.sized unfinished staged (none-is w.base) (is-none w.base) in
+    begun-stands w.capacity w.disk w.log w.base new w.volume sound.sized unfinished staged in
     let here : StageIsSound next new t = record { running = may.running; has_id = may.has_id; fits = stands.fits; holds = stands.holds } in
     record {
       legal = sound.legal;

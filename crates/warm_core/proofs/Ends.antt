@@ -9,7 +9,7 @@ use Rattle.sector_model.specs.declared.sector.Sector.{Sector}
 use Rattle.sector_model.proofs.Volumes.{keep_their_size, stop_leaves_flushed, stop_leaves_others}
 use Rattle.log_model.specs.declared.entry.Entry.{Entry}
 use Rattle.log_model.specs.declared.link.Snapped.{Snapped}
-use Rattle.log_model.specs.Legal.{only}
+use Rattle.log_model.specs.Legal.{Legal, only}
 use Rattle.log_model.specs.Entry.{contents}
 use Rattle.log_model.specs.Touched.{touched}
 use Rattle.sector_model.specs.Run.{in_blocks}
@@ -19,6 +19,7 @@ use Rattle.warm_core.specs.declared.stage_state.StageState.{StageState}
 use Rattle.warm_core.specs.Staged.{is_unfinished, IsBaseOf, open_blocks, disk_at, IsOnBase, Staged, IsFullCopy}
 use Rattle.warm_core.specs.World.{World, IsLive, MayLose, IsCompleteAt, StageIsSound, IsSound}
 use Rattle.warm_core.specs.Events.{MayComplete}
+use Rattle.warm_core.specs.Laws.{FinishedIsWhole, WholeAtOffPlace, FinishedSnapshotsGo}
 use Rattle.warm_core.proofs.Stages.{same_items, length-disk_at}
 use Rattle.warm_core.proofs.Holding.{fillings_stay}
 
@@ -115,8 +116,9 @@ finished-parts None snap h = absurd h
 closed : (b : Base) (s : Snapped) → s.mark ≡ b.mark → is_unfinished (Some b) (Some s) ≡ false
 closed b s same = ap not (eq-eqb s.mark b.mark same)
 
-nothing-open : (c d : ℕ) (log : List Entry) (b : Base) (s : Snapped) → s.mark ≡ b.mark → open_blocks c d log b (Some s) ≡ []
-nothing-open c d log b s same = ap (λ x. cond x (touched c d b.mark s.mark log) []) (closed b s same)
+nothing-open : (c d : ℕ) (log : List Entry) (b : Base) (snap : Option Snapped) → is_unfinished (Some b) snap ≡ false → open_blocks c d log b snap ≡ []
+nothing-open c d log b None finished = refl
+nothing-open c d log b (Some s) finished = ap (λ x. cond x (touched c d b.mark s.mark log) []) finished
 
 all-false : (xs : List Bool) → ((s : ℕ) → slice_index_or xs s false ≡ false) → xs ≡ replicate (length xs) false
 all-false [] h = refl
@@ -127,32 +129,38 @@ not-loose : (v : VolumeContents) (s : ℕ) (b : Bool) → is_loose s v ≡ b →
 not-loose v s true is none = absurd (none is)
 not-loose v s false is none = is
 
--- a volume on its base over the base's own snapshot is just what the disk was there, flushed
-pub record IsAtBase (c d : ℕ) (log : List Entry) (b : Base) (v : VolumeContents) : Type 0 where
-  pub tight : IsFlushed v
-  pub same : IsFullCopy c d b.mark log v
+-- a volume on its base over a finished snapshot is just what the disk was there, flushed
+on_base-whole : (c d : ℕ) (log : List Entry) (b : Base) (snap : Option Snapped) (v : VolumeContents) → Legal (only d c) log → IsSized c v → is_unfinished (Some b) snap ≡ false
+    → IsOnBase c d log b snap v → IsFlushed v × IsFullCopy c d b.mark log v
+on_base-whole c d log b snap v legal sized finished on =
+    let open_is = nothing-open c d log b snap finished in
+    (
+      all-false v.loose (λ k. not-loose v k (is_loose k v) refl (λ loose.
+          false≢true (sym (ap (λ (bs : List ℕ). in_blocks bs k) open_is) ∙ on.loose_inside k loose)))
+          ∙ ap (λ n. replicate n false) (sized.1 ∙ sym sized.0),
+      same_items v.sectors (disk_at c d b.mark log) (sized.0 ∙ sym (length-disk_at c d b.mark log legal)) (λ k less. on.as_base k (ap (λ (bs : List ℕ). in_blocks bs k) open_is)),
+    )
 
-pub finished-volume : (c d : ℕ) (log : List Entry) (base : Option Base) (snap : Option Snapped) (b : Base) (s : Snapped) (v : VolumeContents) → IsSized c v → length (disk_at c d b.mark log) ≡ c
-    → IsFinished base snap b s → Staged c d log base snap v → IsAtBase c d log b v
-finished-volume c d log base snap b s v sized long finished staged =
-    finished-at c d log b s v sized long finished.same
-    (subst (λ (o : Option Snapped). Staged c d log (Some b) o v) finished.snap_is (subst (λ (o : Option Base). Staged c d log o snap v) finished.base_is staged))
-  where
-    finished-on : (c d : ℕ) (log : List Entry) (b : Base) (s : Snapped) (v : VolumeContents) → IsSized c v → length (disk_at c d b.mark log) ≡ c → s.mark ≡ b.mark
-        → IsOnBase c d log b (Some s) v → IsAtBase c d log b v
-    finished-on c d log b s v sized long same on =
-        let open_is = nothing-open c d log b s same in
-        record {
-          tight = all-false v.loose (λ k. not-loose v k (is_loose k v) refl (λ loose.
-              false≢true (sym (ap (λ (bs : List ℕ). in_blocks bs k) open_is) ∙ on.loose_inside k loose)))
-              ∙ ap (λ n. replicate n false) (sized.1 ∙ sym sized.0);
-          same = same_items v.sectors (disk_at c d b.mark log) (sized.0 ∙ sym long) (λ k less. on.as_base k (ap (λ (bs : List ℕ). in_blocks bs k) open_is));
-        }
+pub finished_is_whole : FinishedIsWhole
+finished_is_whole c d log b snap v legal sized finished (inl on) = on_base-whole c d log b snap v legal sized finished on
+finished_is_whole c d log b snap v legal sized finished (inr forgotten) = absurd (false≢true (sym finished ∙ forgotten.unfinished))
 
-    finished-at : (c d : ℕ) (log : List Entry) (b : Base) (s : Snapped) (v : VolumeContents) → IsSized c v → length (disk_at c d b.mark log) ≡ c → s.mark ≡ b.mark
-        → Staged c d log (Some b) (Some s) v → IsAtBase c d log b v
-    finished-at c d log b s v sized long same (inl on) = finished-on c d log b s v sized long same on
-    finished-at c d log b s v sized long same (inr forgotten) = absurd (false≢true (sym (closed b s same) ∙ forgotten.unfinished))
+pub whole_at_off_place : WholeAtOffPlace
+whole_at_off_place c d log snap place v legal is off same =
+    same ∙ sym (off_is_frozen (only d c) log c d snap.id place legal (is.off_place_is ∙ off) ∙ ap (λ n. disk_at c d n log) is.mark_is)
+
+-- and a finished snapshot may go
+on_base-gone : (c d : ℕ) (log : List Entry) (b : Base) (snap : Option Snapped) (v : VolumeContents) → is_unfinished (Some b) snap ≡ false → IsOnBase c d log b snap v → IsOnBase c d log b None v
+on_base-gone c d log b snap v finished on =
+    let open_is = nothing-open c d log b snap finished in
+    record {
+      as_base = λ s none. on.as_base s (ap (λ (bs : List ℕ). in_blocks bs s) open_is);
+      loose_inside = λ s loose. sym (ap (λ (bs : List ℕ). in_blocks bs s) open_is) ∙ on.loose_inside s loose;
+    }
+
+pub finished_snapshots_go : FinishedSnapshotsGo
+finished_snapshots_go c d log b snap v finished (inl on) = inl (on_base-gone c d log b snap v finished on)
+finished_snapshots_go c d log b snap v finished (inr forgotten) = absurd (false≢true (sym finished ∙ forgotten.unfinished))
 
 no-stage-at : (w : World) (b : Base) (s : Snapped) (o : Option StageState) → IsSound w → IsFinished w.base w.snap b s → w.stage ≡ o → o ≡ None
 no-stage-at w b s None sound finished is = refl
@@ -175,18 +183,18 @@ complete-at w p sound may is =
     let finished = parts.2 in
     let snap_is = sound.snap_is s finished.snap_is in
     let place : s.off_place ≡ Some p = place-of w.snap s p finished.snap_is is in
-    let long : length (disk_at w.capacity w.disk b.mark w.log) ≡ w.capacity =
-    length-disk_at w.capacity w.disk b.mark w.log sound.legal in
-    let at_base = finished-volume w.capacity w.disk w.log w.base w.snap b s w.volume sound.sized long finished sound.staged in
-    let frozen_there = off_is_frozen (only w.disk w.capacity) w.log w.capacity w.disk s.id p sound.legal (snap_is.off_place_is ∙ place) in
-    let marks = snap_is.mark_is ∙ finished.same in
+    let staged : Staged w.capacity w.disk w.log (Some b) w.snap w.volume =
+    subst (λ (o : Option Base). Staged w.capacity w.disk w.log o w.snap w.volume) finished.base_is sound.staged in
+    let closed_is : is_unfinished (Some b) w.snap ≡ false = ap (λ (o : Option Snapped). is_unfinished (Some b) o) finished.snap_is ∙ closed b s finished.same in
+    let whole = finished_is_whole w.capacity w.disk w.log b w.snap w.volume sound.legal sound.sized closed_is staged in
     record {
       last = may.last;
       no_stage = (let none = no-stage-at w b s w.stage sound finished refl in none);
       finished = may.finished;
       off_place = and-of w.snap s p finished.snap_is place;
-      tight = at_base.tight;
-      same = at_base.same ∙ sym (frozen_there ∙ ap (λ n. disk_at w.capacity w.disk n w.log) marks);
+      tight = whole.0;
+      same = whole_at_off_place w.capacity w.disk w.log s p w.volume sound.legal snap_is place
+          (whole.1 ∙ ap (λ n. disk_at w.capacity w.disk n w.log) (sym finished.same));
     }
 
 pub completed-sound : (w : World) → IsSound w → MayComplete w → IsSound (record w { complete = option_and_then (λ snap. snap.off_place) w.snap })

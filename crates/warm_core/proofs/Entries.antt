@@ -24,8 +24,8 @@ use Rattle.warm_core.specs.declared.disk_world.Base.{Base}
 use Rattle.warm_core.specs.declared.stage_state.StageState.{StageState}
 use Rattle.warm_core.specs.Staged.{is_unfinished, disk_at}
 use Rattle.warm_core.specs.World.{World, IsSnapOf, IsLive, MayLose, IsCompleteAt, StageIsSound, IsSound}
-use Rattle.warm_core.specs.Laws.{MayAddAll, EntriesKeepSound}
-use Rattle.warm_core.proofs.Answering.{disk_at-later}
+use Rattle.warm_core.specs.Laws.{MayAddAll, EntriesKeepSound, GroundsStay}
+use Rattle.warm_core.proofs.Answering.{disk_at-later, asked-later, mark-within}
 use Rattle.warm_core.proofs.Stages.{later-stands, staged-later}
 use Rattle.warm_core.proofs.Worlds.{some-parts, ground-of, stands-of}
 
@@ -52,6 +52,23 @@ id-later machine d log more snap is some =
     let at = is.mark_is in
     let keep = later_entries_keep snap.id log more (omega (arith, within, at)) in
     subst IsSome (sym (keep.id_stays machine d)) some
+
+-- ---- what a stage works on
+
+pub grounds_stay : GroundsStay
+grounds_stay machine c d log more base snap ground legal =
+    let within = mark-within machine c d log base snap ground in
+    record {
+      ground = record {
+        small = ground.small;
+        legal = legal;
+        base_is = λ b is. has-id-later machine d b.id log more b.mark (ground.base_is b is);
+        from_base = ground.from_base;
+        snap_is = snap-later log more snap ground.snap_is;
+      };
+      asked = λ full. asked-later c d log more base snap full within;
+      frozen = disk_at-later c d snap.mark log more within;
+    }
 
 -- ---- a snapshot stays live until it is removed
 

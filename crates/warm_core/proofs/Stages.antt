@@ -1,6 +1,7 @@
 -- What the steps of a stage leave of what is known of it and of its volume.
 use Rattle.std.proofs.Common.{◌≡◌, ℕ, ◌+◌, ◌-◌, ◌<◌, ◌≤◌, List, [], ◌∷◌, ◌++◌, length, take, drop, replicate, Bool, true, false, cond, ◌||◌, nat_eq, eqb, Option, Some, None, Ok, Err, refl, sym, ap, subst, ◌∙◌, arith, ◌⊎◌, inl, inr, IsSome, slice_index_or, unwrap_or, length-take, length-drop}
 use Rattle.std.specs.List.{slice_get, slice_range}
+use Rattle.std.specs.Option.{is_none}
 use Rattle.std.proofs.lemmas.Bool.{cases_lt, false≢true}
 use Rattle.std.proofs.lemmas.Option.{unwrap_or-slice_get, same_Some, none-some}
 use Rattle.std.proofs.lemmas.List.{same_lists, length-replicate}
@@ -27,7 +28,7 @@ use Rattle.warm_core.specs.declared.stage_state.StageState.{StageState}
 use Rattle.warm_core.specs.StageState.{begun, IsInOrder, IsPiece, IsReady, with_page, made_full, with_piece, at_its_end, has_to_write, MayAsk, MayCopy, MayZero, MayFlush}
 use Rattle.warm_core.specs.Staged.{is_unfinished, since_mark, open_blocks, blocks_asked, answer, disk_at, IsOnBase, IsForgotten, HasToBeFull, Staged, IsFullCopy, StageFits, StageHolds, RunsOnBase, HasWritten, with_copy}
 use Rattle.warm_core.specs.Events.{page_end_of}
-use Rattle.warm_core.specs.Laws.{IsGround, StageStands, StagesStay, StagesWithVolumesStay, StagesBegin}
+use Rattle.warm_core.specs.Laws.{IsGround, StageStands, StagesStay, StagesWithVolumesStay, StagesBegin, NumbersBegin, WrittenAtEnd, EntriesStay}
 use Rattle.warm_core.proofs.Counting.{sectors_below-le}
 use Rattle.warm_core.proofs.NumbersStay.{numbers_stay, zeroed-fits}
 use Rattle.warm_core.proofs.Answering.{answers-between, mark-within, base-within, disk_at-later, asked-later, forgotten-later, fits-later, answer-not-err}
@@ -340,8 +341,7 @@ open-later c d log more b None within = refl
 open-later c d log more b (Some snap) within =
     ap (λ (bs : List ℕ). cond (is_unfinished (Some b) (Some snap)) bs []) (asked-later c d log more (Some b) snap false (within snap refl))
 
-pub staged-later : (c d : ℕ) (log more : List Entry) (base : Option Base) (snap : Option Snapped) (v : VolumeContents) → ((b : Base) → base ≡ Some b → b.mark ≤ length log)
-    → ((s : Snapped) → snap ≡ Some s → s.mark ≤ length log) → Staged c d log base snap v → Staged c d (log ++ more) base snap v
+pub staged-later : EntriesStay
 staged-later c d log more None snap v low within staged = tt
 staged-later c d log more (Some b) snap v low within (inl on) = inl (on_base-later c d log more b snap v (low b refl) (open-later c d log more b snap within) on)
 staged-later c d log more (Some b) snap v low within (inr forgotten) = inr (forgotten-later d log more b snap (low b refl) forgotten)
@@ -391,39 +391,41 @@ stages_stay machine c d log base snap t v ground stands = record {
 
 -- ---- a stage that begins
 
-begun-written : (c d : ℕ) (log : List Entry) (base : Option Base) (snap : Snapped) (full : Bool) → (full ≡ true → base ≡ None) → HasWritten c d log base snap full 0 0
-begun-written c d log base snap false none = let zero_at = sectors_below-le (blocks_asked c d log base snap false) 0 in omega (arith, zero_at)
-begun-written c d log None snap true none = refl
-begun-written c d log (Some b) snap true none = absurd (none-some b (sym (none refl)))
+begun-written : (c d : ℕ) (log : List Entry) (base : Option Base) (snap : Snapped) → HasWritten c d log base snap (is_none base) 0 0
+begun-written c d log None snap = refl
+begun-written c d log (Some b) snap = let zero_at = sectors_below-le (blocks_asked c d log (Some b) snap false) 0 in omega (arith, zero_at)
 
-begun-must : (d : ℕ) (log : List Entry) (base : Option Base) (snap : Snapped) → base ≡ None → HasToBeFull d log base snap
-begun-must d log None snap none = tt
-begun-must d log (Some b) snap none = absurd (none-some b (sym none))
+begun-must : (d : ℕ) (log : List Entry) (base : Option Base) (snap : Snapped) → is_none base ≡ true → HasToBeFull d log base snap
+begun-must d log None snap full = tt
+begun-must d log (Some b) snap full = absurd (false≢true full)
 
-begun-base : (base : Option Base) (full : Bool) → full ≡ false → (base ≡ None → full ≡ true) → IsSome base
-begun-base None full partial must = absurd (false≢true (sym partial ∙ must refl))
-begun-base (Some b) full partial must = refl
+begun-base : (base : Option Base) → is_none base ≡ false → IsSome base
+begun-base None partial = absurd (false≢true (sym partial))
+begun-base (Some b) partial = refl
 
 begun-bound : (full : Bool) (c : ℕ) → 0 ≤ cond full (c + 0) 0
 begun-bound true c = omega arith
 begun-bound false c = omega arith
 
-pub begun-stands : StagesBegin
-begun-stands c d log base snap v full sized unfinished staged none must = record {
-  sized = sized;
-  fits = record {
-    unfinished = unfinished;
-    sized = refl;
-    order = record {
-      passed = omega arith;
-      within = omega arith;
-      ended = λ flushed. absurd (false≢true flushed);
-      counted = begun-bound full c;
-    };
-    written = begun-written c d log base snap full none;
-    full = λ is. begun-must d log base snap (none is);
-    partial = λ is. begun-base base full is must;
+pub begun-fits : NumbersBegin
+begun-fits c d log base snap unfinished = record {
+  unfinished = unfinished;
+  sized = refl;
+  order = record {
+    passed = omega arith;
+    within = omega arith;
+    ended = λ flushed. absurd (false≢true flushed);
+    counted = begun-bound (is_none base) c;
   };
+  written = begun-written c d log base snap;
+  full = λ is. begun-must d log base snap is;
+  partial = λ is. begun-base base is;
+}
+
+pub begun-stands : StagesBegin
+begun-stands c d log base snap v sized unfinished staged = record {
+  sized = sized;
+  fits = begun-fits c d log base snap unfinished;
   holds = record {
     copied = λ s less due. absurd (omega (arith, less));
     tight = λ flushed. absurd (false≢true flushed);
@@ -431,4 +433,12 @@ begun-stands c d log base snap v full sized unfinished staged none must = record
     on_base = λ partial some. absurd (omega (arith, some));
   };
   staged = staged;
+}
+
+-- ---- a stage that was flushed
+
+pub written-at-end : WrittenAtEnd
+written-at-end c d log base snap t fits flushed = record {
+  written = subst (λ n. HasWritten c d log base snap t.full n t.written) (fits.order.ended flushed ∙ fits.sized) fits.written;
+  full = fits.full;
 }

@@ -59,7 +59,7 @@ removes_needed base None entry = false
 removes_needed base (Some snap) entry =
     removes snap.id entry.act && is_unfinished base (Some snap)
 
--- or that isn't needed any more
+-- the entry leaves the current snapshot, or that isn't needed any more
 abbrev pub IsSpared : Entry → World → Type 0
 IsSpared entry w = ForSome w.snap (λ snap. is_unfinished w.base (Some snap) ≡ true
     → removes snap.id entry.act ≡ true → MayLose w)

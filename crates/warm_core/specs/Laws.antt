@@ -1,7 +1,7 @@
 -- What the definitions say together. Each law is the contract of a public function of laws.rt whose
 -- body does nothing. Those on stages speak of one stage and its volume at a log, so that whoever
 -- has only these can use them; those on worlds are made of them.
-use Rattle.std.specs.Prelude.{◌≡◌, ℕ, ◌+◌, ◌<◌, ◌≤◌, ◌^◌, ◌⊎◌, List, [], ◌∷◌, ◌++◌, length, take, Bool, true, false, Option, Some, None, IsSome, Ok, Err, IsErr}
+use Rattle.std.specs.Prelude.{◌≡◌, ℕ, ◌+◌, ◌<◌, ◌≤◌, ◌^◌, ◌⊎◌, List, [], ◌∷◌, ◌++◌, length, take, Bool, true, false, Option, Some, None, IsSome, is_none, Ok, Err, IsErr}
 use Rattle.std.specs.Option.{ForSome}
 use Rattle.std.specs.List.{list_any}
 use Rattle.sector_model.specs.Run.{areas_of}
@@ -18,7 +18,7 @@ use Rattle.warm_core.specs.declared.disk_world.Base.{Base}
 use Rattle.warm_core.specs.declared.event.Event.{Event}
 use Rattle.warm_core.specs.declared.stage_state.StageState.{StageState}
 use Rattle.warm_core.specs.StageState.{begun, IsInOrder, with_page, made_full, with_piece, at_its_end, IsPiece, MayAsk, MayCopy, MayZero, MayFlush, left_to_go}
-use Rattle.warm_core.specs.Staged.{is_unfinished, disk_at, IsFullCopy, Staged, blocks_asked, answer, HasToBeFull, StageFits, StageHolds, with_copy}
+use Rattle.warm_core.specs.Staged.{is_unfinished, disk_at, IsFullCopy, Staged, blocks_asked, answer, HasToBeFull, HasWritten, StageFits, StageHolds, with_copy}
 use Rattle.warm_core.specs.World.{World, IsSnapOf, IsStart, IsSound, MayLose}
 use Rattle.warm_core.specs.Events.{MayHappen, after, page_end_of, Follows}
 use Rattle.warm_core.specs.Piece.{piece_of, Reaches, IsPageOf, MayBeNext}
@@ -134,13 +134,85 @@ StagesAreAnswered = (machine capacity disk : ℕ) (log : List Entry) (base : Opt
     → is_unfinished base (Some snap) ≡ true → (full ≡ false → IsSome base)
     → AnswersTell machine capacity disk log base snap full
 
--- a stage that begins stands, over whatever is staged, where its snapshot is unfinished
+-- a stage that begins stands, over whatever is staged, where its snapshot is unfinished: a full one
+-- where there is no base. Its numbers need nothing of a volume.
+abbrev pub NumbersBegin : Type 0
+NumbersBegin = (capacity disk : ℕ) (log : List Entry) (base : Option Base) (snap : Snapped)
+    → is_unfinished base (Some snap) ≡ true
+    → StageFits capacity disk log base snap (begun capacity (is_none base))
+
 abbrev pub StagesBegin : Type 0
 StagesBegin = (capacity disk : ℕ) (log : List Entry) (base : Option Base) (snap : Snapped)
-    (v : VolumeContents) (full : Bool) → IsSized capacity v
+    (v : VolumeContents) → IsSized capacity v
     → is_unfinished base (Some snap) ≡ true → Staged capacity disk log base (Some snap) v
-    → (full ≡ true → base ≡ None) → (base ≡ None → full ≡ true)
-    → StageStands capacity disk log base snap (begun capacity full) v
+    → StageStands capacity disk log base snap (begun capacity (is_none base)) v
+
+-- what a stage that was flushed has written: as many sectors as it had to, and more only in a full
+-- one that has a base, where the disk was reset since
+pub record HasWrittenAll (capacity disk : ℕ) (log : List Entry) (base : Option Base)
+    (snap : Snapped) (t : StageState) : Type 0 where
+  pub written : HasWritten capacity disk log base snap t.full capacity t.written
+  pub full : t.full ≡ true → HasToBeFull disk log base snap
+
+abbrev pub WrittenAtEnd : Type 0
+WrittenAtEnd = (capacity disk : ℕ) (log : List Entry) (base : Option Base) (snap : Snapped)
+    (t : StageState) → StageFits capacity disk log base snap t → t.flushed ≡ true
+    → HasWrittenAll capacity disk log base snap t
+
+-- what a stage works on stays so under entries of the machine's log: it asks for the same blocks,
+-- and its snapshot froze the same sectors
+pub record GroundStays (machine capacity disk : ℕ) (log more : List Entry) (base : Option Base)
+    (snap : Snapped) : Type 0 where
+  pub ground : IsGround machine capacity disk (log ++ more) base snap
+  pub asked : (full : Bool) → blocks_asked capacity disk (log ++ more) base snap full
+      ≡ blocks_asked capacity disk log base snap full
+  pub frozen : disk_at capacity disk snap.mark (log ++ more) ≡ disk_at capacity disk snap.mark log
+
+abbrev pub GroundsStay : Type 0
+GroundsStay = (machine capacity disk : ℕ) (log more : List Entry) (base : Option Base)
+    (snap : Snapped) → IsGround machine capacity disk log base snap
+    → Legal (only disk capacity) (log ++ more)
+    → GroundStays machine capacity disk log more base snap
+
+-- ---- what is staged, while no stage runs
+
+-- entries of the machine's log leave it
+abbrev pub EntriesStay : Type 0
+EntriesStay = (capacity disk : ℕ) (log more : List Entry) (base : Option Base)
+    (snap : Option Snapped) (v : VolumeContents)
+    → ForSome base (λ base. base.mark ≤ length log)
+    → ForSome snap (λ snap. snap.mark ≤ length log)
+    → Staged capacity disk log base snap v → Staged capacity disk (log ++ more) base snap v
+
+-- and so does a later snapshot that becomes the current one: where there was none, or one not
+-- before the base, finished or not
+abbrev pub LaterSnapshotsStay : Type 0
+LaterSnapshotsStay = (capacity disk : ℕ) (log : List Entry) (base : Option Base)
+    (old : Option Snapped) (new : Snapped) (v : VolumeContents)
+    → is_unfinished base (Some new) ≡ true
+    → ForSome old (λ old. ForSome base (λ base. base.mark ≤ old.mark) × (old.mark ≤ new.mark))
+    → Staged capacity disk log base old v → Staged capacity disk log base (Some new) v
+
+-- a snapshot that is finished may go
+abbrev pub FinishedSnapshotsGo : Type 0
+FinishedSnapshotsGo = (capacity disk : ℕ) (log : List Entry) (base : Base)
+    (snap : Option Snapped) (v : VolumeContents) → is_unfinished (Some base) snap ≡ false
+    → Staged capacity disk log (Some base) snap v → Staged capacity disk log (Some base) None v
+
+-- over a finished snapshot the volume is just what the log up to the base leaves, and none of it is
+-- loose
+abbrev pub FinishedIsWhole : Type 0
+FinishedIsWhole = (capacity disk : ℕ) (log : List Entry) (base : Base) (snap : Option Snapped)
+    (v : VolumeContents) → Legal (only disk capacity) log → IsSized capacity v
+    → is_unfinished (Some base) snap ≡ false → Staged capacity disk log (Some base) snap v
+    → IsFlushed v × IsFullCopy capacity disk base.mark log v
+
+-- and, of a snapshot taken while the machine was off, what the log up to the power-off leaves
+abbrev pub WholeAtOffPlace : Type 0
+WholeAtOffPlace = (capacity disk : ℕ) (log : List Entry) (snap : Snapped) (place : ℕ)
+    (v : VolumeContents) → Legal (only disk capacity) log → IsSnapOf log snap
+    → snap.off_place ≡ Some place → IsFullCopy capacity disk snap.mark log v
+    → IsFullCopy capacity disk place log v
 
 -- whatever the loose sectors hold, what is staged stays so
 abbrev pub FillingsStay : Type 0

@@ -1,6 +1,6 @@
--- How far a stage has come with its disk, as numbers: what each of its steps makes of them, and how
--- far it has still to go. Which sectors its steps may write is told beside it, since that depends
--- on the log of the machine.
+-- How far a stage has come with its disk, as numbers: what each of its steps makes of them, when it
+-- may be taken, and how far it has still to go. The blocks that a stage asks for depend on the log
+-- of the machine, and are handed in.
 use Rattle.std.specs.Prelude.{◌≡◌, ℕ, ◌+◌, ◌-◌, ◌*◌, ◌<◌, ◌≤◌, List, Bool, true, false, ◌||◌, if◌then◌else◌}
 use Rattle.std.specs.List.{sum_by}
 use Rattle.sector_model.specs.Run.{end_of, in_blocks, areas_of}
@@ -56,7 +56,8 @@ IsReady blocks t = (sector : ℕ) → t.at ≤ sector → sector < t.covered
 abbrev pub sectors_below : (blocks : List ℕ) (sector : ℕ) → ℕ
 sectors_below blocks sector = sum_by (λ r. r.count) (areas_of sector blocks)
 
--- the run is a piece: some sectors, and not too many, of those that pages were taken for
+-- the run is a piece: some sectors, and not too many, of those that pages were taken for, and none
+-- before `at`
 pub record IsPiece (run : Run) (t : StageState) : Type 0 where
   pub some : 1 ≤ run.count
   pub few : run.count ≤ MAX_PIECE_SECTORS

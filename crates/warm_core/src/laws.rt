@@ -1,13 +1,31 @@
 //! Laws of the definitions. Each function's contract is the law, and its body does nothing.
-ghost use Rattle.warm_core.specs.Laws.{StagesAreAnswered, StageNumbersStay, StagesWithVolumesStay, StagesBegin, FillingsStay, PiecesMayBeNext, StagesEnd, StartsAreSound, EventsKeepSound, EntriesKeepSound, LawOfTheCore};
+ghost use Rattle.warm_core.specs.Laws.{StagesAreAnswered, StageNumbersStay, StagesWithVolumesStay, NumbersBegin, StagesBegin, WrittenAtEnd, GroundsStay, EntriesStay, LaterSnapshotsStay, FinishedSnapshotsGo, FinishedIsWhole, WholeAtOffPlace, FillingsStay, PiecesMayBeNext, StagesEnd, StartsAreSound, EventsKeepSound, EntriesKeepSound, LawOfTheCore};
 
 /// What is known of a stage and of its volume stays so under each of its steps and under entries of
-/// the machine's log. A finished stage leaves a base, and a piece that broke what a later stage
-/// begins with.
+/// the machine's log. A finished stage leaves a base, and has written what it had to; a piece that
+/// broke leaves what a later stage begins with.
 pub fn stages_stay()
     ensures begun { StagesBegin }
+    ensures numbers_begun { NumbersBegin }
     ensures numbers { StageNumbersStay }
     ensures volumes { StagesWithVolumesStay }
+    ensures ended { WrittenAtEnd }
+    ensures ground { GroundsStay }
+{}
+
+/// What is known of a volume between stages stays so under entries of the machine's log, under a
+/// later snapshot that becomes the current one, and where a finished snapshot goes.
+pub fn staged_stays()
+    ensures entries { EntriesStay }
+    ensures later { LaterSnapshotsStay }
+    ensures gone { FinishedSnapshotsGo }
+{}
+
+/// Where the current snapshot is finished, the volume is just what the log up to its mark leaves,
+/// which is also what the log up to its power-off leaves, and nothing of it is loose.
+pub fn finished_is_whole()
+    ensures whole { FinishedIsWhole }
+    ensures off { WholeAtOffPlace }
 {}
 
 /// A query answers a stage the areas of the blocks that it asks for, in pages that lie within the

@@ -2,10 +2,10 @@
 //! kept of it by every list of events.
 //!
 //! A disk is copied to its volume stage after stage, each from a snapshot, while the machine writes
-//! on. The first stage is full: it copies what was ever written, and zeroes the rest. Each later one
-//! is partial: it copies what changed since the last stage that was finished. Nothing here knows
-//! devices, threads or files. All numbers count sectors, but for marks and places, which count the
-//! entries of a log.
+//! on. Until one was finished each stage is full: it copies what was ever written, and zeroes the
+//! rest. A later one is partial: it copies what changed since the last stage that was finished, but
+//! becomes full where the disk was reset since. Nothing here knows devices, threads or files. All
+//! numbers count sectors, but for marks and places, which count the entries of a log.
 #![tactic(auto)]
 
 mod asked;
@@ -22,8 +22,8 @@ mod tests;
 pub use disk_world::{Base, DiskWorld};
 pub use event::{CoreRefused, Event};
 pub use laws::{
-    fillings_stay, pieces_may_be_next, stages_are_answered, stages_end, stages_stay,
-    whatever_happens, worlds_stay_sound,
+    fillings_stay, finished_is_whole, pieces_may_be_next, staged_stays, stages_are_answered,
+    stages_end, stages_stay, whatever_happens, worlds_stay_sound,
 };
 pub use stage_state::{MAX_PIECE_SECTORS, Piece, StageState};
 pub use stepping::{follow, step};

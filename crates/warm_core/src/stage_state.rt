@@ -59,8 +59,8 @@ impl StageState {
         }
     }
 
-    /// What the stage does next, by the page that it took last. Before its first page any page
-    /// serves.
+    /// What the stage does next, by the page that it took last. Before its first page, and after a
+    /// page was refused, any page serves.
     pub fn piece(&self, page: &Page) -> Piece
         requires page { 0 < self.now.covered → Reaches self.now page.now }
         ensures { result ≡ piece_of self.now page.now }

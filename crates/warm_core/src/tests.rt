@@ -1,9 +1,11 @@
-ghost use Rattle.std.specs.Prelude.{IfOk};
+//! Worlds and stages on a disk of two blocks: what may happen and what may not, what is written, and
+//! that a stop anywhere ends in the same volume.
+ghost use Rattle.std.specs.Prelude.{◌≡◌, [], ◌∷◌, IfOk};
 ghost use Rattle.warm_core.specs.DiskWorld.{StandsSound};
 
-use crate::{CoreRefused, DiskWorld, Event, follow, step};
+use crate::{CoreRefused, DiskWorld, Event, Piece, StageState, follow, step};
 use log_model::{Act, Entry, Owner};
-use sector_model::{NoMemory, Run, Sector, SectorList};
+use sector_model::{NoMemory, Page, Run, Sector, SectorList};
 use std::alloc::Global;
 use std::process::Abort;
 use std::test::Fail;
@@ -51,17 +53,20 @@ fn begin(snap: u32) -> Event {
     Event::Begin { snap, last: false }
 }
 
-fn run(first: u64, count: u64) -> Run {
+fn run(first: u64, count: u64) -> Run
+    ensures { result ≡ record { first = first; count = count } }
+{
     Run { first, count }
 }
 
 /// A guest's write of one sector, number 200.
 fn write(alloc: Global) -> Result<Event, Fail> {
-    Ok(entry(Act::Write {
+    let act = Act::Write {
         disk: 0,
         first: 200,
         sectors: SectorList::of(alloc, &[Sector::filled(WRITTEN)])?,
-    }))
+    };
+    Ok(Event::Machine(Entry { who: 3, act }))
 }
 
 /// The steps of a full stage from the first snapshot, then of a partial one from the second.
@@ -120,6 +125,16 @@ fn a_partial_stage_counts_what_it_copied(rt: HostRuntime) -> Result<(), Fail> {
 }
 
 #[test]
+fn nothing_completes_before_the_last_snapshot(rt: HostRuntime) -> Result<(), Fail> {
+    not_now(&rt, rt.alloc(), 15, Event::Complete)
+}
+
+#[test]
+fn a_snapshot_that_is_copied_stays(rt: HostRuntime) -> Result<(), Fail> {
+    not_now(&rt, rt.alloc(), 12, entry(Act::Remove { id: 2 }))
+}
+
+#[test]
 fn a_page_that_is_answered_is_not_refused(rt: HostRuntime) -> Result<(), Fail> {
     not_now(&rt, rt.alloc(), 11, Event::PageRefused)
 }
@@ -150,10 +165,7 @@ fn a_reset_refuses_the_page(rt: HostRuntime) -> Result<(), Fail> {
     assert!(rt; !went);
     let (world, went) = go(alloc, world, Event::PageRefused)?;
     assert!(rt; went);
-    assert_eq!(rt;
-        world.stage.map(|stage| (stage.full, stage.at)),
-        Some((true, 0))
-    );
+    assert_eq!(rt; world.stage, Some(StageState::begin(256, true)));
     Ok(())
 }
 
@@ -247,7 +259,7 @@ fn complete(rt: &impl Abort, alloc: Global, start: DiskWorld) -> Result<(), Fail
     assert_eq!(rt; world.complete, Some(4));
     for (at, sector) in world.volume.as_slice().iter().enumerate() {
         let byte = if at == 200 { WRITTEN } else { 0 };
-        assert_eq!(rt; sector.0[511], byte, "sector {at}");
+        assert_eq!(rt; *sector, Sector::filled(byte), "sector {at}");
     }
     Ok(())
 }
@@ -294,6 +306,70 @@ fn a_cancelled_world_begins_no_stage(rt: HostRuntime) -> Result<(), Fail> {
     assert!(rt; cancelled);
     let (_world, began) = go(alloc, world, begin(1))?;
     assert!(rt; !began);
+    Ok(())
+}
+
+/// The page of a disk of two blocks of which the second was written.
+fn page(alloc: Global) -> Result<Page, Fail>
+    ensures { IfOk result (λ page. page ≡ record {
+      start = 0;
+      length = 256;
+      areas = record { first = 128; count = 128 } ∷ [];
+    }) }
+{
+    let mut page = Page::new(alloc)?;
+    page.push(Run {
+        first: 128,
+        count: 128,
+    });
+    page.cover(256);
+    Ok(page)
+}
+
+#[test]
+fn a_full_stage_goes_through_gap_and_area(rt: HostRuntime) -> Result<(), Fail> {
+    let page = page(rt.alloc())?;
+    let mut stage = StageState::begin(256, true);
+    assert_eq!(rt; stage.piece(&page), Piece::Ask(0));
+    stage.area_page(&page);
+    assert_eq!(rt; stage.piece(&page), Piece::Zero(run(0, 128)));
+    stage.zeroed(run(0, 128));
+    assert_eq!(rt; stage.piece(&page), Piece::Copy(run(128, 128)));
+    stage.copied(run(128, 128));
+    assert_eq!(rt; stage.piece(&page), Piece::Flush);
+    stage.flushed();
+    assert_eq!(rt; stage.piece(&page), Piece::Done);
+    assert_eq!(rt; (stage.done(), stage.written), (true, 256));
+    Ok(())
+}
+
+#[test]
+fn a_partial_stage_copies_its_area_alone(rt: HostRuntime) -> Result<(), Fail> {
+    let page = page(rt.alloc())?;
+    let mut stage = StageState::begin(256, false);
+    stage.area_page(&page);
+    assert_eq!(rt; stage.piece(&page), Piece::Copy(run(128, 128)));
+    stage.copied(run(128, 128));
+    assert_eq!(rt; stage.piece(&page), Piece::Flush);
+    stage.flushed();
+    assert_eq!(rt; (stage.done(), stage.written), (true, 128));
+    Ok(())
+}
+
+#[test]
+fn a_refused_stage_begins_anew(rt: HostRuntime) -> Result<(), Fail> {
+    let page = page(rt.alloc())?;
+    let mut stage = StageState::begin(256, false);
+    stage.refused();
+    assert_eq!(rt; stage, StageState::begin(256, true));
+    assert_eq!(rt; stage.piece(&page), Piece::Ask(0));
+    Ok(())
+}
+
+#[test]
+fn refusals_are_told(rt: HostRuntime) -> Result<(), Fail> {
+    let text = format!(in rt.alloc(); "{}, {}", CoreRefused::NotNow, CoreRefused::NoMemory)?;
+    assert_eq!(rt; text.as_str(), "not now, no memory");
     Ok(())
 }
 
