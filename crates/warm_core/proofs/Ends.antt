@@ -133,8 +133,7 @@ not-loose v s false is none = is
 on_base-whole : (c d : ℕ) (log : List Entry) (b : Base) (snap : Option Snapped) (v : VolumeContents) → Legal (only d c) log → IsSized c v → is_unfinished (Some b) snap ≡ false
     → IsOnBase c d log b snap v → IsFlushed v × IsFullCopy c d b.mark log v
 on_base-whole c d log b snap v legal sized finished on =
-    let open_is = nothing-open c d log b snap finished in
-    (
+    let open_is = nothing-open c d log b snap finished in (
       all-false v.loose (λ k. not-loose v k (is_loose k v) refl (λ loose.
           false≢true (sym (ap (λ (bs : List ℕ). in_blocks bs k) open_is) ∙ on.loose_inside k loose)))
           ∙ ap (λ n. replicate n false) (sized.1 ∙ sym sized.0),

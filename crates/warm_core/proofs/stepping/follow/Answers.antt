@@ -54,8 +54,7 @@ next-of (first ∷ yielded) more event = next-of yielded more event
 cut-at : (yielded rest more all : List Event) (event : Event) (a b : World) → yielded ++ rest ≡ all → rest ≡ event ∷ more → Follows yielded a b → MayHappen event b → IsCutShort all a b
 cut-at yielded rest more all event a b left is follows may =
     let next : slice_get all (length yielded) ≡ Some event =
-    ap (λ (xs : List Event). slice_get xs (length yielded)) (sym left ∙ ap (λ (xs : List Event). yielded ++ xs) is) ∙ next-of yielded more event in
-    (
+    ap (λ (xs : List Event). slice_get xs (length yielded)) (sym left ∙ ap (λ (xs : List Event). yielded ++ xs) is) ∙ next-of yielded more event in (
       length yielded,
       followed-front yielded rest all a b left follows,
       subst (λ (o : Option Event). IsSomeAnd o (λ e. MayHappen e b)) (sym next) may,
@@ -69,8 +68,7 @@ returns-in-Err-default-NoMemory-clause-cut c =
     let yielded = c.loop-event.yielded in
     let event = c.in-Some.event in
     let left = c.loop-event.invariant.left ∙ c.into_iter-event-iterator.ensures.into_iter_gives.0 in
-    let may = subst (λ (why : CoreRefused). IsRefusalOf event (world_of old) why) c.in-Err-default-NoMemory.field-0-1-is c.in-Err-default-NoMemory.ensures.refused in
-    (
+    let may = subst (λ (why : CoreRefused). IsRefusalOf event (world_of old) why) c.in-Err-default-NoMemory.field-0-1-is c.in-Err-default-NoMemory.ensures.refused in (
       subst (λ (w : DiskWorld). StandsSound w) (sym kept) c.loop-event.invariant.sound,
       subst (λ (w : DiskWorld). IsCutShort c.args.events.items (world_of c.args.world) (world_of w)) (sym kept)
           (cut-at yielded c.loop-event.event-iterator.rest.items c.next.new.self.rest.items c.args.events.items event (world_of c.args.world) (world_of old) left
