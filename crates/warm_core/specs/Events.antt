@@ -1,5 +1,5 @@
--- What may happen to the world of one disk, and what it leaves. Each event has one condition and one
--- effect; where its condition doesn't hold, it isn't carried out and leaves nothing.
+-- What may happen to the world of one disk, and what it leaves. Each event has one condition and
+-- one effect; where its condition doesn't hold, it isn't carried out and leaves nothing.
 use Rattle.std.specs.Prelude.{◌≡◌, ℕ, ◌+◌, ◌<◌, ◌≤◌, ◌==◌, ◌⊎◌, List, [], ◌∷◌, ◌++◌, length, take, slice_get, Bool, true, false, Option, Some, None, IsSome, IfSome, IsSomeAnd, is_none, option_map, Result, Ok, Err, IsOk, IsErr}
 use Rattle.std.specs.Option.{ForSome, option_and_then}
 use Rattle.sector_model.specs.Run.{end_of}

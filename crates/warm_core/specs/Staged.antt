@@ -112,7 +112,8 @@ HasWritten capacity disk log base snap false at written =
 HasWritten capacity disk log None snap true at written = written ≡ at
 HasWritten capacity disk log (Some base) snap true at written =
     (at ≤ written)
-    × (written ≤ at + sectors_below (blocks_asked capacity disk log (Some base) snap false) capacity)
+    × (written ≤ at
+    + sectors_below (blocks_asked capacity disk log (Some base) snap false) capacity)
 
 -- what is known of a stage's numbers at a log
 pub record StageFits (capacity disk : ℕ) (log : List Entry) (base : Option Base) (snap : Snapped)

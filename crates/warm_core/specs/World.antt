@@ -1,6 +1,6 @@
--- The world of one disk that is migrated: the log of its machine, what its volume holds, and how far
--- its stages have come. It is plain data, so that a history can carry it. Most facts about it are
--- about its parts, so that whoever has only some of them can use the same words; those of a
+-- The world of one disk that is migrated: the log of its machine, what its volume holds, and how
+-- far its stages have come. It is plain data, so that a history can carry it. Most facts about it
+-- are about its parts, so that whoever has only some of them can use the same words; those of a
 -- snapshot that may go, of a complete world and of a stage that runs are about the whole.
 use Rattle.std.specs.Prelude.{◌≡◌, ℕ, ◌<◌, ◌≤◌, ◌⊎◌, List, length, Bool, true, false, Option, Some, None, IsSome, IsSomeAnd}
 use Rattle.std.specs.Option.{ForSome}

@@ -1,5 +1,5 @@
-//! Worlds and stages on a disk of two blocks: what may happen and what may not, what is written, and
-//! that a stop anywhere ends in the same volume.
+//! Worlds and stages on a disk of two blocks: what may happen and what may not, what is written,
+//! and that a stop anywhere ends in the same volume.
 ghost use Rattle.std.specs.Prelude.{◌≡◌, [], ◌∷◌, IfOk};
 ghost use Rattle.warm_core.specs.DiskWorld.{StandsSound};
 
