@@ -1,8 +1,8 @@
 ghost use Rattle.std.specs.Prelude.{◌≡◌, ◌+◌, ◌<◌, ◌≤◌, OnOk, IfOk};
 
-use crate::{TrackRefused, Tracker, answer_pages_join, room_is_no_part};
+use crate::{TrackRefused, Tracker};
 use change_id::{ChangeId, Since, pack};
-use sector_model::{PAGE_AREAS, Page, Run};
+use sector_model::{BLOCK_SECTORS, PAGE_AREAS, Page, Run};
 use std::alloc::Global;
 use std::process::Abort;
 use std::test::Fail;
@@ -22,6 +22,8 @@ fn run(first: u64, count: u64) -> Run {
 /// A tracker kept as lists, which forgets nothing.
 #[derive(Drop)]
 struct Plain {
+    alloc: Global,
+    capacity: u64,
     /// Each run that was marked, and how many snapshots were frozen before.
     marks: Vec<(usize, Run)>,
     snapshots: Vec<(u32, Option<ChangeId>)>,
@@ -30,15 +32,55 @@ struct Plain {
 }
 
 impl Plain {
+    fn new(alloc: Global, capacity: u64) -> Plain {
+        Plain {
+            alloc,
+            capacity,
+            marks: Vec::new(alloc),
+            snapshots: Vec::new(alloc),
+            resets: 0,
+            counted: None,
+        }
+    }
+
     /// Whether a block was marked after `from` freezes or more, and before `end`.
     fn is_marked(&self, from: usize, end: usize, block: u64) -> bool {
         self.marks.iter().any(|entry| {
             let (freezes, run) = entry;
             from <= *freezes
                 && *freezes < end
-                && run.first / 128 <= block
-                && block <= run.first.saturating_add(run.count).saturating_sub(1) / 128
+                && run.first / BLOCK_SECTORS <= block
+                && block <= run.first.saturating_add(run.count).saturating_sub(1) / BLOCK_SECTORS
         })
+    }
+
+    /// The sectors of a block from `start` on.
+    fn part(&self, block: u64, start: u64) -> Run {
+        let first = block.saturating_mul(BLOCK_SECTORS);
+        let past = first.saturating_add(BLOCK_SECTORS).min(self.capacity);
+        let first = first.max(start);
+        run(first, past.saturating_sub(first))
+    }
+
+    /// The areas from `start` on of the blocks that were marked in a window.
+    fn areas_from(&self, from: usize, end: usize, start: u64) -> Result<Vec<Run>, Fail> {
+        let mut areas: Vec<Run> = Vec::new(self.alloc);
+        let mut area = run(start, 0);
+        for block in start / BLOCK_SECTORS..self.capacity.div_ceil(BLOCK_SECTORS) {
+            let part = self.part(block, start);
+            if self.is_marked(from, end, block) {
+                area.count = area.count.saturating_add(part.count);
+            } else {
+                if area.count != 0 {
+                    areas.push(area)?;
+                }
+                area = run(part.first.saturating_add(part.count), 0);
+            }
+        }
+        if area.count != 0 {
+            areas.push(area)?;
+        }
+        Ok(areas)
     }
 
     /// The place behind the snapshot of an identifier, if it is of this epoch and not later than
@@ -61,6 +103,32 @@ impl Plain {
             _ => None,
         }
     }
+}
+
+/// A run that two draws say, at most 200 sectors long where `is_short`.
+fn drawn_run(capacity: u64, first: u64, count: u64, is_short: bool) -> Run
+    requires some { 0 < capacity }
+{
+    let first = first % capacity;
+    let count = 1 + count % (capacity - first);
+    if is_short {
+        run(first, count.min(200))
+    } else {
+        run(first, count)
+    }
+}
+
+/// One time in two, reserves places for a drawn run that needn't be marked next.
+fn reserve_another(tracker: &mut Tracker, capacity: u64, draw: u64) -> Result<(), Fail>
+    requires some { 0 < capacity }
+    ensures free { OnOk result (tracker.new.free_from ≡ tracker.old.free_from) }
+    ensures few { OnOk result (tracker.new.epoch ≡ tracker.old.epoch) }
+{
+    if draw & 256 != 0 {
+        let other = drawn_run(capacity, draw >> 30, draw >> 10, draw & 1024 != 0);
+        tracker.reserve_mark(other)?;
+    }
+    Ok(())
 }
 
 /// Does what a draw says, to the tracker and to the lists.
@@ -96,9 +164,7 @@ fn act(
         plain.counted = plain.counted.map(|_| 0);
         return Ok(());
     }
-    let first = (draw >> 40) % capacity;
-    let count = 1 + (draw >> 20) % (capacity - first);
-    let marked = run(first, count);
+    let marked = drawn_run(capacity, draw >> 40, draw >> 20, draw & 512 != 0);
     if draw & 128 != 0 {
         tracker.reserve_mark(marked)?;
         tracker.reserve_freeze()?;
@@ -108,122 +174,118 @@ fn act(
     Ok(())
 }
 
-/// Compares a page with the blocks that were marked in a window.
+/// What is asked: a snapshot, its place and the identifier that it was told, and a page's start.
+#[derive(Clone, Copy)]
+struct Asked {
+    snapshot: u32,
+    place: usize,
+    told: Option<ChangeId>,
+    start: u64,
+}
+
+/// Compares a page with the blocks that were marked after `from` freezes or more and before the
+/// snapshot that is asked.
 fn compare_page(
     rt: &impl Abort,
     page: &Page,
     plain: &Plain,
     from: usize,
-    end: usize,
-    capacity: u64,
-) {
-    assert_eq!(rt; page.length(), capacity);
-    for at in 0..capacity {
-        let is_in = page
-            .areas()
-            .iter()
-            .any(|area| area.first <= at && at - area.first < area.count);
-        assert_eq!(rt; is_in, plain.is_marked(from, end, at / 128), "sector {at}");
-    }
+    asked: Asked,
+) -> Result<(), Fail> {
+    let areas = plain.areas_from(from, asked.place.saturating_add(1), asked.start)?;
+    assert_eq!(rt; page.areas(), areas.as_slice());
+    assert_eq!(rt; page.start(), asked.start);
+    assert_eq!(rt; page.length(), plain.capacity.saturating_sub(asked.start));
+    Ok(())
 }
 
-/// Compares the answer since an identifier at the snapshot at a place.
+/// Compares the answer since an identifier.
 fn compare_since(
     rt: &impl Abort,
     tracker: &Tracker,
     plain: &Plain,
-    place: usize,
+    asked: Asked,
     id: ChangeId,
-    capacity: u64,
     page: &mut Page,
-) {
-    let Some((snapshot, _)) = plain.snapshots.get(place).copied() else {
-        return;
-    };
-    match plain.behind(id, place) {
+) -> Result<(), Fail> {
+    let answer = tracker.query(asked.snapshot, Since::From(id), asked.start, page);
+    match plain.behind(id, asked.place) {
         Some(from) => {
-            assert_eq!(rt; tracker.query(snapshot, Since::From(id), 0, page), Ok(()));
-            compare_page(rt, page, plain, from, place.saturating_add(1), capacity);
+            assert_eq!(rt; answer, Ok(()));
+            compare_page(rt, page, plain, from, asked)?;
         }
         None => {
-            assert_eq!(rt;
-                tracker.query(snapshot, Since::From(id), 0, page),
-                Err(TrackRefused::Strange(plain.in_force()))
-            );
+            assert_eq!(rt; answer, Err(TrackRefused::Strange(plain.in_force())));
         }
     }
+    Ok(())
 }
 
-/// Compares all answers at the snapshot at a place.
+/// Compares all answers at a snapshot.
 fn compare_at(
     rt: &impl Abort,
     tracker: &Tracker,
     plain: &Plain,
-    place: usize,
-    capacity: u64,
+    asked: Asked,
     page: &mut Page,
-) {
-    let Some((snapshot, told)) = plain.snapshots.get(place).copied() else {
-        return;
-    };
-    assert_eq!(rt; tracker.id_of(snapshot), Ok(told));
-    assert_eq!(rt; tracker.query(snapshot, Since::All, 0, page), Ok(()));
-    compare_page(rt, page, plain, 0, place.saturating_add(1), capacity);
+) -> Result<(), Fail> {
+    assert_eq!(rt; tracker.id_of(asked.snapshot), Ok(asked.told));
+    assert_eq!(rt;
+        tracker.query(asked.snapshot, Since::All, asked.start, page),
+        Ok(())
+    );
+    compare_page(rt, page, plain, 0, asked)?;
     for other in &plain.snapshots {
         if let Some(id) = other.1 {
-            compare_since(rt, tracker, plain, place, id, capacity, page);
+            compare_since(rt, tracker, plain, asked, id, page)?;
         }
     }
-    compare_since(
-        rt,
-        tracker,
-        plain,
-        place,
-        id_of(plain.resets, 0),
-        capacity,
-        page,
-    );
-    compare_since(
-        rt,
-        tracker,
-        plain,
-        place,
-        id_of(plain.resets, 99),
-        capacity,
-        page,
-    );
+    compare_since(rt, tracker, plain, asked, id_of(plain.resets, 0), page)?;
+    compare_since(rt, tracker, plain, asked, id_of(plain.resets, 99), page)
+}
+
+/// Compares all answers at all snapshots, from the disk's start and from another sector.
+fn compare_all(
+    rt: &impl Abort,
+    tracker: &Tracker,
+    plain: &Plain,
+    start: u64,
+    page: &mut Page,
+) -> Result<(), Fail> {
+    for (place, kept) in plain.snapshots.iter().enumerate() {
+        let asked = Asked {
+            snapshot: kept.0,
+            place,
+            told: kept.1,
+            start: 0,
+        };
+        compare_at(rt, tracker, plain, asked, page)?;
+        compare_at(rt, tracker, plain, Asked { start, ..asked }, page)?;
+    }
+    Ok(())
 }
 
 /// Does thirty draws on a disk, and compares all answers after each.
 fn run_on(rt: &impl Abort, alloc: Global, capacity: u64, seed: u64) -> Result<(), Fail>
     requires some { 0 < capacity }
-    requires few { capacity < 10000 }
 {
     let mut tracker = Tracker::new(alloc, 1, 0, capacity)?;
     let mut page = Page::new(alloc)?;
-    let mut plain = Plain {
-        marks: Vec::new(alloc),
-        snapshots: Vec::new(alloc),
-        resets: 0,
-        counted: None,
-    };
+    let mut plain = Plain::new(alloc, capacity);
     let mut state = seed;
     for id in 0..30u32 {
         state = state
             .wrapping_mul(6364136223846793005)
             .wrapping_add(1442695040888963407);
+        reserve_another(&mut tracker, capacity, state >> 7)?;
         act(rt, &mut tracker, &mut plain, capacity, id, state >> 7)?;
-        for place in 0..plain.snapshots.len() {
-            compare_at(rt, &tracker, &plain, place, capacity, &mut page);
-        }
+        compare_all(rt, &tracker, &plain, (state >> 24) % capacity, &mut page)?;
     }
     Ok(())
 }
 
 #[test]
 fn answers_are_those_of_lists_kept_beside(rt: HostRuntime) -> Result<(), Fail> {
-    room_is_no_part();
-    answer_pages_join();
     run_on(&rt, rt.alloc(), 1, 11)?;
     run_on(&rt, rt.alloc(), 129, 22)?;
     run_on(&rt, rt.alloc(), 700, 33)?;
@@ -233,6 +295,28 @@ fn answers_are_those_of_lists_kept_beside(rt: HostRuntime) -> Result<(), Fail> {
 #[test]
 fn words_of_a_large_disk_are_joined(rt: HostRuntime) -> Result<(), Fail> {
     run_on(&rt, rt.alloc(), 8192 + 300, 55)
+}
+
+#[test]
+fn a_last_sector_alone_in_its_word_is_told(rt: HostRuntime) -> Result<(), Fail> {
+    run_on(&rt, rt.alloc(), 3 * 8192 + 1, 66)?;
+    run_on(&rt, rt.alloc(), 3 * 8192 + 1, 77)
+}
+
+#[test]
+fn a_word_that_nothing_touched_parts_two_areas(rt: HostRuntime) -> Result<(), Fail> {
+    let alloc = rt.alloc();
+    let mut tracker = Tracker::new(alloc, 1, 0, 3 * 8192 + 1)?;
+    let mut page = Page::new(alloc)?;
+    tracker.mark(run(8191, 1))?;
+    tracker.mark(run(24_576, 1))?;
+    tracker.freeze(1)?;
+    tracker.query(1, Since::All, 0, &mut page)?;
+    assert_eq!(rt; page.areas(), [run(8064, 128), run(24_576, 1)].as_slice());
+    tracker.query(1, Since::All, 8192, &mut page)?;
+    assert_eq!(rt; page.areas(), [run(24_576, 1)].as_slice());
+    assert_eq!(rt; page.length(), 16_385);
+    Ok(())
 }
 
 #[test]
@@ -368,5 +452,29 @@ fn refused_calls_say_why(rt: HostRuntime) -> Result<(), Fail> {
         tracker.query(7, Since::All, 300, &mut page),
         Err(TrackRefused::Range)
     );
+    Ok(())
+}
+
+#[test]
+fn each_refusal_has_its_text(rt: HostRuntime) -> Result<(), Fail> {
+    let texts = [
+        (
+            TrackRefused::UnknownSnap,
+            "no snapshot was frozen under that id",
+        ),
+        (
+            TrackRefused::Range,
+            "the range is empty or passes the disk's end, or starts at it",
+        ),
+        (
+            TrackRefused::Strange(None),
+            "the identifier is none of this epoch up to the snapshot",
+        ),
+        (TrackRefused::NoMemory, "out of memory"),
+    ];
+    for (refusal, text) in texts {
+        let printed = format!(in rt.alloc(); "{refusal}")?;
+        assert_eq!(rt; printed.as_str(), text);
+    }
     Ok(())
 }
