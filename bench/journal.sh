@@ -1,7 +1,7 @@
 #!/bin/sh
 # Measures the opening of a full journal in memory, that one more record is refused, and appends to an empty one.
 # It proves and builds a program of its own in a folder that it removes, which takes some minutes.
-# Usage: bench/journal.sh. It needs rt and awk. With the word 'try' it proves nothing.
+# Usage: bench/journal.sh. It needs rt and awk.
 
 here=$(CDPATH='' cd -- "$(dirname -- "$0")" && pwd) || exit 1
 folder=$(mktemp -d) || exit 1
@@ -20,7 +20,7 @@ cp "$here/../HANDLES" "$folder/" || exit 1
 : >"$folder/crates/full/specs/Lib.antt"
 : >"$folder/crates/full/proofs/Lib.antt"
 cp "$here/journal_in_rattle.txt" "$folder/crates/full/src/main.rt" || exit 1
-(cd "$folder/crates/full" && rt "${1:-run}") >"$folder/out" 2>&1 || {
+(cd "$folder/crates/full" && rt run) >"$folder/out" 2>&1 || {
     cat "$folder/out" >&2
     exit 1
 }
