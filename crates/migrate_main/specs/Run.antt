@@ -3,7 +3,7 @@
 use Rattle.std.specs.Prelude.{◌≡◌, ◌⊎◌, ◌↔◌, ◌<◌, ℕ, [], true, Some}
 use Rattle.edge_traits.specs.Source.{SourceState}
 use Rattle.edge_traits.specs.Sink.{SinkState}
-use Rattle.edge_traits.specs.Disk.{DiskState}
+use Rattle.edge_traits.specs.Disk.{DiskState, settled}
 use Rattle.target_volume.specs.VolumeStore.{StoreState}
 use Rattle.migrate_server.specs.World.{world_of}
 use Rattle.migrate_server.specs.Serves.{Serves}
@@ -18,7 +18,7 @@ empty_store = record { volumes = Some []; loans = []; faults = 0; sound = true }
 
 -- the disk, which isn't used
 abbrev pub unused_disk : DiskState
-unused_disk = record { faults = 0 }
+unused_disk = record { contents = Some (settled []); faults = 0 }
 
 -- with so many words the program ended with this status
 pub record Ends (words : ℕ) (source source_after : SourceState) (sink sink_after : SinkState)
