@@ -2,3 +2,6 @@ pub mod UuidBytes
 pub mod SpellingLemmas
 pub mod NumberLemmas
 pub mod AnswerLemmas
+pub mod Ends
+pub mod IdPlaces
+pub mod Filtered

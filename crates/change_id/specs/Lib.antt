@@ -1,3 +1,4 @@
 pub mod ChangeId
 pub mod History
 pub mod Laws
+pub mod Filtered

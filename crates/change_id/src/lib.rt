@@ -8,6 +8,7 @@ ghost use Rattle.std.specs.Prelude.{◌≡◌, ◌≤◌, ◌<◌, ◌↔◌, �
 ghost use Rattle.std.specs.Str.{IsAscii};
 ghost use Rattle.change_id.specs.declared.ChangeId.{ChangeId};
 ghost use Rattle.change_id.specs.ChangeId.{refusal_number, packed, spelling, uuid_text, uuid_part, number_part, IsUuidText, IsNumberText, IsAnswer, Spells, LacksSlash, LacksUuid, LacksNumber, slash};
+ghost use Rattle.change_id.specs.Filtered.{TellingsAreRead, FilteredListsReadTheSame, FilteredListsAnswerTheSame};
 ghost use Rattle.change_id.specs.Laws.{OneAnswer, WrittenParses, SpellingsDiffer, PackingsFit, PackingsDiffer};
 
 use std::error::Error;
@@ -214,6 +215,23 @@ pub fn packings_fit()
 /// No two triples of machine, disk and resets share a packing.
 pub fn packings_differ()
     ensures { PackingsDiffer }
+{}
+
+/// Whatever is told on of entries, a reading of what was told gives one of the entries.
+pub fn tellings_are_read<E, F>()
+    ensures { TellingsAreRead E F }
+{}
+
+/// Where of each entry of a list that which it is to the tracking was told on, and of the others
+/// nothing, what was told says the same as the list: the epoch, the numbers, the identifiers and
+/// which of them is accepted, and, at places of its own, the marks.
+pub fn filtered_lists_read_the_same<E, F>()
+    ensures { FilteredListsReadTheSame E F }
+{}
+
+/// And a query of either has the same answer, where the same changed between the same places.
+pub fn filtered_lists_answer_the_same<E, F, A>()
+    ensures { FilteredListsAnswerTheSame E F A }
 {}
 
 #[cfg(test)]
