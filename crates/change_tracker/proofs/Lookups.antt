@@ -24,7 +24,7 @@ use Rattle.change_tracker.specs.Touches.{is_touched, areas_in}
 use Rattle.change_tracker.specs.Maps.{window}
 use Rattle.change_tracker.specs.Kept.{AreIds, IsAt, is_accepted, window_from, in_force_of, snapshot_at}
 use Rattle.change_tracker.specs.History.{TrackStep, reading, freezes, runs_between, areas_between, answered, mark, id_at, is_met, changed_in, IsFrozenAs, AreNumbered, StandsFor, snapshot_refusal, query_refusal}
-use Rattle.change_tracker.proofs.Blocks.{same_blocks}
+use Rattle.sector_model.proofs.Among.{same_blocks}
 use Rattle.change_tracker.proofs.Steps.{epoch_of, number_of, force, place_of_id, apart}
 use Rattle.change_tracker.proofs.States.{view, in_changes}
 
