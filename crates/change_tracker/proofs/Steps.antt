@@ -5,7 +5,7 @@ use Rattle.std.specs.Option.{option_or}
 use Rattle.std.proofs.Math.Bool.{or-false}
 use Rattle.std.proofs.lemmas.Bool.{cases_eq, cases_lt, eqb-true, eq-eqb, ne_eqb, eqb-false, false≢true}
 use Rattle.std.proofs.lemmas.Option.{same_Some, none-some}
-use Rattle.std.proofs.lemmas.List.{take-append-le, take_all, append-nil, drop_all}
+use Rattle.std.proofs.lemmas.List.{take-append-le, drop-append-le, take_all, append-nil, drop_all}
 use Rattle.std.proofs.lemmas.List.Sums.{fold-append, sum_by-append}
 use Rattle.std.proofs.lemmas.List.Elements.{filter_map-append}
 use Rattle.std.proofs.lemmas.List.Folds.{list_any-append}
@@ -83,16 +83,11 @@ counts_reset (Some n) = refl
 pub runs_stay : (from end : ℕ) (h more : List TrackStep) → end ≤ length h → runs_between from end (h ++ more) ≡ runs_between from end h
 runs_stay from end h more le = ap (λ (xs : List TrackStep). filter_map run_in (drop from xs)) (take-append-le end h more le)
 
-pub drop-front : {X : Type 0} (n : ℕ) (xs ys : List X) → n ≤ length xs → drop n (xs ++ ys) ≡ drop n xs ++ ys
-drop-front zero xs ys le = refl
-drop-front (suc n) [] ys le = absurd (omega arith)
-drop-front (suc n) (x ∷ xs) ys le = drop-front n xs ys (omega (arith, le))
-
 pub runs_push : (from : ℕ) (h : List TrackStep) (x : TrackStep) → from ≤ length h
     → runs_between from (length (h ++ x ∷ [])) (h ++ x ∷ []) ≡ runs_between from (length h) h ++ filter_map run_in (x ∷ [])
 runs_push from h x le =
     ap (λ (xs : List TrackStep). filter_map run_in (drop from xs)) (take_all (length (h ++ x ∷ [])) (h ++ x ∷ []) (omega arith))
-    ∙ ap (λ (xs : List TrackStep). filter_map run_in xs) (drop-front from h (x ∷ []) le)
+    ∙ ap (λ (xs : List TrackStep). filter_map run_in xs) (drop-append-le from h (x ∷ []) le)
     ∙ filter_map-append run_in (drop from h) (x ∷ [])
     ∙ ap (λ (xs : List TrackStep). filter_map run_in (drop from xs) ++ filter_map run_in (x ∷ [])) (sym (take_all (length h) h (omega arith)))
 
