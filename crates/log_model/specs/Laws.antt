@@ -235,7 +235,8 @@ NumberedPlaceIsMark = (machine d s : ℕ) (id : ChangeId) (log : List Entry)
     → accepts machine d s id log ≡ true
     → mark_of_id machine d id log ≡ Some (numbered_place d id.seq log)
 
--- the mark of an identifier is the one place of the snapshot that has it, and later entries leave it
+-- the mark of an identifier is the one place of the snapshot that has it, and later entries leave
+-- it
 abbrev pub MarksOfIds : (machine d : ℕ) (id : ChangeId) (log : List Entry) → Type 0
 MarksOfIds machine d id log = laws.MarksOfIds (reading_of d) machine d id log
 
