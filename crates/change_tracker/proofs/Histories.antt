@@ -3,23 +3,22 @@ use Rattle.std.proofs.Common.{◌≡◌, ℕ, zero, suc, ◌+◌, ◌-◌, ◌<�
 use Rattle.std.specs.List.{list_any, find, slice_get, filter_map, range_with_len, filter}
 use Rattle.std.specs.Option.{option_or}
 use Rattle.std.proofs.Math.Bool.{or-false}
-use Rattle.std.proofs.lemmas.Bool.{cases_eq, cases_lt, eq-eqb, ne_eqb, eqb-true, false≢true}
+use Rattle.std.proofs.lemmas.Bool.{cases_lt, eq-eqb, eqb-true, false≢true}
 use Rattle.std.proofs.lemmas.Option.{same_Some, none-some, slice_get_within}
-use Rattle.std.proofs.lemmas.List.{take-append-le, drop-append-le, take_all, append-nil, drop_all}
+use Rattle.std.proofs.lemmas.List.{take-append-le, drop-append-le, take_all, append-nil}
 use Rattle.std.proofs.lemmas.List.Sums.{sum_by-take-le}
 use Rattle.std.proofs.lemmas.List.Folds.{list_any-append, find-append}
-use Rattle.sector_model.specs.Run.{meets, met_blocks, blocks_where, block_count}
+use Rattle.sector_model.specs.Run.{meets, met_blocks, block_count}
 use Rattle.sector_model.specs.declared.run.Run.{Run}
 use Rattle.basics.proofs.ItemAt.{slice_get-front}
 use Rattle.change_id.specs.ChangeId.{packed}
-use Rattle.change_id.specs.History as history
 use Rattle.change_id.specs.declared.ChangeId.{ChangeId}
 use Rattle.change_id.proofs.Counts.{epoch-append, counted-last}
 use Rattle.change_id.proofs.IdMarks.{in_force-parts, same-epochs, mark-stays, later_entries_keep}
 use Rattle.change_tracker.specs.Tracker.{TrackerState, Snapshot, snapshot_of, fresh, next_id, with_met, after_marking, after_freezing, after_enabling, after_reset, without_changes}
 use Rattle.change_tracker.specs.History.{TrackStep, Marked, Frozen, Enabled, Reset, reading, freezes, is_reset, run_in, runs_between, mark, id_at, is_met, IsFrozenAs, IsOfEpoch, changed_in, TellsChanges, AreNumbered, StandsFor, Takes}
 use Rattle.change_tracker.proofs.Blocks.{among, same_blocks, met_more}
-use Rattle.change_tracker.proofs.Steps.{place-le, place_known, place_new, epoch_of, counted_of, number_of, counts_mark, counts_freeze, counts_enable, counts_reset, runs_stay, runs_push, runs_none, force, force_some}
+use Rattle.change_tracker.proofs.Steps.{place_new, epoch_of, counted_of, number_of, counts_mark, counts_freeze, counts_enable, counts_reset, runs_stay, runs_push, runs_none, force, force_some}
 
 -- ---- parts of a list
 
