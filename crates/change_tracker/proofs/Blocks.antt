@@ -1,8 +1,7 @@
 -- The areas of the blocks of a disk that pass a test.
-use Rattle.std.proofs.Common.{◌≡◌, ℕ, zero, suc, ◌+◌, ◌*◌, ◌/◌, ◌<◌, ◌≤◌, List, [], ◌∷◌, ◌++◌, Bool, true, false, ◌&&◌, ◌||◌, nat_eq, sym, ap, refl, ◌∙◌, arith}
-use Rattle.std.specs.List.{filter, list_any, range_with_len}
-use Rattle.std.proofs.lemmas.Bool.{eqb-true, lt-ltb, le-ltb}
-use Rattle.sector_model.specs.Run.{blocks_where, block_count, in_blocks, in_runs, areas_of, meets}
+use Rattle.std.proofs.Common.{◌≡◌, ℕ, ◌/◌, ◌<◌, ◌≤◌, Bool, false, ◌&&◌, ap, ◌∙◌, arith}
+use Rattle.std.proofs.lemmas.Bool.{lt-ltb, le-ltb}
+use Rattle.sector_model.specs.Run.{blocks_where, in_blocks, in_runs, areas_of}
 use Rattle.sector_model.proofs.Among.{among}
 use Rattle.sector_model.proofs.Exact.{in_runs_of}
 

@@ -1,8 +1,6 @@
-use Rattle.std.proofs.Common.{◌≡◌, Option, Some, Result, Ok, Err, OnErr, sym, ap, subst, refl, ◌∙◌, true, rules}
-use Rattle.sector_model.specs.declared.run.Run.{Run}
+use Rattle.std.proofs.Common.{◌≡◌, Some, ap, ◌∙◌, true, rules}
 use Rattle.change_tracker.specs.Tracker.{TrackerState}
 use Rattle.sector_model.specs.Run.{is_within}
-use Rattle.change_tracker.specs.Kept.{state_of}
 use Rattle.change_tracker.proofs.States.{same_state}
 use Rattle.change_tracker.proofs.Results.{refuse_within, only_memory, on_err}
 use Rattle.change_tracker.proofs.tracker.Tracker.reserve_mark.Goals as goal
