@@ -4,16 +4,13 @@ use Rattle.sector_model.specs.Run.{in_blocks, areas_of, met_blocks}
 use Rattle.sector_model.specs.declared.run.Run.{Run}
 use Rattle.sector_model.specs.Page.{PagesTell}
 use Rattle.sector_model.proofs.AreaPages.{area_pages_join}
+use Rattle.change_id.proofs.Answered.{ok_part}
 use Rattle.change_id.specs.History as history
 use Rattle.change_id.specs.declared.ChangeId.{ChangeId}
 use Rattle.change_id.specs.declared.Since.{Since}
 use Rattle.change_id.specs.declared.Since.TheVariants.{All, From}
 use Rattle.change_tracker.specs.History.{TrackStep, reading, freezes, runs_between, areas_between, answered}
 use Rattle.change_tracker.specs.Laws.{AnswerPagesJoin}
-
-ok_part : (b : Bool) (x y : List Run) (e : Option ChangeId) → cond b (Ok x) (Err e) ≡ Ok y → x ≡ y
-ok_part true x y e h = cc
-ok_part false x y e h = absurd (cc)
 
 -- an answer is the areas of some blocks
 of_blocks : (machine disk capacity snapshot : ℕ) (since : Since) (steps : List TrackStep) (areas : List Run) → answered machine disk capacity snapshot since steps ≡ Ok areas

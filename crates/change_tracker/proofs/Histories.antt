@@ -11,7 +11,7 @@ use Rattle.std.proofs.lemmas.List.Folds.{list_any-append, find-append}
 use Rattle.sector_model.specs.Run.{meets, met_blocks, block_count, with_met}
 use Rattle.sector_model.specs.declared.run.Run.{Run}
 use Rattle.basics.proofs.ItemAt.{slice_get-front, slice_get-last}
-use Rattle.change_id.specs.ChangeId.{packed}
+use Rattle.change_id.specs.ChangeId.{id_of, packed}
 use Rattle.change_id.specs.declared.ChangeId.{ChangeId}
 use Rattle.change_id.proofs.Counts.{epoch-append, counted-last}
 use Rattle.change_id.proofs.IdMarks.{in_force-parts, same-epochs, mark-stays, later_entries_keep}
@@ -273,9 +273,6 @@ new_facts id old h le stands =
 abbrev frozen_snapshot : (id : ℕ) (old : TrackerState) → Snapshot
 frozen_snapshot id old = record { id = id; change_id = next_id old; blocks = old.blocks; changes = old.changes }
 
-abbrev numbered : ℕ → ℕ → ChangeId
-numbered u k = record { uuid = u; seq = k }
-
 -- the last snapshots are numbered from 1 on, the new one among them
 numbered_new : (old : TrackerState) (y : Snapshot) (n uuid : ℕ) → AreNumbered old (length old.snapshots) n uuid → y.change_id ≡ Some (record { uuid = uuid; seq = n + 1 })
     → (new : TrackerState) → new.snapshots ≡ old.snapshots ++ y ∷ [] → AreNumbered new (length old.snapshots + 1) (n + 1) uuid
@@ -287,7 +284,7 @@ numbered_new old y n uuid was told new grown = record {
         let place : length old.snapshots + 1 - (n + 1 - seq) - 1 ≡ length old.snapshots = omega (arith, is) in (
           y,
           ap (λ (xs : List Snapshot). slice_get xs (length old.snapshots + 1 - (n + 1 - seq) - 1)) grown ∙ ap (slice_get (old.snapshots ++ y ∷ [])) place ∙ slice_get-last old.snapshots y,
-          told ∙ ap (λ (k : ℕ). Some (numbered uuid k)) (sym is),
+          told ∙ ap (λ (k : ℕ). Some (id_of uuid k)) (sym is),
         )
     | inr early ↦
         let e = was.each seq low early in
@@ -303,13 +300,13 @@ numbered_old old y end count uuid was new grown = record {
       (e.0, ap (λ (xs : List Snapshot). slice_get xs (end - (count - seq) - 1)) grown ∙ at_front old.snapshots (y ∷ []) (end - (count - seq) - 1) e.0 e.1, e.2);
 }
 
-told_seq : (old : TrackerState) (told : ChangeId) (o : Option ℕ) → old.counted ≡ o → next_id old ≡ Some told → (n : ℕ) × (o ≡ Some n) × (told ≡ numbered (packed old.machine old.disk old.epoch) (n + 1))
-told_seq old told None is next = absurd (none-some told (sym (ap (λ (o : Option ℕ). option_map (λ n. numbered (packed old.machine old.disk old.epoch) (n + 1)) o) is) ∙ next))
+told_seq : (old : TrackerState) (told : ChangeId) (o : Option ℕ) → old.counted ≡ o → next_id old ≡ Some told → (n : ℕ) × (o ≡ Some n) × (told ≡ id_of (packed old.machine old.disk old.epoch) (n + 1))
+told_seq old told None is next = absurd (none-some told (sym (ap (λ (o : Option ℕ). option_map (λ n. id_of (packed old.machine old.disk old.epoch) (n + 1)) o) is) ∙ next))
 told_seq old told (Some n) is next =
-    (n, refl, sym (same_Some (numbered (packed old.machine old.disk old.epoch) (n + 1)) told (sym (ap (λ (o : Option ℕ). option_map (λ n. numbered (packed old.machine old.disk old.epoch) (n + 1)) o) is) ∙ next)))
+    (n, refl, sym (same_Some (id_of (packed old.machine old.disk old.epoch) (n + 1)) told (sym (ap (λ (o : Option ℕ). option_map (λ n. id_of (packed old.machine old.disk old.epoch) (n + 1)) o) is) ∙ next)))
 
-next_told : (old : TrackerState) (n : ℕ) → old.counted ≡ Some n → next_id old ≡ Some (numbered (packed old.machine old.disk old.epoch) (n + 1))
-next_told old n is = ap (λ (o : Option ℕ). option_map (λ n. numbered (packed old.machine old.disk old.epoch) (n + 1)) o) is
+next_told : (old : TrackerState) (n : ℕ) → old.counted ≡ Some n → next_id old ≡ Some (id_of (packed old.machine old.disk old.epoch) (n + 1))
+next_told old n is = ap (λ (o : Option ℕ). option_map (λ n. id_of (packed old.machine old.disk old.epoch) (n + 1)) o) is
 
 present_of : (old : TrackerState) (n : ℕ) (h : List TrackStep) → StandsFor old h → old.counted ≡ Some n → AreNumbered old (length old.snapshots) n (packed old.machine old.disk old.epoch)
 present_of old n h stands is =

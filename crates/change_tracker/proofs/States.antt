@@ -13,7 +13,8 @@ use Rattle.change_tracker.specs.declared.maps.Maps.{Maps}
 use Rattle.change_tracker.specs.declared.word.Touch.{Touch}
 use Rattle.change_tracker.specs.declared.word.Window.{Window}
 use Rattle.change_tracker.specs.Tracker.{Snapshot, fresh, after_marking, after_freezing, after_reset, without_changes}
-use Rattle.change_tracker.specs.Touches.{WordState, TouchState, is_of, has_bit, touched_in, word_of, is_touched, HasSame, blocks_in}
+use Rattle.basics.specs.Bits.{has_bit}
+use Rattle.change_tracker.specs.Touches.{WordState, TouchState, is_of, touched_in, word_of, is_touched, HasSame, blocks_in}
 use Rattle.change_tracker.specs.Maps.{window, HasSameTouches, IsTouchedWhere, NoneTouchedLater, is_met_by}
 use Rattle.change_tracker.specs.Kept.{snapshot_at, state_of, AreIds, NoLater, IsByNow}
 use Rattle.sector_model.proofs.Among.{among, same_blocks, met_more, none_pass}

@@ -8,7 +8,8 @@ use Rattle.std.proofs.lemmas.List.{take-append-drop}
 use Rattle.std.proofs.lemmas.List.Folds.{list_any-append}
 use Rattle.change_tracker.specs.declared.word.Touch.{Touch}
 use Rattle.change_tracker.specs.declared.word.Window.{Window}
-use Rattle.change_tracker.specs.Touches.{is_of, has_bit}
+use Rattle.basics.specs.Bits.{has_bit}
+use Rattle.change_tracker.specs.Touches.{is_of}
 use Rattle.change_tracker.specs.Rising.{AreRising}
 
 past : (from bound : ℕ) (xs : List Touch) (j : ℕ) (d : Touch) → AreRising from bound xs → j < length xs → from ≤ (get_or xs j d).freezes

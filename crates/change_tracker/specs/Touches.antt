@@ -22,9 +22,6 @@ pub record WordState : Type 0 where
 abbrev pub is_inside : Window → (freezes : ℕ) → Bool
 is_inside window freezes = nat_le window.from freezes && nat_lt freezes window.end
 
-abbrev pub has_bit : (bits place : ℕ) → Bool
-has_bit bits place = bit_at bits place == 1
-
 -- the touch is of the block at a place of the word, and inside the window
 abbrev pub is_of : Window → (place : ℕ) → Touch → Bool
 is_of window place touch = is_inside window touch.freezes && has_bit touch.bits place

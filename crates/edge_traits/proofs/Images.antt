@@ -18,9 +18,6 @@ use Rattle.basics.proofs.Replaced.{length-replaced_past, get_or-replaced_before,
 abbrev pub AllowsNoMore : (before now : DiskContents) → Type 0
 AllowsNoMore before now = (image : List ℕ) → IsImage now image → IsImage before image
 
-neither : (a b : Bool) → a ≡ false → b ≡ false → (a || b) ≡ false
-neither a b ha hb = rw (ha, hb) refl
-
 -- a byte that isn't loose after a range became loose is outside that range, and was not before
 pub not_loosened : (c : DiskContents) (first count offset : ℕ)
     → is_loose offset (loosened first count c) ≡ false
@@ -38,7 +35,7 @@ pub still_not_loosened : (c : DiskContents) (first count offset : ℕ) → is_lo
 still_not_loosened c first count offset old new =
     let span : Span = record { first = first; count = count } in
     list_any-append (covers offset) c.loose (span ∷ [])
-    ∙ neither _ _ old (neither (covers offset span) false new refl)
+    ∙ rw (old, new) refl
 
 -- an offset outside a span is before it or behind it
 pub not_covered : (offset first count : ℕ)

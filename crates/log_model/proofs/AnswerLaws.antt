@@ -16,7 +16,7 @@ use Rattle.log_model.specs.PlainMachine.{numbered_place}
 use Rattle.log_model.specs.Laws.{AnswersStay, IdsAnswerBetween, NumberedPlaceIsMark}
 use Rattle.change_id.proofs.Counts.{epoch-append, epoch-between, number-take-le, number-le}
 use Rattle.log_model.proofs.Later.{later_entries_keep, numbered_place_gives}
-use Rattle.log_model.proofs.AnswerPages.{ok_part}
+use Rattle.change_id.proofs.Answered.{ok_part}
 use Rattle.change_id.proofs.IdMarks.{found-has, epoch-there, in_force-parts, in_force-made, same-epochs}
 use Rattle.log_model.proofs.Readings.{apart, marks_of_ids}
 

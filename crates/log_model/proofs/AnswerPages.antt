@@ -8,6 +8,7 @@ use Rattle.sector_model.specs.declared.run.Run.{Run}
 use Rattle.sector_model.proofs.Spacing.{SpacedWithin, runs_of-spaced}
 use Rattle.sector_model.proofs.AreaPages.{pages_tell}
 use Rattle.sector_model.proofs.PageWithin.{page_lies_within}
+use Rattle.change_id.proofs.Answered.{ok_part}
 use Rattle.change_id.specs.declared.ChangeId.{ChangeId}
 use Rattle.change_id.specs.declared.Since.{Since}
 use Rattle.change_id.specs.declared.Since.TheVariants.{All as Everything, From}
@@ -16,10 +17,6 @@ use Rattle.log_model.specs.Query.{changed_areas, accepts}
 use Rattle.log_model.specs.Marks.{mark, in_force, mark_of_id}
 use Rattle.log_model.specs.Touched.{touched, touched_areas}
 use Rattle.log_model.specs.Laws.{AnswersAreAreas, AnswerPagesJoin, AllPagesAreTheAnswer}
-
-pub ok_part : (b : Bool) (x y : List Run) (e : Option ChangeId) → cond b (Ok x) (Err e) ≡ Ok y → x ≡ y
-ok_part true x y e h = cc
-ok_part false x y e h = absurd (cc)
 
 -- from sector 0 on, nothing is left out or clipped
 areas_from-start : (m : ℕ) (rs : List Run) → AreSpacedFrom m rs → areas_from 0 rs ≡ rs
