@@ -211,10 +211,11 @@ impl SourceDisk {
         ensures found { (log : List Entry) → StandsFor self.now log
             → IfOk result (λ found. found ≡ id_told id self.now log) }
     {
-        if !self.is_live(id) {
-            return Err(TrackRefused::UnknownSnap);
+        if self.is_live(id) {
+            self.tracker.id_of(id)
+        } else {
+            Err(TrackRefused::UnknownSnap)
         }
-        self.tracker.id_of(id)
     }
 
     /// Forgets what changed and begins a new epoch: identifiers that were given are strange from
