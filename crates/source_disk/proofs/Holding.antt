@@ -1,5 +1,5 @@
 -- What a disk that stands for a log holds.
-use Rattle.std.proofs.Common.{◌≡◌, ℕ, ◌+◌, ◌<◌, ◌≤◌, List, [], ◌∷◌, ◌++◌, length, Bool, true, false, cond, Option, Some, None, is_some, subst, sym, ap, refl, ◌∙◌, arith}
+use Rattle.std.proofs.Common.{◌≡◌, ℕ, ◌+◌, ◌<◌, ◌≤◌, List, [], ◌∷◌, ◌++◌, length, Bool, true, false, cond, eqb, Option, Some, None, is_some, subst, sym, ap, refl, ◌∙◌, arith}
 use Rattle.std.specs.Option.{option_map, IsSomeAnd}
 use Rattle.std.specs.List.{All, cons_option, filter_map}
 use Rattle.std.proofs.lemmas.List.{append-nil}
@@ -45,7 +45,7 @@ holds_the_log reads d log stands =
           let P : List Run → Type 0 = λ runs. IsSomeAnd (snapshot_of s d.chain) (λ x. areas_of c x.blocks ≡ runs) in
           subst P (allocated_told c s n log) (holds.areas s (live_told s n log ∙ is));
       epoch = stands.tracker.epoch ∙ epoch_told n log;
-      few_resets = count_by-le-length (λ e. resets n e.act) log;
+      few_resets = let few = count_by-le-length (λ e. resets n e.act) log in omega (arith, few, stands.tracker.epoch, epoch_told n log);
     }
 
 -- ---- the next snapshot's number
@@ -76,7 +76,7 @@ act_adds disks disk who log ids act may all = by act may
         (raised (taken log + 1) (taken log + 0 + 1) ids (omega arith) all)
 
     by : (act : Act) → ActMayStand disks log who act → AreTaken (taken log + cond (is_snap act) 1 0 + 1) (ids ++ frozen_ids (cons_option (chain_event disk act) []))
-    by (Write other first sectors) may = same _ (no_ids (other == disk) (Written (record { first = first; sectors = sectors })) refl)
+    by (Write other first sectors) may = same _ (no_ids (eqb other disk) (Written (record { first = first; sectors = sectors })) refl)
     by (Snap id owner) may = All-push (λ s. s < taken log + 1 + 1) ids id (raised (taken log + 1) (taken log + 1 + 1) ids (omega arith) all) (omega (arith, may.0))
     by (Remove id) may = same [] refl
     by (Reset other) may = same [] refl

@@ -27,9 +27,9 @@ pub record HoldsTheLog (d : SourceDiskState) (log : List Entry) : Type 0 where
   pub areas : (s : ℕ) → is_live s log ≡ true
       → IsSomeAnd (snapshot_of s d.chain) (λ snapshot. areas_of (capacity_of d) snapshot.blocks
       ≡ touched_areas (capacity_of d) (number_of d) 0 (mark s log) log)
-  -- how often its tracking was reset
+  -- how often its tracking was reset, which is no more than the log has entries
   pub epoch : d.tracker.epoch ≡ epoch (number_of d) log
-  pub few_resets : epoch (number_of d) log ≤ length log
+  pub few_resets : d.tracker.epoch ≤ length log
 
 abbrev pub StandingHolds : Type 0
 StandingHolds = (d : SourceDiskState) (log : List Entry) → StandsFor d log → HoldsTheLog d log
