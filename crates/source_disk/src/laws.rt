@@ -2,15 +2,11 @@
 //! call the laws of the disk's parts.
 ghost use Rattle.source_disk.specs.Laws.{StandingHolds, NextIsFree, OthersPass, RoomIsNoPart};
 
-use snapshot_chain::reads_the_fold;
-
 /// A disk that stands for a log holds what the log says: its contents now and at each live
 /// snapshot, which snapshots these are, what was touched before each, and its epoch.
 pub fn standing_holds()
     ensures { StandingHolds }
-{
-    reads_the_fold();
-}
+{}
 
 /// The number that the next snapshot of a legal log gets is free.
 pub fn next_is_free()
