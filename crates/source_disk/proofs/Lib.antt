@@ -3,3 +3,4 @@ pub mod Steps
 pub mod Taking
 pub mod Holding
 pub mod Answering
+pub mod Untouched

@@ -1,11 +1,12 @@
 -- What a disk that stands for a log holds, in the words of the log. Each law is the contract of a
 -- public function of laws.rt.
-use Rattle.std.specs.Prelude.{◌≡◌, ℕ, ◌+◌, ◌≤◌, List, length, true, false, Some, None}
+use Rattle.std.specs.Prelude.{◌≡◌, ℕ, ◌+◌, ◌<◌, ◌≤◌, List, length, slice_get, true, false, Some, None}
 use Rattle.std.specs.Option.{IsSomeAnd}
-use Rattle.sector_model.specs.Run.{areas_of}
+use Rattle.sector_model.specs.Run.{in_runs, areas_of}
+use Rattle.sector_model.specs.Sector.{zero_sector}
 use Rattle.log_model.specs.declared.entry.Act.{Act}
 use Rattle.log_model.specs.declared.entry.Entry.{Entry}
-use Rattle.log_model.specs.Legal.{Disks, Legal, taken}
+use Rattle.log_model.specs.Legal.{Disks, HasDisk, Legal, taken}
 use Rattle.log_model.specs.Marks.{epoch}
 use Rattle.log_model.specs.Refusals.{is_live}
 use Rattle.source_disk.specs.SourceDisk.{SourceDiskState, number_of, capacity_of, epoch_of, has_snapshot, IsFree, contents_of, blocks_of, IsSameButRoom}
@@ -44,3 +45,10 @@ OthersPass = (d : SourceDiskState) (act : Act) → concerns (number_of d) act �
 abbrev pub RoomIsNoPart : Type 0
 RoomIsNoPart = (old new : SourceDiskState) (log : List Entry) → IsSameButRoom old new
     → StandsFor old log → StandsFor new log
+
+-- outside the areas that were touched before a snapshot, the snapshot has zero sectors
+abbrev pub UntouchedIsZero : Type 0
+UntouchedIsZero = (disks : Disks) (d : SourceDiskState) (log : List Entry) (s sector : ℕ)
+    → Legal disks log → HasDisk disks (number_of d) (capacity_of d) → sector < capacity_of d
+    → in_runs (allocated_told s d log) sector ≡ false
+    → slice_get (contents_told (Some s) d log) sector ≡ Some zero_sector
