@@ -10,8 +10,6 @@ use Rattle.std.proofs.lemmas.List.Elements.{filter-append, All-head, All-tail, A
 use Rattle.std.proofs.lemmas.List.Sums.{sum_by-append, sum_by-cons}
 use Rattle.std.proofs.lemmas.Grind.{flat_map-append}
 use Rattle.basics.specs.Faults.{Rose, HasRisen}
-use Rattle.reply_json.specs.Reply.{reply_data}
-use Rattle.serde_json.specs.Written.{compact_text}
 use Rattle.edge_traits.specs.Source.{SourceState}
 use Rattle.edge_traits.specs.Sink.{SinkState, AppendsPrefix}
 use Rattle.migrate_server.specs.declared.line_buffer.LineBuffer.{LineBuffer}
@@ -619,7 +617,7 @@ ended_without_line old now source reader reader_after NoLineMemory p f =
 
 reply_some : (reply : Answer) → 0 < length (answer_line reply)
 unfolding answer_line
-reply_some reply = let e = length-append (compact_text (reply_data (reply_for reply))) (10 ∷ []) in omega (arith, e)
+reply_some reply = omega (arith, length-append {A = ℕ})
 
 cut_bytes : (replies : List Answer) (reply : Answer) (place : ℕ) → (text_of replies ++ take place (answer_line reply)) ++ drop place (answer_line reply) ≡ text_of (replies ++ reply ∷ [])
 cut_bytes replies reply place =
