@@ -35,7 +35,7 @@ use Rattle.migrate_server.specs.Answer.{Answer, answer_line, reply_for}
 use Rattle.migrate_server.specs.Line.{AsksToQuit, Means, line_refusal, refused_by, quits, is_space, is_blank, is_lf, lines_of, ended_lines, before_first_line, requests_among}
 use Rattle.migrate_server.specs.LineBuffer.{Holds}
 use Rattle.migrate_server.specs.Reader.{ReaderState, HasNoLf, IsIdle, TakesLine, TakesEnd, HasNoLine, budget}
-use Rattle.migrate_server.specs.Serve.{AnswersLine, HasReply, TellsQuit, ServesLine, FailsInReply, LacksReply, LacksBytes, bytes_of_reply, stop_without_line, stop_without_reply, status_of}
+use Rattle.migrate_server.specs.Serve.{IsAnswered, HasReply, TellsQuit, ServesLine, FailsInReply, LacksReply, LacksBytes, bytes_of_reply, stop_without_line, stop_without_reply, status_of}
 use Rattle.migrate_server.specs.Serves.{Serves, NoneQuits, QuitsLast, EndsByQuit}
 use Rattle.migrate_server.specs.Session.{State, state_of, Session, Step}
 use Rattle.migrate_server.specs.World.{World}
@@ -95,12 +95,10 @@ tells_quit line what false is means = λ asks. false≢true (is ∙ ap quits (me
 
 -- ---- one line's answer
 
-pub has_reply : (line : List ℕ) (what : Line) (answer : Option Answer) (old new : State) → Means line what → AnswersLine what answer old new → HasReply line answer old new
-has_reply line Blank None old new means h = (means, h)
+pub has_reply : (line : List ℕ) (what : Line) (answer : Option Answer) (old new : State) → Means line what → IsAnswered what answer old new → HasReply line answer old new
+has_reply line what None old new means h = (subst (Means line) h.0 means, h.1)
 has_reply line Blank (Some answer) old new means h = absurd h
-has_reply line (Asks command) None old new means h = absurd h
 has_reply line (Asks command) (Some answer) old new means h = (means.some, (Asks command, means, h))
-has_reply line (Refuses why) None old new means h = absurd h
 has_reply line (Refuses why) (Some answer) old new means h = (means.0, (Refuses why, means, h))
 
 pub lacks_reply : (why : NoReply) (line : List ℕ) (answer : Answer) (sink sink_after : SinkState) (old new : State) → HasReply line (Some answer) old new → LacksBytes why (answer_line answer) sink sink_after

@@ -57,7 +57,8 @@ refused_by (Ok command) = None
 refused_by (Err why) = refusal_told why
 
 abbrev pub line_refusal : (line : List ℕ) → Option Refusal
-line_refusal line = if nat_le (length line) LINE_LIMIT then refused_by (command_of line) else Some Long
+line_refusal line =
+    if nat_le (length line) LINE_LIMIT then refused_by (command_of line) else Some Long
 
 -- the line asks for a command: it is one that is built, with all its members in their ranges
 pub record AsksFor (line : List ℕ) (command : Command) : Type 0 where

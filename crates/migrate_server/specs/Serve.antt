@@ -7,7 +7,7 @@ use Rattle.migrate_server.specs.Answer.{Answer, answer_line}
 use Rattle.migrate_server.specs.Line.{is_blank, AsksToQuit}
 use Rattle.migrate_server.specs.Session.{State, Step, LineAnswers}
 use Rattle.migrate_server.specs.declared.line.Line.{Line}
-use Rattle.migrate_server.specs.declared.line.Line.TheVariants.{Blank, Asks, Refuses}
+use Rattle.migrate_server.specs.declared.line.Line.TheVariants.{Blank}
 use Rattle.migrate_server.specs.declared.reader.NoLine.{NoLine}
 use Rattle.migrate_server.specs.declared.reader.NoLine.TheVariants.{Fault as LineFault, Limit, NoMemory as NoLineMemory}
 use Rattle.migrate_server.specs.declared.serve.NoReply.{NoReply}
@@ -18,13 +18,9 @@ use Rattle.migrate_server.specs.declared.status.Status.{Status}
 use Rattle.migrate_server.specs.declared.status.Status.TheVariants.{Ok as Served, ReadFault as EndsReadFault, WriteFault as EndsWriteFault, InputLimit as EndsInputLimit, NoMemory as EndsNoMemory}
 
 -- a line that means this has this answer, or none where it is blank
-abbrev pub AnswersLine : Line → Option Answer → (old new : State) → Type 0
-AnswersLine Blank None old new = new ≡ old
-AnswersLine Blank (Some answer) old new = ⊥
-AnswersLine (Asks command) None old new = ⊥
-AnswersLine (Asks command) (Some answer) old new = LineAnswers (Asks command) answer old new
-AnswersLine (Refuses why) None old new = ⊥
-AnswersLine (Refuses why) (Some answer) old new = LineAnswers (Refuses why) answer old new
+abbrev pub IsAnswered : Line → Option Answer → (old new : State) → Type 0
+IsAnswered what None old new = (what ≡ Blank) × (new ≡ old)
+IsAnswered what (Some answer) old new = LineAnswers what answer old new
 
 -- a blank line has no reply, and each other line has one
 abbrev pub HasReply : (line : List ℕ) → Option Answer → (old new : State) → Type 0

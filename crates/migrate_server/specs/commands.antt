@@ -1,2 +1,2 @@
 pub mod Moves
-pub mod Quits
+pub mod Quit

@@ -6,7 +6,7 @@ ghost use Rattle.migrate_server.specs.Answer.{answer_line};
 ghost use Rattle.migrate_server.specs.LineBuffer.{Holds};
 ghost use Rattle.migrate_server.specs.Line.{AsksInRange};
 ghost use Rattle.migrate_server.specs.Session.{serving, Answers};
-ghost use Rattle.migrate_server.specs.Serve.{AnswersLine, TellsQuit, ServesLine, LacksReply, LacksBytes, status_of};
+ghost use Rattle.migrate_server.specs.Serve.{IsAnswered, TellsQuit, ServesLine, LacksReply, LacksBytes, status_of};
 ghost use Rattle.migrate_server.specs.World.{world_of};
 ghost use Rattle.migrate_server.specs.Serves.{Serves};
 ghost use Rattle.migrate_server.specs.EndsFor.{EndsFor};
@@ -170,7 +170,7 @@ fn answer_to<T: VolumeStore>(
     store: &mut T,
 ) -> Result<Option<Answer>, NoMemory>
     requires { AsksInRange what }
-    ensures answer { IfOk result (λ answer. AnswersLine what answer
+    ensures answer { IfOk result (λ answer. IsAnswered what answer
         (serving (T.state store.old)) (serving (T.state store.new))) }
     ensures err { OnErr result (T.state store.new ≡ T.state store.old) }
 {

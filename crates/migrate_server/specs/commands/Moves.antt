@@ -1,6 +1,6 @@
--- The command `move`: when it is refused, what it answers, and what it leaves of the store. It needs
--- no machine. What it asks for says whether its writes fit; the store alone says whether the name is
--- taken, where it tells its volumes.
+-- The command `move`: when it is refused, what it answers, and what it leaves of the store. It
+-- needs no machine. What it asks for says whether its writes fit; the store alone says whether the
+-- name is taken, where it tells its volumes.
 use Rattle.std.specs.Prelude.{◌≡◌, ◌⊎◌, ℕ, ◌+◌, List, length, nat_le, is_some, if◌then◌else◌, Option, Some, None, IfSome, IsSomeAnd}
 use Rattle.std.specs.List.{list_all, sum_by}
 use Rattle.basics.specs.declared.limits.TheConstants.{MAX_LOGGED_SECTORS}

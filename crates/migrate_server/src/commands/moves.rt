@@ -21,10 +21,10 @@ use std::alloc::Global;
 use target_volume::{StoreRefused, VolumeName, VolumeStore};
 
 /// Applies the writes to a fresh disk, and copies it to a fresh volume of that name. In this order:
-/// [`Refusal::Range`] where a write passes the end of the disk, [`Refusal::LogFull`] where they have
-/// more sectors in sum than a log may have, both before the volume is made; [`Refusal::NameTaken`]
-/// where a volume has the name; [`Refusal::Volume`] where the store fails. It answers want of memory
-/// too, and has then changed nothing.
+/// [`Refusal::Range`] where a write passes the end of the disk, [`Refusal::LogFull`] where they
+/// have more sectors in sum than a log may have, both before the volume is made;
+/// [`Refusal::NameTaken`] where a volume has the name; [`Refusal::Volume`] where the store fails.
+/// It answers want of memory too, and has then changed nothing.
 pub(crate) fn run_move<T: VolumeStore>(
     alloc: Global,
     name: Name,

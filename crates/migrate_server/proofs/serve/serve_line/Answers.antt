@@ -1,6 +1,6 @@
 use Rattle.std.proofs.Common.{Some, subst}
 use Rattle.std.proofs.lemmas.Result.{err_from_is_err_and}
-use Rattle.migrate_server.specs.Serve.{AnswersLine}
+use Rattle.migrate_server.specs.Serve.{IsAnswered}
 use Rattle.migrate_server.specs.Session.{serving}
 use Rattle.migrate_server.proofs.Serving.{has_reply, lacks_reply}
 use Rattle.migrate_server.proofs.serve.serve_line.Goals as goal
@@ -11,7 +11,7 @@ returns-in_err-put_answer-clause-lacks g c =
     rw (p.1, p.2) (λ text held.
     let old = serving (g.T.VolumeStore.state c.args.store.now) in
     let new = serving (g.T.VolumeStore.state c.answer_to.new.store) in
-    let answers = subst (λ answer. AnswersLine c.in_ok-what.what answer old new) c.in-Some.is c.in_ok-answer.ensures.answer in
+    let answers = subst (λ answer. IsAnswered c.in_ok-what.what answer old new) c.in-Some.is c.in_ok-answer.ensures.answer in
     lacks_reply c.in_err-put_answer.field-0.0 text c.in-Some.answer (g.K.Sink.state c.args.out.now) (g.K.Sink.state c.put_answer.new.out) old new
     (has_reply text c.in_ok-what.what (Some c.in-Some.answer) old new (c.in_ok-what.ensures.means text held) answers)
     c.in_err-put_answer.ensures.lacks)
