@@ -2,7 +2,7 @@ use Rattle.std.proofs.Common.{◌∙◌}
 use Rattle.std.proofs.lemmas.Result.{err_from_is_err_and}
 use Rattle.target_volume.specs.declared.store_refused.StoreRefused.TheVariants.{Exists, Failed}
 use Rattle.migrate_server.proofs.NewVolumes.{copy_keeps, loan_found, lent_still, was_free, copied_home, failed_home}
-use Rattle.migrate_server.proofs.moves.copy_to_new_volume.Goals as goal
+use Rattle.migrate_server.proofs.commands.moves.copy_to_new_volume.Goals as goal
 
 pub keep_back-requires : goal.keep_back-requires
 keep_back-requires g c =

@@ -1,22 +1,27 @@
--- The command `move`: what is known of it when it was read, when it is refused, what it answers,
--- and what it leaves of the store. It needs no machine, so the store alone says whether the name is
--- taken, where it tells its volumes.
-use Rattle.std.specs.Prelude.{◌≡◌, ◌⊎◌, ℕ, ◌+◌, ◌≤◌, All, List, length, is_some, if◌then◌else◌, Option, Some, None, IfSome, IsSomeAnd}
+-- The command `move`: when it is refused, what it answers, and what it leaves of the store. It
+-- needs no machine. What it asks for says whether its writes fit; the store alone says whether the
+-- name is taken, where it tells its volumes.
+use Rattle.std.specs.Prelude.{◌≡◌, ◌⊎◌, ℕ, ◌+◌, List, length, nat_le, is_some, if◌then◌else◌, Option, Some, None, IfSome, IsSomeAnd}
+use Rattle.std.specs.List.{list_all, sum_by}
+use Rattle.basics.specs.declared.limits.TheConstants.{MAX_LOGGED_SECTORS}
+use Rattle.cmd_json.specs.declared.command.MoveWrite.{MoveWrite}
+use Rattle.reply_json.specs.declared.reply.Reply.{Reply}
+use Rattle.reply_json.specs.declared.reply.Reply.TheVariants.{Moved}
 use Rattle.target_volume.specs.VolumeName.{find_volume}
 use Rattle.target_volume.specs.VolumeStore.{StoreState, StoredVolume}
 use Rattle.target_volume.specs.declared.volume_name.VolumeName.{VolumeName}
 use Rattle.target_volume.specs.declared.volume_name.VolumeName.TheVariants.{Given}
 use Rattle.migrate_server.specs.NewVolume.{with_new_volume, copied_volume, FailsInCopy}
 use Rattle.migrate_server.specs.WrittenDisk.{written_disk}
-use Rattle.migrate_server.specs.declared.command.MoveWrite.{MoveWrite}
-use Rattle.migrate_server.specs.declared.reply.Refusal.{Refusal}
-use Rattle.migrate_server.specs.declared.reply.Refusal.TheVariants.{NameTaken}
-use Rattle.migrate_server.specs.declared.reply.Reply.{Reply}
-use Rattle.migrate_server.specs.declared.reply.Reply.TheVariants.{Moved}
+use Rattle.migrate_server.specs.declared.refusal.Refusal.{Refusal}
+use Rattle.migrate_server.specs.declared.refusal.Refusal.TheVariants.{Range, LogFull, NameTaken}
 
--- its writes lie within its disk
-abbrev pub MoveFits : (sectors : ℕ) → List MoveWrite → Type 0
-MoveFits sectors writes = All (λ w. w.first + w.count ≤ sectors) writes
+-- a write passes the end of the disk, or all have more sectors in sum than a log may have
+abbrev pub move_refusal : (sectors : ℕ) → List MoveWrite → Option Refusal
+move_refusal sectors writes =
+    if list_all (λ w. nat_le (w.first + w.count) sectors) writes
+    then if nat_le (sum_by (λ w. w.count) writes) MAX_LOGGED_SECTORS then None else Some LogFull
+    else Some Range
 
 abbrev pub name_refusal : (name : List ℕ) → List (VolumeName × StoredVolume) → Option Refusal
 name_refusal name volumes =
