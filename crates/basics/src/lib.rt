@@ -3,6 +3,7 @@
 #![tactic(auto)]
 
 mod calls;
+mod generator;
 mod limits;
 mod name;
 mod number_list;
@@ -14,6 +15,7 @@ mod tests;
 mod text;
 
 pub use calls::Calls;
+pub use generator::{INCREMENT, MULTIPLIER, advance};
 pub use limits::{
     MAX_DISK_SECTORS, MAX_DISKS, MAX_INTERVAL, MAX_LOGGED_SECTORS, MAX_WRITE_SECTORS,
 };

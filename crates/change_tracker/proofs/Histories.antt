@@ -10,7 +10,7 @@ use Rattle.std.proofs.lemmas.List.Sums.{sum_by-take-le}
 use Rattle.std.proofs.lemmas.List.Folds.{list_any-append, find-append}
 use Rattle.sector_model.specs.Run.{meets, met_blocks, blocks_where, block_count}
 use Rattle.sector_model.specs.declared.run.Run.{Run}
-use Rattle.sector_model.proofs.ItemAt.{slice_get-front}
+use Rattle.basics.proofs.ItemAt.{slice_get-front}
 use Rattle.change_id.specs.ChangeId.{packed}
 use Rattle.change_id.specs.History as history
 use Rattle.change_id.specs.declared.ChangeId.{ChangeId}

@@ -7,7 +7,7 @@ use Rattle.std.proofs.lemmas.List.{take-append-le, take-append-drop, take-take}
 use Rattle.std.proofs.lemmas.List.Sums.{fold-append, sum_by-take-le, sum_by-take-drop, passes_at_first}
 use Rattle.change_id.specs.ChangeId.{packed}
 use Rattle.change_id.specs.declared.ChangeId.{ChangeId}
-use Rattle.sector_model.proofs.ItemAt.{slice_get-front}
+use Rattle.basics.proofs.ItemAt.{slice_get-front}
 use Rattle.log_model.specs.declared.entry.Act.{Act}
 use Rattle.log_model.specs.declared.entry.Act.TheVariants.{Write, Snap, Remove, Reset, Enable, Off, On}
 use Rattle.log_model.specs.declared.entry.Entry.{Entry}

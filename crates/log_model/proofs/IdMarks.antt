@@ -6,7 +6,7 @@ use Rattle.std.proofs.lemmas.Option.{same_Some, none-some}
 use Rattle.std.proofs.lemmas.List.{take-append-le, take-take}
 use Rattle.change_id.specs.ChangeId.{packed}
 use Rattle.change_id.specs.declared.ChangeId.{ChangeId}
-use Rattle.sector_model.proofs.ItemAt.{slice_get-front, slice_get-take}
+use Rattle.basics.proofs.ItemAt.{slice_get-front, slice_get-take}
 use Rattle.log_model.specs.declared.entry.Entry.{Entry}
 use Rattle.log_model.specs.Entry.{is_snap, is_enable, resets}
 use Rattle.change_id.specs.History.{is_id}

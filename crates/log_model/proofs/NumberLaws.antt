@@ -9,9 +9,9 @@ use Rattle.log_model.specs.declared.entry.Entry.{Entry}
 use Rattle.log_model.specs.Entry.{is_snap, is_enable, resets}
 use Rattle.log_model.specs.Marks.{epoch, counted, counted_after, number}
 use Rattle.log_model.specs.Laws.{GivesNumber, NumbersHaveNoGap, NumbersDiffer}
-use Rattle.sector_model.proofs.ItemAt.{slice_get-front}
+use Rattle.basics.proofs.ItemAt.{slice_get-front}
 use Rattle.log_model.proofs.Last.{by_last, at_place}
-use Rattle.sector_model.proofs.ItemAt.{slice_get-last}
+use Rattle.basics.proofs.ItemAt.{slice_get-last}
 
 pub counted-last : (d : ℕ) (log : List Entry) (e : Entry) → counted d (log ++ e ∷ []) ≡ counted_after d (counted d log) e
 counted-last d log e = fold-append (counted_after d) None log (e ∷ [])

@@ -1,6 +1,5 @@
 pub mod Stamps
-pub mod ItemAt
-pub mod Replaced
+pub mod WritesKept
 pub mod Spacing
 pub mod RunsOf
 pub mod Exact

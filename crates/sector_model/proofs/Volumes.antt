@@ -7,12 +7,12 @@ use Rattle.std.proofs.lemmas.Option.{unwrap_or-slice_get}
 use Rattle.std.proofs.lemmas.List.{length-replicate}
 use Rattle.std.proofs.lemmas.List.Sums.{sum_by-cons}
 use Rattle.sector_model.specs.Sector.{zero_sector}
-use Rattle.sector_model.specs.Disk.{replaced}
+use Rattle.basics.specs.Replaced.{replaced}
 use Rattle.sector_model.specs.VolumeContents.{VolumeContents, IsSized, IsFlushed, loose_count, volume_written, volume_zeroed, IsBrokenAt, with_found, volume_stopped, loose_of, loose_sectors, DiffersOnlyWhereLoose}
 use Rattle.sector_model.specs.Laws.{VolumesKeepTheirSize, IsStopped, DiffersInARow, FlushedIsNoneLoose, LooseThen}
 use Rattle.sector_model.specs.declared.sector.Sector.{Sector}
-use Rattle.sector_model.proofs.ItemAt.{slice_get-take, slice_get-drop, slice_get-replicate}
-use Rattle.sector_model.proofs.Replaced.{length-replaced, replaced-before, replaced-within, replaced-behind}
+use Rattle.basics.proofs.ItemAt.{slice_get-take, slice_get-drop, slice_get-replicate}
+use Rattle.basics.proofs.Replaced.{length-replaced, replaced-before, replaced-within, replaced-behind}
 
 -- ---- sizes
 
@@ -138,7 +138,7 @@ broken_others capacity first sectors old new sized fits broken s tight =
     elim (cases_lt s first) [
       | inl less ↦
           sym (slice_get-take new.sectors first s less) ∙ ap (λ (xs : List Sector). slice_get xs s) broken.before ∙ slice_get-take old.sectors first s less
-          ∙ sym (replaced-before old.sectors sectors first within s less)
+          ∙ sym (replaced-before old.sectors sectors first (omega (arith, within)) s less)
       | inr from ↦ elim (cases_lt s (first + length sectors)) [
         | inl inside ↦ absurd (tight_outside capacity first (length sectors) old.loose s sized.1 fits from inside tight)
         | inr past ↦
@@ -146,7 +146,7 @@ broken_others capacity first sectors old new sized fits broken s tight =
             sym (slice_get-drop new.sectors (first + length sectors) (s - (first + length sectors)) ∙ ap (slice_get new.sectors) at)
             ∙ ap (λ (xs : List Sector). slice_get xs (s - (first + length sectors))) broken.behind
             ∙ slice_get-drop old.sectors (first + length sectors) (s - (first + length sectors)) ∙ ap (slice_get old.sectors) at
-            ∙ sym (replaced-behind old.sectors sectors first within s past)
+            ∙ sym (replaced-behind old.sectors sectors first (omega (arith, within)) s past)
       ]
     ]
 
@@ -231,15 +231,15 @@ loose-at loose first n s fits =
     let within : first + length (replicate n true) ≤ length loose = omega (arith, k, fits) in
     elim (cases_lt s first) [
       | inl less ↦
-          at-default (replaced loose first (replicate n true)) s ∙ ap (λ (o : Option Bool). unwrap_or o false) (replaced-before loose (replicate n true) first within s less) ∙ sym (at-default loose s)
+          at-default (replaced loose first (replicate n true)) s ∙ ap (λ (o : Option Bool). unwrap_or o false) (replaced-before loose (replicate n true) first (omega (arith, within)) s less) ∙ sym (at-default loose s)
           ∙ sym (ap (λ b. get_or loose s false || b) (in-range first n s (inl less)) ∙ or-false (get_or loose s false))
       | inr from ↦ elim (cases_lt s (first + n)) [
         | inl inside ↦
             at-default (replaced loose first (replicate n true)) s
-            ∙ ap (λ (o : Option Bool). unwrap_or o false) (replaced-within loose (replicate n true) first within s from (omega (arith, k, inside)) ∙ slice_get-replicate n (s - first) true (omega arith))
+            ∙ ap (λ (o : Option Bool). unwrap_or o false) (replaced-within loose (replicate n true) first (omega (arith, within)) s from (omega (arith, k, inside)) ∙ slice_get-replicate n (s - first) true (omega arith))
             ∙ sym (ap (λ b. get_or loose s false || b && ltb s (first + n)) (le-leb first s from) ∙ ap (λ b. get_or loose s false || b) (lt-ltb s (first + n) inside) ∙ or-true (get_or loose s false))
         | inr past ↦
-            at-default (replaced loose first (replicate n true)) s ∙ ap (λ (o : Option Bool). unwrap_or o false) (replaced-behind loose (replicate n true) first within s (omega (arith, k, past))) ∙ sym (at-default loose s)
+            at-default (replaced loose first (replicate n true)) s ∙ ap (λ (o : Option Bool). unwrap_or o false) (replaced-behind loose (replicate n true) first (omega (arith, within)) s (omega (arith, k, past))) ∙ sym (at-default loose s)
             ∙ sym (ap (λ b. get_or loose s false || b) (in-range first n s (inr past)) ∙ or-false (get_or loose s false))
       ]
     ]

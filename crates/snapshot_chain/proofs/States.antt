@@ -6,13 +6,13 @@ use Rattle.std.proofs.lemmas.Bool.{eq-eqb, cases_eq, cases_lt, ne_eqb, lt-ltb, l
 use Rattle.std.proofs.lemmas.List.{take_all, ext_get_or, get_or-take, get_or-drop}
 use Rattle.std.proofs.lemmas.List.FromFn.{length-map-range_with_len, get_or-map-range_with_len}
 use Rattle.std.proofs.lemmas.Option.{slice_get_past, slice_get-get_or, get_or_from_slice_get, unwrap_or-slice_get}
-use Rattle.sector_model.proofs.Replaced.{length-replaced, replaced-before, replaced-within, replaced-behind}
+use Rattle.basics.proofs.Replaced.{length-replaced, replaced-before, replaced-within, replaced-behind}
 use Rattle.sector_model.proofs.Touched.{filter-range_same}
 use Rattle.snapshot_chain.proofs.Writes.{run_before, run_from}
 use Rattle.snapshot_chain.proofs.Touching.{among, has_more}
 use Rattle.sector_model.specs.Sector.{zero_sector}
 use Rattle.sector_model.specs.Run.{block_count, touches}
-use Rattle.sector_model.specs.Disk.{replaced}
+use Rattle.basics.specs.Replaced.{replaced}
 use Rattle.sector_model.specs.declared.sector.Sector.{Sector}
 use Rattle.snapshot_chain.specs.Page128.{run_at}
 use Rattle.snapshot_chain.specs.Layer.{LayerState, sector_in, HasSame, IsWritten, IsMerged}
@@ -130,14 +130,14 @@ replaced-made f first ys c fits =
     at s less =
         let within : first + length ys ≤ length (map f (range_with_len 0 c)) = omega (arith, fits, length-map-range_with_len f 0 c) in
         elim (cases_lt s first) [
-          | inl before ↦ replaced-before (map f (range_with_len 0 c)) ys first within s before ∙ made s less ∙ sym (ap (λ (o : Option Sector). Some (unwrap_or o (f s))) (run_before first ys s before))
+          | inl before ↦ replaced-before (map f (range_with_len 0 c)) ys first (omega (arith, within)) s before ∙ made s less ∙ sym (ap (λ (o : Option Sector). Some (unwrap_or o (f s))) (run_before first ys s before))
           | inr from ↦ elim (cases_lt s (first + length ys)) [
             | inl mid ↦
                 let there : slice_get ys (s - first) ≡ Some (get_or ys (s - first) (f s)) = slice_get-get_or ys (s - first) (f s) (omega (arith, from, mid)) in
-                replaced-within (map f (range_with_len 0 c)) ys first within s from mid ∙ there
+                replaced-within (map f (range_with_len 0 c)) ys first (omega (arith, within)) s from mid ∙ there
                 ∙ sym (ap (λ (o : Option Sector). Some (unwrap_or o (f s))) (run_from first ys s from ∙ there))
             | inr past ↦
-                replaced-behind (map f (range_with_len 0 c)) ys first within s past ∙ made s less
+                replaced-behind (map f (range_with_len 0 c)) ys first (omega (arith, within)) s past ∙ made s less
                 ∙ sym (ap (λ (o : Option Sector). Some (unwrap_or o (f s))) (run_from first ys s from ∙ slice_get_past ys (s - first) (omega (arith, past))))
           ]
         ]
