@@ -1,2 +1,4 @@
 pub mod KeptFacts
 pub mod MachineLog
+pub mod Machine
+pub mod Disks
