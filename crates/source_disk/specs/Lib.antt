@@ -1,0 +1,5 @@
+pub mod Parts
+pub mod SourceDisk
+pub mod StandsFor
+pub mod Refusals
+pub mod Laws
