@@ -1,10 +1,11 @@
 //! The live snapshots of a machine with their owners, in the order in which they were taken, which
 //! is that of their numbers.
-ghost use Rattle.std.specs.Prelude.{◌≡◌, nat_lt, true, false};
+ghost use Rattle.std.specs.Prelude.{◌≡◌, ◌<◌, ◌≤◌, length, nat_lt, true, false};
+ghost use Rattle.std.specs.Vec.{vec_len, vec_capacity};
 ghost use Rattle.std.specs.List.Sorted.{IsPartitionPoint};
-ghost use Rattle.source_vm.specs.KeptFacts.{owner_in, IsAscending, IsLeastIn};
+ghost use Rattle.source_vm.specs.KeptFacts.{live_after, owner_in, IsAscending, IsLeastIn};
 
-use log_model::Owner;
+use log_model::{Act, Owner};
 
 /// A live snapshot.
 #[derive(Clone, Copy, Debug)]
@@ -13,6 +14,24 @@ pub(crate) struct LiveSnap {
     pub id: u32,
     /// Who it belongs to.
     pub owner: Owner,
+}
+
+/// Adds the snapshot that an act takes, or removes the one that it removes. It takes no memory.
+pub(crate) fn follow(live: &mut Vec<LiveSnap>, act: &Act)
+    requires { vec_len live.old < vec_capacity live.old }
+    ensures { live.new.items ≡ live_after act.now live.old.items }
+{
+    match act {
+        Act::Snap { id, owner } => {
+            let taken = LiveSnap {
+                id: *id,
+                owner: *owner,
+            };
+            live.push(taken).unwrap();
+        }
+        Act::Remove { id } => live.retain(|snap| snap.id != *id),
+        Act::Write { .. } | Act::Reset { .. } | Act::Enable | Act::Off | Act::On => {}
+    }
 }
 
 /// The owner of a snapshot, if it is live.
@@ -43,7 +62,8 @@ pub(crate) fn least_owned_in(live: &[LiveSnap], owner: Owner, from: u32) -> Opti
 /// The place of the first number that isn't lower.
 fn place_from(live: &[LiveSnap], id: u32) -> usize
     requires { IsAscending live.now }
-    ensures { IsPartitionPoint (λ s. nat_lt s.id id ≡ true) (λ s. nat_lt s.id id ≡ false)
+    ensures bound { result ≤ length live.now }
+    ensures point { IsPartitionPoint (λ s. nat_lt s.id id ≡ true) (λ s. nat_lt s.id id ≡ false)
         live.now result }
 {
     live.partition_point(|snap| snap.id < id)

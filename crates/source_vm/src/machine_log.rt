@@ -11,7 +11,7 @@ ghost use Rattle.log_model.specs.Refusals.{is_live};
 mod refusals;
 
 use crate::kept_facts::KeptFacts;
-use crate::live::{LiveSnap, least_owned_in, owner_in};
+use crate::live::{LiveSnap, follow, least_owned_in, owner_in};
 use log_model::{Act, Entry, Facts, Owner, Snapped, Tracking};
 use sector_model::NoMemory;
 use std::alloc::Global;
@@ -126,20 +126,7 @@ impl MachineLog {
             entries = self.old.entries ++ record { who = who; act = act } ∷ []; room = false } }
     {
         self.facts = self.facts.after(&act, self.entries.len() as u64);
-        match &act {
-            Act::Snap { id, owner } => {
-                let taken = LiveSnap {
-                    id: *id,
-                    owner: *owner,
-                };
-                self.live.push(taken).unwrap();
-            }
-            Act::Remove { id } => {
-                let id = *id;
-                self.live.retain(|snap| snap.id != id);
-            }
-            Act::Write { .. } | Act::Reset { .. } | Act::Enable | Act::Off | Act::On => {}
-        }
+        follow(&mut self.live, &act);
         self.entries.push(Entry { who, act }).unwrap();
         self.room = false;
     }
