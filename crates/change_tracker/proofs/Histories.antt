@@ -3,23 +3,22 @@ use Rattle.std.proofs.Common.{◌≡◌, ℕ, zero, suc, ◌+◌, ◌-◌, ◌<�
 use Rattle.std.specs.List.{list_any, find, slice_get, filter_map, range_with_len, filter}
 use Rattle.std.specs.Option.{option_or}
 use Rattle.std.proofs.Math.Bool.{or-false}
-use Rattle.std.proofs.lemmas.Bool.{cases_eq, cases_lt, eq-eqb, ne_eqb, eqb-true, false≢true}
+use Rattle.std.proofs.lemmas.Bool.{cases_lt, eq-eqb, eqb-true, false≢true}
 use Rattle.std.proofs.lemmas.Option.{same_Some, none-some, slice_get_within}
-use Rattle.std.proofs.lemmas.List.{take-append-le, take_all, append-nil, drop_all}
+use Rattle.std.proofs.lemmas.List.{take-append-le, drop-append-le, take_all, append-nil}
 use Rattle.std.proofs.lemmas.List.Sums.{sum_by-take-le}
 use Rattle.std.proofs.lemmas.List.Folds.{list_any-append, find-append}
-use Rattle.sector_model.specs.Run.{meets, met_blocks, blocks_where, block_count}
+use Rattle.sector_model.specs.Run.{meets, met_blocks, block_count}
 use Rattle.sector_model.specs.declared.run.Run.{Run}
 use Rattle.basics.proofs.ItemAt.{slice_get-front}
 use Rattle.change_id.specs.ChangeId.{packed}
-use Rattle.change_id.specs.History as history
 use Rattle.change_id.specs.declared.ChangeId.{ChangeId}
 use Rattle.change_id.proofs.Counts.{epoch-append, counted-last}
 use Rattle.change_id.proofs.IdMarks.{in_force-parts, same-epochs, mark-stays, later_entries_keep}
 use Rattle.change_tracker.specs.Tracker.{TrackerState, Snapshot, snapshot_of, fresh, next_id, with_met, after_marking, after_freezing, after_enabling, after_reset, without_changes}
 use Rattle.change_tracker.specs.History.{TrackStep, Marked, Frozen, Enabled, Reset, reading, freezes, is_reset, run_in, runs_between, mark, id_at, is_met, IsFrozenAs, IsOfEpoch, changed_in, TellsChanges, AreNumbered, StandsFor, Takes}
 use Rattle.change_tracker.proofs.Blocks.{among, same_blocks, met_more}
-use Rattle.change_tracker.proofs.Steps.{place-le, place_known, place_new, drop-front, epoch_of, counted_of, number_of, counts_mark, counts_freeze, counts_enable, counts_reset, runs_stay, runs_push, runs_none, force, force_some}
+use Rattle.change_tracker.proofs.Steps.{place_new, epoch_of, counted_of, number_of, counts_mark, counts_freeze, counts_enable, counts_reset, runs_stay, runs_push, runs_none, force, force_some}
 
 -- ---- parts of a list
 
@@ -39,12 +38,12 @@ pushed_at (z ∷ xs) y (suc i) x is = elim (pushed_at xs y i x is) [ inl early �
 range-front : {X : Type 0} (xs ys : List X) (a b : ℕ) → b ≤ length xs → slice_range (xs ++ ys) a b ≡ slice_range xs a b
 range-front {X = X} xs ys a b le = elim (cases_lt (length xs) a) [
   | inl past ↦ let none : b - a ≡ 0 = omega (arith, le, past) in ap (λ n. take n (drop a (xs ++ ys))) none ∙ sym (ap (λ n. take n (drop a xs)) none)
-  | inr within ↦ ap (λ (zs : List X). take (b - a) zs) (drop-front a xs ys within) ∙ take-append-le (b - a) (drop a xs) ys (omega (arith, length-drop a xs, le))
+  | inr within ↦ ap (λ (zs : List X). take (b - a) zs) (drop-append-le a xs ys within) ∙ take-append-le (b - a) (drop a xs) ys (omega (arith, length-drop a xs, le))
 ]
 
 range-push : {X : Type 0} (xs : List X) (y : X) (a : ℕ) → a ≤ length xs → slice_range (xs ++ y ∷ []) a (length xs + 1) ≡ slice_range xs a (length xs) ++ y ∷ []
 range-push {X = X} xs y a le =
-    ap (λ (zs : List X). take (length xs + 1 - a) zs) (drop-front a xs (y ∷ []) le)
+    ap (λ (zs : List X). take (length xs + 1 - a) zs) (drop-append-le a xs (y ∷ []) le)
     ∙ take_all (length xs + 1 - a) (drop a xs ++ y ∷ []) (omega (arith, length-append (drop a xs) (y ∷ []), length-drop a xs, le))
     ∙ ap (λ (zs : List X). zs ++ y ∷ []) (sym (take_all (length xs - a) (drop a xs) (omega (arith, length-drop a xs))))
 

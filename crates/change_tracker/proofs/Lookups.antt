@@ -1,32 +1,26 @@
 -- What is found of a snapshot, and the answers to a query of it.
-use Rattle.std.proofs.Common.{◌≡◌, ◌≢◌, ℕ, zero, suc, ◌+◌, ◌-◌, ◌<◌, ◌≤◌, List, [], ◌∷◌, length, take, get_or, Bool, true, false, cond, ◌&&◌, ◌||◌, ◌==◌, eqb, ltb, leb, not, nat_eq, Option, Some, None, Bor, is_some, unwrap_or, Result, Ok, Err, IsOk, sym, ap, subst, refl, ◌∙◌, arith, inl, inr, ◌⊎◌}
+use Rattle.std.proofs.Common.{◌≡◌, ◌≢◌, ℕ, zero, suc, ◌+◌, ◌-◌, ◌<◌, ◌≤◌, List, [], ◌∷◌, length, take, get_or, Bool, true, false, cond, ◌&&◌, ◌||◌, ◌==◌, eqb, ltb, leb, not, Option, Some, None, Bor, unwrap_or, Result, Ok, Err, IsOk, sym, ap, refl, ◌∙◌, arith, inl, inr}
 use Rattle.std.specs.List.{list_any, slice_get}
 use Rattle.std.specs.List.Sorted.{IsPartitionPoint, IsNonDecreasingBy}
 use Rattle.std.specs.Slice.{IsItemAt}
-use Rattle.std.proofs.lemmas.Bool.{cases_eq, cases_lt, eq-eqb, ne_eqb, eqb-true, eqb-false, ltb-true, ltb-false, lt-leb, le-leb, leb-true, false≢true}
+use Rattle.std.proofs.lemmas.Bool.{cases_eq, cases_lt, eq-eqb, ne_eqb, eqb-true, ltb-true, ltb-false, lt-leb, leb-true, false≢true}
 use Rattle.std.proofs.lemmas.List.{get_or_default}
-use Rattle.std.proofs.lemmas.Option.{same_Some, none-some, slice_get_within}
-use Rattle.sector_model.specs.Run.{blocks_where, block_count, areas_of, met_blocks}
-use Rattle.sector_model.specs.declared.run.Run.{Run}
+use Rattle.std.proofs.lemmas.Option.{same_Some, none-some}
+use Rattle.sector_model.specs.Run.{blocks_where, areas_of}
 use Rattle.basics.specs.Refusal.{IsRefusedBy}
 use Rattle.change_id.specs.ChangeId.{packed}
 use Rattle.change_id.specs.History as history
 use Rattle.change_id.specs.declared.ChangeId.{ChangeId}
-use Rattle.change_id.specs.declared.Since.{Since}
 use Rattle.change_id.specs.declared.Since.TheVariants.{All, From}
 use Rattle.change_id.proofs.IdMarks.{in_force-parts, same-epochs, marks_of_ids}
 use Rattle.change_tracker.specs.declared.kept.Kept.{Kept}
-use Rattle.change_tracker.specs.declared.maps.Maps.{Maps}
 use Rattle.change_tracker.specs.declared.refusals.TrackRefused.{TrackRefused}
-use Rattle.change_tracker.specs.declared.refusals.TrackRefused.TheVariants.{UnknownSnap, Range, Strange}
-use Rattle.change_tracker.specs.Tracker.{TrackerState, Snapshot, snapshot_of}
-use Rattle.change_tracker.specs.Touches.{is_touched, areas_in}
-use Rattle.change_tracker.specs.Maps.{window}
-use Rattle.change_tracker.specs.Kept.{AreIds, IsAt, is_accepted, window_from, in_force_of, snapshot_at}
-use Rattle.change_tracker.specs.History.{TrackStep, reading, freezes, runs_between, areas_between, answered, mark, id_at, is_met, changed_in, IsFrozenAs, AreNumbered, StandsFor, snapshot_refusal, query_refusal}
+use Rattle.change_tracker.specs.declared.refusals.TrackRefused.TheVariants.{UnknownSnap, Range}
+use Rattle.change_tracker.specs.Tracker.{TrackerState, Snapshot}
+use Rattle.change_tracker.specs.Kept.{AreIds, is_accepted, in_force_of}
+use Rattle.change_tracker.specs.History.{TrackStep, reading, runs_between, areas_between, answered, mark, id_at, is_met, changed_in, IsFrozenAs, StandsFor}
 use Rattle.change_tracker.proofs.Blocks.{same_blocks}
 use Rattle.change_tracker.proofs.Steps.{epoch_of, number_of, force, place_of_id, apart}
-use Rattle.change_tracker.proofs.States.{view, in_changes}
 
 -- ---- the place of an id
 

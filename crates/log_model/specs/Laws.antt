@@ -20,7 +20,7 @@ use Rattle.log_model.specs.declared.entry.Entry.{Entry}
 use Rattle.log_model.specs.declared.folds.Tracking.TheVariants.{Active}
 use Rattle.log_model.specs.Entry.{writes_of, contents, is_snap, is_off, takes, removes}
 use Rattle.log_model.specs.Legal.{Disks, all_of, only, HasDisk, Legal, MayStand, ActsFor, machine_on, is_enabled, taken, owner_of}
-use Rattle.log_model.specs.Marks.{reading_of, mark, before, epoch, number, tracking, in_force, id_at, mark_of_id, TakesSnapshot, HasId}
+use Rattle.log_model.specs.Marks.{reading_of, mark, before, epoch, number, tracking, in_force, id_at, mark_of_id, HasId}
 use Rattle.log_model.specs.Frozen.{frozen, last_off, off_place}
 use Rattle.log_model.specs.Touched.{between, touched, touched_areas}
 use Rattle.log_model.specs.Query.{changed_areas, accepts}
@@ -235,7 +235,8 @@ NumberedPlaceIsMark = (machine d s : ℕ) (id : ChangeId) (log : List Entry)
     → accepts machine d s id log ≡ true
     → mark_of_id machine d id log ≡ Some (numbered_place d id.seq log)
 
--- the mark of an identifier is the one place of the snapshot that has it, and later entries leave it
+-- the mark of an identifier is the one place of the snapshot that has it, and later entries leave
+-- it
 abbrev pub MarksOfIds : (machine d : ℕ) (id : ChangeId) (log : List Entry) → Type 0
 MarksOfIds machine d id log = laws.MarksOfIds (reading_of d) machine d id log
 
