@@ -150,5 +150,5 @@ before_told s disk log =
 pub frozen_told : (c s disk : ℕ) (log : List Entry) → frozen c s (events_of disk log) ≡ log_frozen.frozen c disk s log
 frozen_told c s disk log = ap (present c) (before_told s disk log) ∙ present_told c disk (before s log)
 
-pub allocated_told : (c s disk : ℕ) (log : List Entry) → allocated c s (events_of disk log) ≡ touched_areas c disk 0 (mark s log) log
-allocated_told c s disk log = ap (λ h. areas_of c (touched_blocks c (writes_in h))) (before_told s disk log) ∙ ap (λ ws. areas_of c (touched_blocks c ws)) (writes_told disk (before s log))
+pub areas_told : (c s disk : ℕ) (log : List Entry) → allocated c s (events_of disk log) ≡ touched_areas c disk 0 (mark s log) log
+areas_told c s disk log = ap (λ h. areas_of c (touched_blocks c (writes_in h))) (before_told s disk log) ∙ ap (λ ws. areas_of c (touched_blocks c ws)) (writes_told disk (before s log))

@@ -1,7 +1,8 @@
 -- What a disk that stands for a log holds.
-use Rattle.std.proofs.Common.{◌≡◌, ℕ, ◌+◌, ◌<◌, ◌≤◌, List, [], ◌∷◌, ◌++◌, length, Bool, true, false, cond, Option, Some, None, is_some, subst, sym, ap, refl, ◌∙◌, arith}
+use Rattle.std.proofs.Common.{◌≡◌, ℕ, ◌+◌, ◌<◌, ◌≤◌, List, [], ◌∷◌, ◌++◌, length, Bool, true, false, cond, eqb, Option, Some, None, is_some, IfSome, subst, sym, ap, refl, ◌∙◌, arith}
 use Rattle.std.specs.Option.{option_map, IsSomeAnd}
 use Rattle.std.specs.List.{All, cons_option, filter_map}
+use Rattle.std.proofs.lemmas.Bool.{false≢true}
 use Rattle.std.proofs.lemmas.List.{append-nil}
 use Rattle.std.proofs.lemmas.List.Elements.{filter_map-append, All-push}
 use Rattle.std.proofs.lemmas.List.Sums.{sum_by-append, count_by-le-length}
@@ -16,37 +17,58 @@ use Rattle.log_model.specs.Entry.{is_snap, resets}
 use Rattle.log_model.specs.Legal.{Disks, Legal, ActMayStand, taken}
 use Rattle.log_model.specs.Refusals as log_model
 use Rattle.log_model.proofs.LegalLogs.{legal_last, legal_front}
-use Rattle.snapshot_chain.specs.Chain.{snapshot_of}
-use Rattle.snapshot_chain.specs.Laws.{ReadsTheFold}
-use Rattle.snapshot_chain.specs.History.{DiskEvent, Written, frozen_in, frozen_ids, is_live}
+use Rattle.snapshot_chain.specs.Chain.{Snapshot, snapshot_of}
+use Rattle.snapshot_chain.specs.History.{DiskEvent, Written, frozen_in, frozen_ids}
 use Rattle.snapshot_chain.proofs.Histories.{live_at}
 use Rattle.source_disk.specs.Parts.{chain_event, events_of}
-use Rattle.source_disk.specs.SourceDisk.{SourceDiskState, number_of, capacity_of}
+use Rattle.source_disk.specs.SourceDisk.{SourceDiskState, number_of, capacity_of, has_snapshot}
 use Rattle.source_disk.specs.StandsFor.{StandsFor}
+use Rattle.source_disk.specs.Told.{contents_told, allocated_told}
 use Rattle.source_disk.specs.Laws.{HoldsTheLog, NextIsFree}
-use Rattle.source_disk.proofs.Events.{present_told, live_told, frozen_told, allocated_told}
+use Rattle.source_disk.proofs.Events.{present_told, live_told, frozen_told, areas_told}
 use Rattle.source_disk.proofs.Steps.{epoch_told}
 use Rattle.source_disk.proofs.Taking.{none_is}
 
-pub live_as : (d : SourceDiskState) (log : List Entry) (s : ℕ) → StandsFor d log → is_some (snapshot_of s d.chain) ≡ log_model.is_live s log
+pub live_as : (d : SourceDiskState) (log : List Entry) (s : ℕ) → StandsFor d log → has_snapshot s d ≡ log_model.is_live s log
 live_as d log s stands = live_at d.chain (events_of (number_of d) log) s stands.chain ∙ live_told s (number_of d) log
 
-pub holds_the_log : ReadsTheFold → (d : SourceDiskState) (log : List Entry) → StandsFor d log → HoldsTheLog d log
-holds_the_log reads d log stands =
-    let n = number_of d in
-    let c = capacity_of d in
-    let holds = reads d.chain (events_of n log) stands.chain in
-    record {
-      now = holds.now ∙ ap (λ (xs : List Sector). Some xs) (present_told c n log);
-      live = λ s. live_as d log s stands;
-      frozen = λ s is. holds.live s (live_told s n log ∙ is) ∙ ap (λ (xs : List Sector). Some xs) (frozen_told c s n log);
-      gone = λ s is. ap (option_map (λ x. x.contents)) (none_is (snapshot_of s d.chain) (live_as d log s stands ∙ is));
-      areas = λ s is.
-          let P : List Run → Type 0 = λ runs. IsSomeAnd (snapshot_of s d.chain) (λ x. areas_of c x.blocks ≡ runs) in
-          subst P (allocated_told c s n log) (holds.areas s (live_told s n log ∙ is));
-      epoch = stands.tracker.epoch ∙ epoch_told n log;
-      few_resets = count_by-le-length (λ e. resets n e.act) log;
-    }
+pub present_as : (d : SourceDiskState) (log : List Entry) → StandsFor d log → d.chain.present ≡ contents_told None d log
+present_as d log stands = stands.chain.present ∙ present_told (capacity_of d) (number_of d) log
+
+-- a live snapshot has what the log says
+pub record IsTold (d : SourceDiskState) (log : List Entry) (s : ℕ) (snapshot : Snapshot) : Type 0 where
+  pub contents : snapshot.contents ≡ contents_told (Some s) d log
+  pub areas : areas_of (capacity_of d) snapshot.blocks ≡ allocated_told s d log
+
+if_some : {X : Type 0} {P Q : X → Type 0} (o : Option X) → IfSome o P → ((x : X) → P x → Q x) → IfSome o Q
+if_some None is more = tt
+if_some (Some x) is more = more x is
+
+pub told_as : (d : SourceDiskState) (log : List Entry) (s : ℕ) → StandsFor d log → IfSome (snapshot_of s d.chain) (IsTold d log s)
+told_as d log s stands = if_some (snapshot_of s d.chain) (stands.chain.frozen s) (λ x is. record {
+  contents = is.contents ∙ frozen_told (capacity_of d) s (number_of d) log;
+  areas = ap (areas_of (capacity_of d)) is.blocks ∙ areas_told (capacity_of d) s (number_of d) log;
+})
+
+contents_at : (d : SourceDiskState) (log : List Entry) (s : ℕ) (o : Option Snapshot) → is_some o ≡ true → IfSome o (IsTold d log s) → option_map (λ x. x.contents) o ≡ Some (contents_told (Some s) d log)
+contents_at d log s None some is = absurd (false≢true some)
+contents_at d log s (Some x) some is = ap (λ (xs : List Sector). Some xs) is.contents
+
+areas_at : (d : SourceDiskState) (log : List Entry) (s : ℕ) (o : Option Snapshot) → is_some o ≡ true → IfSome o (IsTold d log s)
+    → IsSomeAnd (option_map (λ x. x.blocks) o) (λ blocks. areas_of (capacity_of d) blocks ≡ allocated_told s d log)
+areas_at d log s None some is = absurd (false≢true some)
+areas_at d log s (Some x) some is = is.areas
+
+pub holds_the_log : (d : SourceDiskState) (log : List Entry) → StandsFor d log → HoldsTheLog d log
+holds_the_log d log stands = record {
+  now = ap (λ (xs : List Sector). Some xs) (present_as d log stands);
+  live = λ s. live_as d log s stands;
+  frozen = λ s is. contents_at d log s (snapshot_of s d.chain) (live_as d log s stands ∙ is) (told_as d log s stands);
+  gone = λ s is. ap (option_map (λ x. x.contents)) (none_is (snapshot_of s d.chain) (live_as d log s stands ∙ is));
+  areas = λ s is. areas_at d log s (snapshot_of s d.chain) (live_as d log s stands ∙ is) (told_as d log s stands);
+  resets = stands.tracker.epoch ∙ epoch_told (number_of d) log;
+  few_resets = let few = count_by-le-length (λ e. resets (number_of d) e.act) log in omega (arith, few, stands.tracker.epoch, epoch_told (number_of d) log);
+}
 
 -- ---- the next snapshot's number
 
@@ -76,7 +98,7 @@ act_adds disks disk who log ids act may all = by act may
         (raised (taken log + 1) (taken log + 0 + 1) ids (omega arith) all)
 
     by : (act : Act) → ActMayStand disks log who act → AreTaken (taken log + cond (is_snap act) 1 0 + 1) (ids ++ frozen_ids (cons_option (chain_event disk act) []))
-    by (Write other first sectors) may = same _ (no_ids (other == disk) (Written (record { first = first; sectors = sectors })) refl)
+    by (Write other first sectors) may = same _ (no_ids (eqb other disk) (Written (record { first = first; sectors = sectors })) refl)
     by (Snap id owner) may = All-push (λ s. s < taken log + 1 + 1) ids id (raised (taken log + 1) (taken log + 1 + 1) ids (omega arith) all) (omega (arith, may.0))
     by (Remove id) may = same [] refl
     by (Reset other) may = same [] refl

@@ -1,5 +1,5 @@
 -- What a disk that stands for a log stands for after one entry more, and that room is no part of it.
-use Rattle.std.proofs.Common.{◌≡◌, ℕ, ◌≤◌, List, [], ◌∷◌, ◌++◌, length, Bool, true, false, ◌||◌, cond, eqb, Option, Some, None, is_some, subst, sym, ap, refl, ◌∙◌}
+use Rattle.std.proofs.Common.{◌≡◌, ℕ, ◌≤◌, List, [], ◌∷◌, ◌++◌, length, Bool, true, false, ◌||◌, cond, eqb, Option, Some, None, is_some, Result, Ok, Err, OnOk, subst, sym, ap, refl, ◌∙◌, arith}
 use Rattle.std.specs.List.{filter_map, cons_option}
 use Rattle.std.proofs.lemmas.Bool.{eq-eqb, false≢true}
 use Rattle.std.proofs.lemmas.List.{append-nil}
@@ -26,7 +26,7 @@ use Rattle.source_disk.specs.StandsFor.{StandsFor, Takes, concerns}
 pushed_event : (disk : ℕ) (log : List Entry) (e : Entry) → events_of disk (log ++ e ∷ []) ≡ events_of disk log ++ cons_option (chain_event disk e.act) []
 pushed_event disk log e = filter_map-append (λ x. chain_event disk x.act) log (e ∷ [])
 
-pushed_step : (disk : ℕ) (log : List Entry) (e : Entry) → steps_of disk (log ++ e ∷ []) ≡ steps_of disk log ++ cons_option (track_step disk e.act) []
+pub pushed_step : (disk : ℕ) (log : List Entry) (e : Entry) → steps_of disk (log ++ e ∷ []) ≡ steps_of disk log ++ cons_option (track_step disk e.act) []
 pushed_step disk log e = filter_map-append (λ x. track_step disk x.act) log (e ∷ [])
 
 chain_takes : (disk : ℕ) (log : List Entry) (e : Entry) (event : chain.DiskEvent) (old new : ChainState) → chain_event disk e.act ≡ Some event
@@ -104,7 +104,7 @@ takes_reset old log who stands =
 
 -- ---- an act that is none for the disk
 
-none_is : {X : Type 0} (o : Option X) → is_some o ≡ false → o ≡ None
+pub none_is : {X : Type 0} (o : Option X) → is_some o ≡ false → o ≡ None
 none_is None is = refl
 none_is (Some x) is = absurd (false≢true (sym is))
 
@@ -148,3 +148,8 @@ module _ (chain_room : chain_laws.RoomIsNoPart) (tracker_room : tracker_laws.Roo
   room_is_no_part old new log same stands =
       let P : SourceDiskState → Type 0 = λ d. StandsFor d log in
       filled new log (subst P (sym same) (emptied old log stands))
+
+-- what follows from a fact of an accepted call
+pub on_ok : {T E : Type 0} {P Q : Type 0} (result : Result T E) → OnOk result P → (P → Q) → OnOk result Q
+on_ok (Ok answer) is more = more is
+on_ok (Err why) is more = tt

@@ -1,8 +1,9 @@
 -- What a source disk holds, what each call makes of it, and for which next call room was made.
-use Rattle.std.specs.Prelude.{◌≡◌, ℕ, List, length, Bool, true, false, ◌&&◌, Some, None}
+use Rattle.std.specs.Prelude.{◌≡◌, ℕ, ◌≤◌, List, length, Bool, true, false, ◌&&◌, Option, Some, None, is_some, option_map}
 use Rattle.sector_model.specs.declared.sector.Sector.{Sector}
 use Rattle.snapshot_chain.specs.Chain.{ChainState}
 use Rattle.snapshot_chain.specs.Chain as chain
+use Rattle.change_id.specs.declared.ChangeId.{ChangeId}
 use Rattle.change_tracker.specs.Tracker.{TrackerState}
 use Rattle.change_tracker.specs.Tracker as tracker
 
@@ -19,6 +20,30 @@ number_of d = d.tracker.disk
 
 abbrev pub capacity_of : SourceDiskState → ℕ
 capacity_of d = d.chain.capacity
+
+-- how often its tracking was reset
+abbrev pub epoch_of : SourceDiskState → ℕ
+epoch_of d = d.tracker.epoch
+
+-- the snapshot is live
+abbrev pub has_snapshot : (id : ℕ) → SourceDiskState → Bool
+has_snapshot id d = is_some (chain.snapshot_of id d.chain)
+
+-- the identifier that the next snapshot gets
+abbrev pub next_id : SourceDiskState → Option ChangeId
+next_id d = tracker.next_id d.tracker
+
+-- the id is above those of all snapshots that were frozen
+abbrev pub IsFree : (id : ℕ) → SourceDiskState → Type 0
+IsFree id d = d.chain.free_from ≤ id
+
+-- the contents of a live snapshot, or without one those now
+abbrev pub contents_of : Option ℕ → SourceDiskState → Option (List Sector)
+contents_of id d = chain.contents_of id d.chain
+
+-- the blocks that were written before a live snapshot, ascending
+abbrev pub blocks_of : (id : ℕ) → SourceDiskState → Option (List ℕ)
+blocks_of id d = option_map (λ snapshot. snapshot.blocks) (chain.snapshot_of id d.chain)
 
 -- both parts are of one disk, and an id is free in one where it is free in the other
 pub record IsInStep (d : SourceDiskState) : Type 0 where

@@ -1,16 +1,12 @@
 //! What a disk that stands for a log holds. Each contract is the law, and the body does nothing but
-//! call the laws of the disk's parts.
-ghost use Rattle.source_disk.specs.Laws.{StandingHolds, NextIsFree, OthersPass, RoomIsNoPart};
-
-use snapshot_chain::reads_the_fold;
+//! call the laws of the disk's parts on which it rests.
+ghost use Rattle.source_disk.specs.Laws.{StandingHolds, NextIsFree, OthersPass, RoomIsNoPart, UntouchedIsZero};
 
 /// A disk that stands for a log holds what the log says: its contents now and at each live
 /// snapshot, which snapshots these are, what was touched before each, and its epoch.
 pub fn standing_holds()
     ensures { StandingHolds }
-{
-    reads_the_fold();
-}
+{}
 
 /// The number that the next snapshot of a legal log gets is free.
 pub fn next_is_free()
@@ -29,3 +25,9 @@ pub fn room_is_no_part()
     snapshot_chain::room_is_no_part();
     change_tracker::room_is_no_part();
 }
+
+/// A sector that no write before a snapshot came near is zero at it: one of none of the areas that
+/// [`SourceDisk::allocated`](crate::SourceDisk::allocated) tells.
+pub fn untouched_is_zero()
+    ensures { UntouchedIsZero }
+{}

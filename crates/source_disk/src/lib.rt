@@ -10,5 +10,5 @@ mod source_disk;
 #[cfg(test)]
 mod tests;
 
-pub use laws::{next_is_free, others_pass, room_is_no_part, standing_holds};
+pub use laws::{next_is_free, others_pass, room_is_no_part, standing_holds, untouched_is_zero};
 pub use source_disk::SourceDisk;

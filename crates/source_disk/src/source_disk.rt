@@ -1,13 +1,11 @@
 //! The disk: its chain and its tracker in step.
-ghost use Rattle.std.specs.Prelude.{◌≡◌, ◌+◌, ◌<◌, ◌≤◌, ◌^◌, ◌∷◌, ◌++◌, [], ℕ, List, length, true, is_some, IsOk, OnOk, OnErr, IfOk, IfSome, slice_range};
+ghost use Rattle.std.specs.Prelude.{◌≡◌, ◌+◌, ◌<◌, ◌^◌, ◌∷◌, ◌++◌, [], ℕ, List, length, true, false, IsOk, OnOk, OnErr, IfOk, IfSome, slice_range};
 ghost use Rattle.basics.specs.Refusal.{IsRefusedBy, IsRefusedOr};
 ghost use Rattle.sector_model.specs.Run.{areas_of};
 ghost use Rattle.sector_model.specs.Page.{page_from};
 ghost use Rattle.log_model.specs.declared.entry.Act.{Act};
 ghost use Rattle.log_model.specs.declared.entry.Entry.{Entry};
 ghost use Rattle.log_model.specs.declared.entry.Owner.{Owner};
-ghost use Rattle.snapshot_chain.specs.Chain.{write_refusal, snapshot_refusal, read_refusal, snapshot_of, contents_of};
-ghost use Rattle.change_tracker.specs.Tracker.{next_id};
 
 use change_id::{ChangeId, Since};
 use change_tracker::{TrackRefused, Tracker};
@@ -19,7 +17,7 @@ use std::marker::Model;
 /// What one disk of a machine holds now and at each live snapshot, and what changed between
 /// snapshots.
 ///
-/// Sectors are numbered from 0 to the capacity. A snapshot of the machine is one of each of its
+/// Sectors are numbered from 0 on, below the capacity. A snapshot of the machine is one of each of its
 /// disks, under the machine's number for it.
 #[derive(Debug, Drop)]
 pub struct SourceDisk {
@@ -38,12 +36,14 @@ impl Model for SourceDisk {
 }
 
 impl SourceDisk {
-    ghost use Rattle.source_disk.specs.SourceDisk.{fresh, number_of, capacity_of, after_writing, after_freezing, after_merging, after_enabling, after_reset, has_freeze_room, HasMergeRoom, with_freeze_room, with_merge_room, IsSameButRoom};
+    ghost use Rattle.source_disk.specs.SourceDisk.{fresh, number_of, capacity_of, epoch_of, has_snapshot, next_id, IsFree, contents_of, blocks_of, after_writing, after_freezing, after_merging, after_enabling, after_reset, has_freeze_room, HasMergeRoom, with_freeze_room, with_merge_room, IsSameButRoom};
     ghost use Rattle.source_disk.specs.StandsFor.{StandsFor, Takes};
-    ghost use Rattle.source_disk.specs.Refusals.{id_told, areas_told, id_refusal, query_refusal};
+    ghost use Rattle.source_disk.specs.Told.{contents_told, allocated_told, id_told, changes_told};
+    ghost use Rattle.source_disk.specs.Refusals.{write_refusal, snapshot_refusal, read_refusal, id_refusal, query_refusal};
 
-    /// A disk of that many sectors that was never written, of a machine's log without entries. It
-    /// answers only want of memory.
+    /// A disk of that many sectors that was never written, of a machine's log without entries. The
+    /// numbers of the machine and of the disk on it are packed into identifiers. It answers only
+    /// want of memory.
     pub fn new(
         alloc: Global,
         machine: u32,
@@ -72,8 +72,7 @@ impl SourceDisk {
     /// Makes room for the `merge` of a snapshot. `UnknownSnap` comes where it isn't live, and else
     /// only want of memory.
     pub fn reserve_merge(&mut self, id: u32) -> Result<(), ChainRefused>
-        ensures refused { IsRefusedOr (snapshot_refusal self.old.chain id) ChainRefused.NoMemory
-            result }
+        ensures refused { IsRefusedOr (snapshot_refusal id self.old) ChainRefused.NoMemory result }
         ensures ok { OnOk result (self.new ≡ with_merge_room id self.old) }
         ensures err { OnErr result (IsSameButRoom self.old self.new) }
         ensures room { HasMergeRoom id self.old → IsOk result }
@@ -92,7 +91,7 @@ impl SourceDisk {
     /// Writes sectors from sector `first` on, and marks them as changed. `Range` comes where there
     /// are none, or they pass the capacity, and else only want of memory.
     pub fn write(&mut self, first: u64, sectors: &[Sector]) -> Result<(), ChainRefused>
-        ensures refused { IsRefusedOr (write_refusal self.old.chain first (length sectors.now))
+        ensures refused { IsRefusedOr (write_refusal first (length sectors.now) self.old)
             ChainRefused.NoMemory result }
         ensures ok { OnOk result (self.new ≡ after_writing first sectors.now self.old) }
         ensures stands { OnOk result
@@ -115,11 +114,11 @@ impl SourceDisk {
 
     /// Keeps what the disk holds now, and what was touched by now, as a snapshot, and tells its
     /// identifier, if it has one. The id is above all earlier ones. It answers only want of memory,
-    /// and not after a `reserve_freeze` since the last change.
+    /// and not after a `reserve_freeze` since the last `freeze`.
     pub fn freeze(&mut self, id: u32) -> Result<Option<ChangeId>, NoMemory>
-        requires { self.old.chain.free_from ≤ id }
+        requires { IsFree id self.old }
         ensures ok { OnOk result (self.new ≡ after_freezing id self.old) }
-        ensures told { IfOk result (λ told. told ≡ next_id self.old.tracker) }
+        ensures told { IfOk result (λ told. told ≡ next_id self.old) }
         ensures named { (log : List Entry) (who : ℕ) (owner : Owner) → StandsFor self.old log
             → IfOk result (λ told. told ≡ id_told id self.old
             (log ++ record { who = who; act = Act.Snap id owner } ∷ [])) }
@@ -137,8 +136,7 @@ impl SourceDisk {
     /// the identifiers. `UnknownSnap` comes where the snapshot isn't live, and else only want of
     /// memory, which doesn't come after a `reserve_merge` of this id since the last change.
     pub fn merge(&mut self, id: u32) -> Result<(), ChainRefused>
-        ensures refused { IsRefusedOr (snapshot_refusal self.old.chain id) ChainRefused.NoMemory
-            result }
+        ensures refused { IsRefusedOr (snapshot_refusal id self.old) ChainRefused.NoMemory result }
         ensures ok { OnOk result (self.new ≡ after_merging id self.old) }
         ensures stands { OnOk result (Takes (Act.Remove id) self.old self.new) }
         ensures err { OnErr result (IsSameButRoom self.old self.new) }
@@ -151,10 +149,12 @@ impl SourceDisk {
     /// now. `UnknownSnap` comes where the snapshot isn't live, then `Range` where the buffer is
     /// empty or the range passes the capacity. It takes no memory.
     pub fn read(&self, id: Option<u32>, first: u64, buf: &mut [Sector]) -> Result<(), ChainRefused>
-        ensures refused { IsRefusedBy (read_refusal self.now.chain id first (length buf.old))
-            result }
-        ensures ok { OnOk result (IfSome (contents_of id self.now.chain)
+        ensures refused { IsRefusedBy (read_refusal id first (length buf.old) self.now) result }
+        ensures ok { OnOk result (IfSome (contents_of id self.now)
             (λ contents. buf.new ≡ slice_range contents first (first + length buf.old))) }
+        ensures told { (log : List Entry) → StandsFor self.now log
+            → OnOk result (buf.new
+            ≡ slice_range (contents_told id self.now log) first (first + length buf.old)) }
         ensures err { OnErr result (buf.new ≡ buf.old) }
     {
         self.chain.read(id, first, buf)
@@ -163,17 +163,18 @@ impl SourceDisk {
     /// The areas of the blocks that were written before a snapshot was frozen. `UnknownSnap` comes
     /// where it isn't live, and else only want of memory.
     pub fn allocated(&self, id: u32) -> Result<Runs, ChainRefused>
-        ensures refused { IsRefusedOr (snapshot_refusal self.now.chain id) ChainRefused.NoMemory
-            result }
-        ensures ok { IfOk result (λ runs. IfSome (snapshot_of id self.now.chain)
-            (λ snapshot. runs ≡ areas_of (capacity_of self.now) snapshot.blocks)) }
+        ensures refused { IsRefusedOr (snapshot_refusal id self.now) ChainRefused.NoMemory result }
+        ensures ok { IfOk result (λ runs. IfSome (blocks_of id self.now)
+            (λ blocks. runs ≡ areas_of (capacity_of self.now) blocks)) }
+        ensures told { (log : List Entry) → StandsFor self.now log
+            → IfOk result (λ runs. runs ≡ allocated_told id self.now log) }
     {
         self.chain.allocated(id)
     }
 
     /// Whether the snapshot was frozen and not merged since. It takes no memory.
     pub fn is_live(&self, id: u32) -> bool
-        ensures { result ≡ is_some (snapshot_of id self.now.chain) }
+        ensures { result ≡ has_snapshot id self.now }
     {
         self.chain.is_live(id)
     }
@@ -190,10 +191,12 @@ impl SourceDisk {
         start: u64,
         page: &mut Page,
     ) -> Result<(), TrackRefused>
+        ensures unknown { has_snapshot id self.now ≡ false
+            → result ≡ Err TrackRefused.UnknownSnap }
         ensures refused { (log : List Entry) → StandsFor self.now log
             → IsRefusedBy (query_refusal id since start self.now log) result }
         ensures areas { (log : List Entry) → StandsFor self.now log
-            → OnOk result (IfOk (areas_told id since self.now log)
+            → OnOk result (IfOk (changes_told id since self.now log)
             (λ areas. page.new ≡ page_from (capacity_of self.now) areas start)) }
         ensures err { OnErr result (page.new ≡ page.old) }
     {
@@ -206,6 +209,8 @@ impl SourceDisk {
     /// The identifier that `freeze` told for a snapshot. `UnknownSnap` comes where the snapshot
     /// isn't live. It takes no memory.
     pub fn id_of(&self, id: u32) -> Result<Option<ChangeId>, TrackRefused>
+        ensures unknown { has_snapshot id self.now ≡ false
+            → result ≡ Err TrackRefused.UnknownSnap }
         ensures refused { (log : List Entry) → StandsFor self.now log
             → IsRefusedBy (id_refusal id log) result }
         ensures found { (log : List Entry) → StandsFor self.now log
@@ -220,9 +225,10 @@ impl SourceDisk {
 
     /// Forgets what changed and begins a new epoch: identifiers that were given are strange from
     /// then on. What the disk holds, what was touched before each snapshot, and the snapshots'
-    /// identifiers stay. It takes no memory.
+    /// identifiers stay. It takes no memory. There were fewer than 2^64 - 1 resets before, as on
+    /// each disk that stands for a log that a machine may have.
     pub fn reset(&mut self)
-        requires { self.old.tracker.epoch + 1 < 2 ^ 64 }
+        requires { epoch_of self.old + 1 < 2 ^ 64 }
         ensures reset { self.new ≡ after_reset self.old }
         ensures stands { Takes (Act.Reset (number_of self.old)) self.old self.new }
     {

@@ -2,4 +2,4 @@ use Rattle.source_disk.proofs.Holding.{holds_the_log}
 use Rattle.source_disk.proofs.laws.standing_holds.Goals as goal
 
 pub returns : goal.returns
-returns c = holds_the_log c.reads_the_fold.ensures
+returns c = holds_the_log
