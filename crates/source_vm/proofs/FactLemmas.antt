@@ -1,8 +1,9 @@
 -- What is kept beside a log follows it.
 use Rattle.std.proofs.Common.{◌≡◌, ℕ, ◌+◌, ◌<◌, ◌≤◌, List, [], ◌∷◌, ◌++◌, length, Bool, true, false, cond, not, eqb, Option, Some, None, option_map, subst, sym, ap, refl, ◌∙◌, arith, add-zero, ◌⊎◌, inl, inr, ◌||◌}
-use Rattle.std.specs.List.{slice_get, find, filter, fold}
-use Rattle.std.proofs.lemmas.Bool.{eqb-true, eqb-false, eq-eqb, ne_eqb, false≢true}
-use Rattle.std.proofs.lemmas.Option.{none-some, same_Some}
+use Rattle.std.specs.List.{All}
+use Rattle.std.proofs.lemmas.Bool.{false≢true}
+use Rattle.std.proofs.lemmas.List.Elements.{All-push, All-weaker, All-filter}
+use Rattle.std.proofs.lemmas.List.Kept.{AllPairs-filter}
 use Rattle.std.proofs.lemmas.List.Sums.{fold-append, sum_by-append}
 use Rattle.log_model.specs.declared.entry.Owner.{Owner}
 use Rattle.log_model.specs.declared.entry.Act.{Act}
@@ -14,80 +15,14 @@ use Rattle.log_model.specs.Entry.{sectors_of, is_snap, is_enable, is_on, is_off}
 use Rattle.log_model.specs.Legal.{Disks, Legal, ActMayStand, machine_on, on_after, taken, owner_of, owner_after, is_enabled, enabled_after, written}
 use Rattle.log_model.specs.Marks.{tracking, tracking_after}
 use Rattle.log_model.specs.Frozen.{last_off, off_after}
-use Rattle.log_model.specs.Link.{is_active, IsLeastOwned}
 use Rattle.change_id.proofs.Ends.{by_last}
 use Rattle.log_model.proofs.OffLaws.{last_off-last, machine_on-last}
 use Rattle.log_model.proofs.OwnedLaws.{taken-append, owner_of-last}
 use Rattle.source_vm.specs.declared.kept_facts.KeptFacts.{KeptFacts}
 use Rattle.source_vm.specs.declared.live.LiveSnap.{LiveSnap}
-use Rattle.source_vm.specs.KeptFacts.{started, was_enabled, facts_after, live_after, owner_in, AreAscending, IsLeastIn, FactsStand}
-use Rattle.source_vm.proofs.LiveLemmas.{owner_in-head, owner_in-tail, snap}
-
--- ---- the live snapshots
-
--- behind lower numbers a higher one goes on
-pub ascends-push : (from bound : ℕ) (xs : List LiveSnap) (x : LiveSnap) → AreAscending from bound xs → x.id ≡ bound → AreAscending from (bound + 1) (xs ++ x ∷ [])
-ascends-push from bound [] x are is = (omega arith, omega arith)
-ascends-push from bound (y ∷ xs) x are is = (are.0, ascends-push (y.id + 1) bound xs x are.1 is)
-
-lowers : (low from bound : ℕ) (xs : List LiveSnap) → low ≤ from → AreAscending from bound xs → AreAscending low bound xs
-lowers low from bound [] le are = omega arith
-lowers low from bound (x ∷ xs) le are = (omega (arith, are.0), are.1)
-
-pub ascends-filter : (test : LiveSnap → Bool) (from bound : ℕ) (xs : List LiveSnap) → AreAscending from bound xs → AreAscending from bound (filter test xs)
-ascends-filter test from bound [] are = are
-ascends-filter test from bound (x ∷ xs) are = by (test x) (ascends-filter test (x.id + 1) bound xs are.1)
-  where
-    by : (b : Bool) → AreAscending (x.id + 1) bound (filter test xs) → AreAscending from bound (cond b (x ∷ filter test xs) (filter test xs))
-    by true rest = (are.0, rest)
-    by false rest = lowers from (x.id + 1) bound (filter test xs) (omega (arith, are.0)) rest
-
--- the owner of a snapshot where one more is taken
-pub owner_in-push : (s : ℕ) (xs : List LiveSnap) (x : LiveSnap) (bound : ℕ) (from : ℕ) → AreAscending from bound xs → x.id ≡ bound → owner_in s (xs ++ x ∷ []) ≡ cond (eqb x.id s) (Some x.owner) (owner_in s xs)
-owner_in-push s [] x bound from are is = by (eqb x.id s)
-  where
-    by : (b : Bool) → option_map (λ (y : LiveSnap). y.owner) (cond b (Some x) None) ≡ cond b (Some x.owner) None
-    by true = refl
-    by false = refl
-owner_in-push s (y ∷ xs) x bound from are is = by (eqb y.id s) refl (owner_in-push s xs x bound (y.id + 1) are.1 is)
-  where
-    below : (low : ℕ) (ys : List LiveSnap) → AreAscending low bound ys → low ≤ bound
-    below low [] h = h
-    below low (z ∷ ys) h = omega (arith, h.0, below (z.id + 1) ys h.1)
-    by : (b : Bool) → eqb y.id s ≡ b → owner_in s (xs ++ x ∷ []) ≡ cond (eqb x.id s) (Some x.owner) (owner_in s xs)
-        → owner_in s ((y ∷ xs) ++ x ∷ []) ≡ cond (eqb x.id s) (Some x.owner) (owner_in s (y ∷ xs))
-    by true same rest =
-        let here : y.id ≡ s = eqb-true y.id s same in
-        let less : y.id + 1 ≤ bound = below (y.id + 1) xs are.1 in
-        owner_in-head s y (xs ++ x ∷ []) here
-        ∙ sym (ap (λ b. cond b (Some x.owner) (owner_in s (y ∷ xs))) (ne_eqb x.id s (λ e. absurd (omega (arith, e, here, is, less)))) ∙ owner_in-head s y xs here)
-    by false other rest =
-        let there = eqb-false y.id s other in
-        owner_in-tail s y (xs ++ x ∷ []) there ∙ rest ∙ ap (λ o. cond (eqb x.id s) (Some x.owner) o) (sym (owner_in-tail s y xs there))
-
--- and where one is removed
-pub owner_in-filter : (s id : ℕ) (xs : List LiveSnap) → owner_in s (filter (λ x. not (eqb x.id id)) xs) ≡ cond (eqb id s) None (owner_in s xs)
-owner_in-filter s id [] = by (eqb id s)
-  where
-    by : (b : Bool) → ◌≡◌ {A = Option Owner} None (cond b None None)
-    by true = refl
-    by false = refl
-owner_in-filter s id (x ∷ xs) = by (eqb x.id id) refl (eqb x.id s) refl (owner_in-filter s id xs)
-  where
-    rest : List LiveSnap
-    rest = filter (λ y. not (eqb y.id id)) xs
-    by : (b : Bool) → eqb x.id id ≡ b → (c : Bool) → eqb x.id s ≡ c → owner_in s rest ≡ cond (eqb id s) None (owner_in s xs)
-        → owner_in s (cond (not b) (x ∷ rest) rest) ≡ cond (eqb id s) None (owner_in s (x ∷ xs))
-    by true gone true here later =
-        let same : id ≡ s = sym (eqb-true x.id id gone) ∙ eqb-true x.id s here in
-        later ∙ ap (λ b. cond b None (owner_in s xs)) (eq-eqb id s same) ∙ sym (ap (λ b. cond b None (owner_in s (x ∷ xs))) (eq-eqb id s same))
-    by true gone false there later = later ∙ ap (λ o. cond (eqb id s) None o) (sym (owner_in-tail s x xs (eqb-false x.id s there)))
-    by false kept true here later =
-        let same : x.id ≡ s = eqb-true x.id s here in
-        owner_in-head s x rest same
-        ∙ sym (ap (λ b. cond b None (owner_in s (x ∷ xs))) (ne_eqb id s (λ e. eqb-false x.id id kept (same ∙ sym e))) ∙ owner_in-head s x xs same)
-    by false kept false there later =
-        owner_in-tail s x rest (eqb-false x.id s there) ∙ later ∙ ap (λ o. cond (eqb id s) None o) (sym (owner_in-tail s x xs (eqb-false x.id s there)))
+use Rattle.source_vm.specs.Live.{owner_in, live_after}
+use Rattle.source_vm.specs.KeptFacts.{started, was_enabled, facts_after, FactsStand}
+use Rattle.source_vm.proofs.LiveLemmas.{ascends-push, owner_in-push, owner_in-without, snap}
 
 -- ---- one entry more
 
@@ -199,19 +134,21 @@ module _ (facts : KeptFacts) (live : List LiveSnap) (log : List Entry) (who : �
     sectors = written_is (Write d f s);
     off = off_is (Write d f s);
     ascending = stand.ascending;
+    were_taken = stand.were_taken;
     owners = owner_is (Write d f s);
   }
   stand_after disks (Snap id by) may =
       let next : id ≡ facts.taken + 1 = may.0 ∙ ap (λ n. n + 1) (sym stand.snapped) in
+      let below : All (λ s. s.id < id) live = All-weaker (λ s. s.id ≤ facts.taken) (λ s. s.id < id) (λ s le. omega (arith, le, next)) live stand.were_taken in
       record {
         on = on_is (Snap id by);
         tracked = started_is facts.tracking who (Snap id by) (inl refl) refl ∙ tracked_is (Snap id by);
         snapped = next ∙ taken_is (Snap id by);
         sectors = sym (add-zero facts.written) ∙ written_is (Snap id by);
         off = off_is (Snap id by);
-        ascending = subst (λ n. AreAscending 0 (n + 1) (live ++ snap id by ∷ [])) (sym next)
-            (ascends-push 0 (facts.taken + 1) live (snap id by) stand.ascending next);
-        owners = λ s. owner_in-push s live (snap id by) (facts.taken + 1) 0 stand.ascending next ∙ owner_is (Snap id by) s;
+        ascending = ascends-push live (snap id by) stand.ascending below;
+        were_taken = All-push (λ s. s.id ≤ id) live (snap id by) (All-weaker (λ s. s.id ≤ facts.taken) (λ s. s.id ≤ id) (λ s le. omega (arith, le, next)) live stand.were_taken) (omega arith);
+        owners = λ s. owner_in-push s live (snap id by) below ∙ owner_is (Snap id by) s;
       }
   stand_after disks (Remove id) may = record {
     on = on_is (Remove id);
@@ -219,8 +156,9 @@ module _ (facts : KeptFacts) (live : List LiveSnap) (log : List Entry) (who : �
     snapped = sym (add-zero facts.taken) ∙ taken_is (Remove id);
     sectors = sym (add-zero facts.written) ∙ written_is (Remove id);
     off = off_is (Remove id);
-    ascending = ascends-filter (λ x. not (eqb x.id id)) 0 (facts.taken + 1) live stand.ascending;
-    owners = λ s. owner_in-filter s id live ∙ owner_is (Remove id) s;
+    ascending = AllPairs-filter (λ x later. x.id < later.id) (λ x. not (eqb x.id id)) live stand.ascending;
+    were_taken = All-filter (λ x. not (eqb x.id id)) (λ s. s.id ≤ facts.taken) live stand.were_taken;
+    owners = λ s. owner_in-without s id live ∙ owner_is (Remove id) s;
   }
   stand_after disks (Reset d) may = record {
     on = on_is (Reset d);
@@ -229,6 +167,7 @@ module _ (facts : KeptFacts) (live : List LiveSnap) (log : List Entry) (who : �
     sectors = sym (add-zero facts.written) ∙ written_is (Reset d);
     off = off_is (Reset d);
     ascending = stand.ascending;
+    were_taken = stand.were_taken;
     owners = owner_is (Reset d);
   }
   stand_after disks Enable may =
@@ -240,6 +179,7 @@ module _ (facts : KeptFacts) (live : List LiveSnap) (log : List Entry) (who : �
         sectors = sym (add-zero facts.written) ∙ written_is Enable;
         off = off_is Enable;
         ascending = stand.ascending;
+        were_taken = stand.were_taken;
         owners = owner_is Enable;
       }
   stand_after disks Off may = record {
@@ -249,6 +189,7 @@ module _ (facts : KeptFacts) (live : List LiveSnap) (log : List Entry) (who : �
     sectors = sym (add-zero facts.written) ∙ written_is Off;
     off = off_is Off;
     ascending = stand.ascending;
+    were_taken = stand.were_taken;
     owners = owner_is Off;
   }
   stand_after disks On may = record {
@@ -258,13 +199,6 @@ module _ (facts : KeptFacts) (live : List LiveSnap) (log : List Entry) (who : �
     sectors = sym (add-zero facts.written) ∙ written_is On;
     off = off_is On;
     ascending = stand.ascending;
+    were_taken = stand.were_taken;
     owners = owner_is On;
   }
-
--- tracking is active
-pub active_is : (t : Tracking) (b : Bool) → (b ≡ true → t ≡ Active) → (t ≡ Active → b ≡ true) → b ≡ is_active t
-active_is Active b to from = from refl
-active_is Never true to from = absurd (cc)
-active_is Never false to from = refl
-active_is Enabled true to from = absurd (cc)
-active_is Enabled false to from = refl

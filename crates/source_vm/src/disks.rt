@@ -4,7 +4,7 @@ ghost use Rattle.std.specs.Prelude.{◌≡◌, ◌≤◌, [], length, All, true,
 ghost use Rattle.log_model.specs.declared.entry.Act.{Act};
 ghost use Rattle.log_model.specs.declared.entry.Owner.{Owner};
 ghost use Rattle.source_disk.specs.SourceDisk.{has_freeze_room, HasMergeRoom};
-ghost use Rattle.source_vm.specs.Disks.{AreDisks, StayDisks, TakeAct, CanFreeze, HasSnap};
+ghost use Rattle.source_vm.specs.Disks.{AreDisks, StillDisks, DisksTake, CanFreeze, HasSnap};
 
 use basics::MAX_DISKS;
 use sector_model::NoMemory;
@@ -29,7 +29,7 @@ pub(crate) fn new_disks(
 
 /// Enables tracking on each disk.
 pub(crate) fn enable_all(disks: &mut [SourceDisk])
-    ensures { TakeAct Act.Enable disks.old disks.new }
+    ensures { DisksTake Act.Enable disks.old disks.new }
 {
     for disk in disks.iter_mut() {
         disk.enable();
@@ -38,7 +38,7 @@ pub(crate) fn enable_all(disks: &mut [SourceDisk])
 
 /// Makes room in each disk for the next snapshot. It answers only want of memory.
 pub(crate) fn reserve_freezes(disks: &mut [SourceDisk]) -> Result<(), NoMemory>
-    ensures stay { StayDisks disks.old disks.new }
+    ensures still { StillDisks disks.old disks.new }
     ensures room { OnOk result (All (λ d. has_freeze_room d ≡ true) disks.new) }
 {
     for disk in disks.iter_mut() {
@@ -50,7 +50,7 @@ pub(crate) fn reserve_freezes(disks: &mut [SourceDisk]) -> Result<(), NoMemory>
 /// Takes a snapshot of each disk.
 pub(crate) fn freeze_all(disks: &mut [SourceDisk], id: u32)
     requires { All (CanFreeze id) disks.old }
-    ensures { (owner : Owner) → TakeAct (Act.Snap id owner) disks.old disks.new }
+    ensures { (owner : Owner) → DisksTake (Act.Snap id owner) disks.old disks.new }
 {
     for disk in disks.iter_mut() {
         disk.freeze(id).unwrap();
@@ -60,7 +60,7 @@ pub(crate) fn freeze_all(disks: &mut [SourceDisk], id: u32)
 /// Makes room in each disk for giving up a live snapshot. It answers only want of memory.
 pub(crate) fn reserve_merges(disks: &mut [SourceDisk], id: u32) -> Result<(), NoMemory>
     requires { All (HasSnap id) disks.old }
-    ensures stay { StayDisks disks.old disks.new }
+    ensures still { StillDisks disks.old disks.new }
     ensures room { OnOk result (All (HasMergeRoom id) disks.new) }
 {
     for disk in disks.iter_mut() {
@@ -74,7 +74,7 @@ pub(crate) fn reserve_merges(disks: &mut [SourceDisk], id: u32) -> Result<(), No
 /// Gives up the snapshot on each disk.
 pub(crate) fn merge_all(disks: &mut [SourceDisk], id: u32)
     requires { All (HasMergeRoom id) disks.old }
-    ensures { TakeAct (Act.Remove id) disks.old disks.new }
+    ensures { DisksTake (Act.Remove id) disks.old disks.new }
 {
     for disk in disks.iter_mut() {
         disk.merge(id).unwrap();

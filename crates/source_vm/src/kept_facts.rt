@@ -3,6 +3,7 @@
 ghost use Rattle.std.specs.Prelude.{◌≡◌, ◌+◌, ◌<◌, ◌^◌, None, true};
 ghost use Rattle.log_model.specs.Entry.{sectors_of};
 ghost use Rattle.log_model.specs.declared.folds.Tracking.{Tracking};
+ghost use Rattle.log_model.specs.Link.{is_active};
 ghost use Rattle.source_vm.specs.KeptFacts.{started, was_enabled, facts_after};
 
 use log_model::{Act, Tracking};
@@ -62,6 +63,16 @@ impl KeptFacts {
             }
         }
         facts
+    }
+
+    /// Whether tracking is active.
+    pub fn is_active(&self) -> bool
+        ensures { result ≡ is_active self.now.tracking }
+    {
+        match self.tracking {
+            Tracking::Never | Tracking::Enabled => false,
+            Tracking::Active => true,
+        }
     }
 
     /// Whether tracking was enabled.

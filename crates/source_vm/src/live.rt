@@ -3,7 +3,7 @@
 ghost use Rattle.std.specs.Prelude.{◌≡◌, ◌<◌, ◌≤◌, length, nat_lt, true, false};
 ghost use Rattle.std.specs.Vec.{vec_len, vec_capacity};
 ghost use Rattle.std.specs.List.Sorted.{IsPartitionPoint};
-ghost use Rattle.source_vm.specs.KeptFacts.{live_after, owner_in, IsAscending, IsLeastIn};
+ghost use Rattle.source_vm.specs.Live.{without, live_after, owner_in, AreAscending, IsLeastIn};
 
 use log_model::{Act, Owner};
 
@@ -18,7 +18,8 @@ pub(crate) struct LiveSnap {
 
 /// Adds the snapshot that an act takes, or removes the one that it removes. It takes no memory.
 pub(crate) fn follow(live: &mut Vec<LiveSnap>, act: &Act)
-    requires { vec_len live.old < vec_capacity live.old }
+    requires room { vec_len live.old < vec_capacity live.old }
+    requires ascending { AreAscending live.old.items }
     ensures { live.new.items ≡ live_after act.now live.old.items }
 {
     match act {
@@ -29,14 +30,25 @@ pub(crate) fn follow(live: &mut Vec<LiveSnap>, act: &Act)
             };
             live.push(taken).unwrap();
         }
-        Act::Remove { id } => live.retain(|snap| snap.id != *id),
+        Act::Remove { id } => remove(live, *id),
         Act::Write { .. } | Act::Reset { .. } | Act::Enable | Act::Off | Act::On => {}
+    }
+}
+
+/// Removes a snapshot, if it is live.
+fn remove(live: &mut Vec<LiveSnap>, id: u32)
+    requires { AreAscending live.old.items }
+    ensures { live.new.items ≡ without id live.old.items }
+{
+    let place = place_from(live.as_slice(), id);
+    if place < live.len() && live[place].id == id {
+        live.remove(place);
     }
 }
 
 /// The owner of a snapshot, if it is live.
 pub(crate) fn owner_in(live: &[LiveSnap], id: u32) -> Option<Owner>
-    requires { IsAscending live.now }
+    requires { AreAscending live.now }
     ensures { result ≡ owner_in id live.now }
 {
     match live.get(place_from(live, id)) {
@@ -47,7 +59,7 @@ pub(crate) fn owner_in(live: &[LiveSnap], id: u32) -> Option<Owner>
 
 /// The least live snapshot of the owner from `from` on.
 pub(crate) fn least_owned_in(live: &[LiveSnap], owner: Owner, from: u32) -> Option<u32>
-    requires { IsAscending live.now }
+    requires { AreAscending live.now }
     ensures { IsLeastIn owner from live.now result }
 {
     let later = &live[place_from(live, from)..];
@@ -61,7 +73,7 @@ pub(crate) fn least_owned_in(live: &[LiveSnap], owner: Owner, from: u32) -> Opti
 
 /// The place of the first number that isn't lower.
 fn place_from(live: &[LiveSnap], id: u32) -> usize
-    requires { IsAscending live.now }
+    requires { AreAscending live.now }
     ensures bound { result ≤ length live.now }
     ensures point { IsPartitionPoint (λ s. nat_lt s.id id ≡ true) (λ s. nat_lt s.id id ≡ false)
         live.now result }

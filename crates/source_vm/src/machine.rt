@@ -1,11 +1,12 @@
 //! The machine. Its log says what it is; its disks and the facts beside the log are kept so that no
 //! call walks it.
-ghost use Rattle.std.specs.Prelude.{◌≡◌, ◌+◌, ◌<◌, ◌≤◌, length, slice_get, slice_range, IfOk, OnOk, OnErr};
+ghost use Rattle.std.specs.Prelude.{◌≡◌, true, ◌+◌, ◌<◌, ◌≤◌, length, slice_get, slice_range, IfOk, OnOk, OnErr};
 ghost use Rattle.std.specs.Option.{option_copied};
 ghost use Rattle.basics.specs.Refusal.{IsRefusedBy};
 ghost use Rattle.log_model.specs.Entry.{contents};
 ghost use Rattle.log_model.specs.Legal.{Legal, all_of, capacity_of};
 ghost use Rattle.log_model.specs.Link.{facts_of, IsLeastOwned};
+ghost use Rattle.source_vm.specs.Machine.{may_have_disks};
 
 mod acts;
 mod guest_write;
@@ -13,11 +14,25 @@ mod snapshots;
 
 use crate::disks::new_disks;
 use crate::machine_log::MachineLog;
+use basics::{MAX_DISK_SECTORS, MAX_DISKS};
 use log_model::{Entry, Facts, LinkRefused, Owner};
 use sector_model::{NoMemory, Sector};
 use source_disk::SourceDisk;
 use std::alloc::Global;
 use std::marker::Model;
+
+/// Whether a machine may have disks of these capacities, in sectors: there are 1 to
+/// [`MAX_DISKS`](basics::MAX_DISKS) of 1 to [`MAX_DISK_SECTORS`](basics::MAX_DISK_SECTORS) sectors
+/// each.
+pub fn may_have_disks(capacities: &[u64]) -> bool
+    ensures { result ≡ may_have_disks capacities.now }
+{
+    !capacities.is_empty()
+        && capacities.len() <= MAX_DISKS
+        && capacities
+            .iter()
+            .all(|capacity| 1 <= *capacity && *capacity <= MAX_DISK_SECTORS)
+}
 
 /// A machine with its disks and its log. Contracts see its number, the capacities of its disks and
 /// the log.
@@ -46,14 +61,16 @@ impl Model for Machine {
 }
 
 impl Machine {
-    ghost use Rattle.source_vm.specs.Machine.{MayHaveDisks, fresh, writes_before, read_now_refusal};
+    ghost use Rattle.source_vm.specs.Machine.{fresh, writes_before};
+    ghost use Rattle.source_vm.specs.Refusals.{read_now_refusal};
 
     /// A machine with disks of these capacities, in sectors: 1 to
     /// [`MAX_DISKS`](basics::MAX_DISKS) disks of 1 to
-    /// [`MAX_DISK_SECTORS`](basics::MAX_DISK_SECTORS) sectors each. It keeps the allocator for its
+    /// [`MAX_DISK_SECTORS`](basics::MAX_DISK_SECTORS) sectors each, as [`may_have_disks`] tests. It
+    /// keeps the allocator for its
     /// log and its disks. It answers only want of memory.
     pub fn new(alloc: Global, number: u32, capacities: &[u64]) -> Result<Machine, NoMemory>
-        requires { MayHaveDisks capacities.now }
+        requires { may_have_disks capacities.now ≡ true }
         ensures { IfOk result (λ machine. machine ≡ fresh number capacities.now) }
     {
         Ok(Machine {
@@ -64,22 +81,22 @@ impl Machine {
         })
     }
 
-    /// The machine's number.
+    /// The machine's number. It takes no memory.
     pub fn number(&self) -> u32
         ensures { result ≡ self.now.number }
     {
         self.number
     }
 
-    /// How many disks it has.
+    /// How many disks it has. It takes no memory.
     pub fn disks(&self) -> u32
         ensures count { result ≡ length self.now.capacities }
-        ensures sizes { MayHaveDisks self.now.capacities }
+        ensures sizes { may_have_disks self.now.capacities ≡ true }
     {
         self.log.capacities().len() as u32
     }
 
-    /// The capacity of one of its disks, in sectors.
+    /// The capacity of one of its disks, in sectors. It takes no memory.
     pub fn capacity(&self, disk: u32) -> u64
         requires { disk < length self.now.capacities }
         ensures { result ≡ capacity_of self.now.capacities disk }
@@ -87,7 +104,7 @@ impl Machine {
         self.log.capacities()[disk as usize]
     }
 
-    /// What the machine is like.
+    /// What the machine is like. It takes no memory and walks no log.
     pub fn look(&self) -> Facts
         ensures facts { result ≡ facts_of self.now.log }
         ensures legal { Legal (all_of self.now.capacities) self.now.log }
@@ -95,14 +112,14 @@ impl Machine {
         self.log.facts()
     }
 
-    /// The entry at a place of the log, from 0 on, or None behind the last.
+    /// The entry at a place of the log, from 0 on, or None behind the last. It takes no memory.
     pub fn entry(&self, place: u64) -> Option<&Entry>
         ensures { option_copied result ≡ slice_get self.now.log place }
     {
         self.log.entries().get(place as usize)
     }
 
-    /// How many writes stand before a place of the log. It walks the log.
+    /// How many writes stand before a place of the log or its end. It walks the log up to there.
     pub fn writes_before(&self, place: u64) -> u64
         requires { place ≤ length self.now.log }
         ensures { result ≡ writes_before place self.now.log }
@@ -122,7 +139,7 @@ impl Machine {
         ensures kept { OnErr result (buf.new ≡ buf.old) }
     {
         match self.disks.get(disk as usize) {
-            Some(disk) if disk.read(None, first, buf).is_ok() => Ok(()),
+            Some(found) if found.read(None, first, buf).is_ok() => Ok(()),
             _ => Err(LinkRefused::Range),
         }
     }

@@ -1,5 +1,6 @@
-//! The log of a machine, with what it says kept beside it: no call but `entries` and those on it
-//! walks the log. Why a call of the machine is refused is decided here, before anything changes.
+//! The log of a machine, with what it says kept beside it, so that no call walks the log. It is legal
+//! for the capacities of the machine's disks, which stand here for that reason. Why a call of the
+//! machine is refused is decided here, before anything changes.
 ghost use Rattle.std.specs.Prelude.{◌≡◌, ◌∷◌, ◌++◌, [], true, false, IfOk, OnOk, OnErr};
 ghost use Rattle.log_model.specs.declared.entry.Act.{Act};
 ghost use Rattle.log_model.specs.declared.entry.Entry.{Entry};
@@ -12,7 +13,7 @@ mod refusals;
 
 use crate::kept_facts::KeptFacts;
 use crate::live::{LiveSnap, follow, least_owned_in, owner_in};
-use log_model::{Act, Entry, Facts, Owner, Snapped, Tracking};
+use log_model::{Act, Entry, Facts, Owner, Snapped};
 use sector_model::NoMemory;
 use std::alloc::Global;
 use std::marker::Model;
@@ -77,7 +78,7 @@ impl MachineLog {
             on: self.facts.on,
             entries: self.entries.len() as u64,
             enabled: self.facts.is_enabled(),
-            tracking: self.facts.tracking == Tracking::Active,
+            tracking: self.facts.is_active(),
             snaps: self.facts.taken,
         }
     }

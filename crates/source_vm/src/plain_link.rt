@@ -50,6 +50,7 @@ impl PlainLink {
     pub fn into_machine(self) -> Machine
         ensures machine { result
             ≡ record { number = self.machine; capacities = self.capacities; log = self.seen } }
+        ensures link { self ≡ link_of self.caller result }
         ensures legal { Legal (all_of self.capacities) self.seen }
     {
         self.machine

@@ -17,7 +17,7 @@ impl Machine {
         ensures refused { IsRefusedOr
             (power_off_refusal self.old.log) LinkRefused.NoMemory result }
         ensures place { IfOk result (λ place. place ≡ length self.old.log) }
-        ensures legal { Legal (all_of self.old.capacities) self.old.log }
+        ensures legal { Legal (all_of self.new.capacities) self.new.log }
     {
         if let Some(refused) = self.log.power_off_refusal() {
             return Err(refused);
@@ -36,7 +36,7 @@ impl Machine {
         ensures refused { IsRefusedOr
             (power_on_refusal self.old.log) LinkRefused.NoMemory result }
         ensures place { IfOk result (λ place. place ≡ length self.old.log) }
-        ensures legal { Legal (all_of self.old.capacities) self.old.log }
+        ensures legal { Legal (all_of self.new.capacities) self.new.log }
     {
         if let Some(refused) = self.log.power_on_refusal() {
             return Err(refused);
@@ -54,7 +54,7 @@ impl Machine {
         ensures adds { Adds result who (Act.Reset disk) self.old self.new }
         ensures refused { IsRefusedOr
             (reset_refusal self.old.capacities disk self.old.log) LinkRefused.NoMemory result }
-        ensures legal { Legal (all_of self.old.capacities) self.old.log }
+        ensures legal { Legal (all_of self.new.capacities) self.new.log }
     {
         if let Some(refused) = self.log.reset_refusal(disk) {
             return Err(refused);
@@ -72,7 +72,7 @@ impl Machine {
     pub(crate) fn enable(&mut self, who: u32) -> Result<(), LinkRefused>
         ensures adds { Adds result who Act.Enable self.old self.new }
         ensures refused { IsRefusedOr (enable_refusal self.old.log) LinkRefused.NoMemory result }
-        ensures legal { Legal (all_of self.old.capacities) self.old.log }
+        ensures legal { Legal (all_of self.new.capacities) self.new.log }
     {
         if let Some(refused) = self.log.enable_refusal() {
             return Err(refused);

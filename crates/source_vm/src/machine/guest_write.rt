@@ -2,6 +2,7 @@
 ghost use Rattle.std.specs.Prelude.{length};
 ghost use Rattle.basics.specs.Refusal.{IsRefusedOr};
 ghost use Rattle.log_model.specs.declared.entry.Act.{Act};
+ghost use Rattle.log_model.specs.Legal.{Legal, all_of};
 ghost use Rattle.log_model.specs.Refusals.{write_refusal};
 ghost use Rattle.source_vm.specs.Machine.{Adds};
 
@@ -15,7 +16,8 @@ impl Machine {
     /// unknown, the sectors aren't 1 to [`MAX_WRITE_SECTORS`](basics::MAX_WRITE_SECTORS), or they
     /// pass its capacity, [`WriteRefused::LogFull`] where the sectors of all writes would pass
     /// [`MAX_LOGGED_SECTORS`](basics::MAX_LOGGED_SECTORS) or the log holds
-    /// [`MAX_LOG_ENTRIES`](log_model::MAX_LOG_ENTRIES) entries, [`WriteRefused::NoMemory`].
+    /// [`MAX_LOG_ENTRIES`](log_model::MAX_LOG_ENTRIES) entries,
+    /// [`WriteRefused::NoMemory`]. A refused write changes nothing.
     pub fn guest_write(
         &mut self,
         who: u32,
@@ -24,6 +26,7 @@ impl Machine {
         sectors: &[Sector],
     ) -> Result<(), WriteRefused>
         ensures adds { Adds result who (Act.Write disk first sectors.now) self.old self.new }
+        ensures legal { Legal (all_of self.new.capacities) self.new.log }
         ensures refused { IsRefusedOr
             (write_refusal self.old.capacities disk first (length sectors.now) self.old.log)
             WriteRefused.NoMemory result }

@@ -9,7 +9,8 @@ ghost use Rattle.log_model.specs.Link.{snapped_after};
 ghost use Rattle.log_model.specs.Marks.{id_at};
 ghost use Rattle.log_model.specs.Query.{changed_areas};
 ghost use Rattle.log_model.specs.Refusals.{snap_refusal, remove_refusal, change_id_refusal, query_refusal, read_refusal};
-ghost use Rattle.source_vm.specs.Machine.{Adds, link_refused};
+ghost use Rattle.source_vm.specs.Machine.{Adds};
+ghost use Rattle.source_vm.specs.Refusals.{link_refused};
 
 use super::Machine;
 use crate::disks::{freeze_all, merge_all, reserve_freezes, reserve_merges};
@@ -32,7 +33,7 @@ impl Machine {
         ensures refused { IsRefusedOr
             (snap_refusal must_be_off self.old.log) LinkRefused.NoMemory result }
         ensures snapped { IfOk result (λ snapped. snapped ≡ snapped_after self.old.log) }
-        ensures legal { Legal (all_of self.old.capacities) self.old.log }
+        ensures legal { Legal (all_of self.new.capacities) self.new.log }
     {
         if let Some(refused) = self.log.snap_refusal(must_be_off) {
             return Err(refused);
@@ -52,7 +53,7 @@ impl Machine {
         ensures adds { Adds result who (Act.Remove id) self.old self.new }
         ensures refused { IsRefusedOr
             (remove_refusal who owner id self.old.log) LinkRefused.NoMemory result }
-        ensures legal { Legal (all_of self.old.capacities) self.old.log }
+        ensures legal { Legal (all_of self.new.capacities) self.new.log }
     {
         if let Some(refused) = self.log.remove_refusal(who, owner, id) {
             return Err(refused);
@@ -77,7 +78,7 @@ impl Machine {
             return Err(LinkRefused::UnknownSnap);
         }
         match self.disks.get(disk as usize) {
-            Some(disk) => disk.id_of(id).map_err(link_refused),
+            Some(found) => found.id_of(id).map_err(link_refused),
             None => Err(LinkRefused::Range),
         }
     }
@@ -107,7 +108,7 @@ impl Machine {
             return Err(LinkRefused::UnknownSnap);
         }
         match self.disks.get(disk as usize) {
-            Some(disk) => disk.query(id, since, start, page).map_err(link_refused),
+            Some(found) => found.query(id, since, start, page).map_err(link_refused),
             None => Err(LinkRefused::Range),
         }
     }
@@ -132,7 +133,7 @@ impl Machine {
             return Err(LinkRefused::UnknownSnap);
         }
         match self.disks.get(disk as usize) {
-            Some(disk) if disk.read(Some(id), first, buf).is_ok() => Ok(()),
+            Some(found) if found.read(Some(id), first, buf).is_ok() => Ok(()),
             _ => Err(LinkRefused::Range),
         }
     }

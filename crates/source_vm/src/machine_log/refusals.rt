@@ -1,12 +1,11 @@
 //! Why a call of a machine is refused, decided from what is kept beside its log.
-ghost use Rattle.std.specs.Prelude.{◌≡◌, ◌+◌, ◌<◌, ◌^◌};
-ghost use Rattle.std.specs.Bool.{OnTrue};
-ghost use Rattle.log_model.specs.Refusals.{is_known, is_within, spent_refusal, snap_refusal, may_remove, remove_refusal, power_off_refusal, power_on_refusal, reset_refusal, enable_refusal, write_refusal};
+ghost use Rattle.std.specs.Prelude.{◌≡◌};
+ghost use Rattle.log_model.specs.Refusals.{is_known, spent_refusal, snap_refusal, remove_refusal, power_off_refusal, power_on_refusal, reset_refusal, enable_refusal, write_refusal};
 
 use super::MachineLog;
 use crate::live::owner_in;
 use basics::{MAX_LOGGED_SECTORS, MAX_WRITE_SECTORS};
-use log_model::{LinkRefused, MAX_LOG_ENTRIES, MIGRATION_CALLER, Owner, WriteRefused};
+use log_model::{LinkRefused, MAX_LOG_ENTRIES, Owner, WriteRefused, is_within, may_remove};
 
 impl MachineLog {
     /// Of any call that adds an entry.
@@ -94,7 +93,7 @@ impl MachineLog {
         if !self.facts.on {
             return Some(WriteRefused::Off);
         }
-        if !self.is_within(disk, first, count) || count > MAX_WRITE_SECTORS {
+        if !is_within(self.capacities.as_slice(), disk, first, count) || count > MAX_WRITE_SECTORS {
             return Some(WriteRefused::Range);
         }
         let is_full = self.facts.written + count > MAX_LOGGED_SECTORS;
@@ -109,28 +108,5 @@ impl MachineLog {
         ensures { result ≡ is_known self.now.capacities disk }
     {
         (disk as usize) < self.capacities.len()
-    }
-
-    /// Whether `count` sectors from `first` on are some, and lie within the disk.
-    pub fn is_within(&self, disk: u32, first: u64, count: u64) -> bool
-        ensures { result ≡ is_within self.now.capacities disk first count }
-    {
-        match self.capacities.get(disk as usize) {
-            Some(capacity) => count != 0 && first <= *capacity && count <= *capacity - first,
-            None => false,
-        }
-    }
-}
-
-/// Whether the caller may remove in an owner's name what another owner has.
-fn may_remove(caller: u32, owner: Owner, has: Owner) -> bool
-    ensures { result ≡ may_remove caller owner has }
-{
-    match (owner, has) {
-        (Owner::Operator, Owner::Operator) => true,
-        (Owner::Migration(number), Owner::Migration(other)) => {
-            number == other && caller == MIGRATION_CALLER
-        }
-        _ => false,
     }
 }

@@ -5,7 +5,6 @@ use Rattle.std.proofs.lemmas.Option.{same_Some, slice_get_within, slice_get-get_
 use Rattle.std.specs.List.{slice_get}
 use Rattle.log_model.specs.declared.entry.Owner.{Owner}
 use Rattle.source_vm.specs.declared.live.LiveSnap.{LiveSnap}
-use Rattle.source_vm.specs.KeptFacts.{IsLeastIn}
 use Rattle.source_vm.proofs.LiveLemmas.{NoneOf, none_owned, least_owned, snap}
 use Rattle.source_vm.proofs.live.least_owned_in.Goals as goal
 
@@ -30,7 +29,7 @@ returns-then-eq c =
     let x : LiveSnap = get_or later i (snap 0 Owner.Operator) in
     let has : x.owner ≡ c.args.owner = search rules in
     let at : slice_get later i ≡ Some x = slice_get-get_or later i (snap 0 Owner.Operator) c.loop-snap-test.true in
-    least_owned c.args.owner c.args.from place c.requires.0 i xs x c.requires.1 c.place_from.ensures.point
+    least_owned c.args.owner c.args.from place i xs x c.requires c.place_from.ensures.point
     (subst (λ (ys : List LiveSnap). NoneOf c.args.owner ys i) (all_of_it xs place) c.loop-snap.invariant)
     (subst (λ (ys : List LiveSnap). slice_get ys i ≡ Some x) (all_of_it xs place) at) has
 

@@ -3,7 +3,7 @@ use Rattle.std.proofs.lemmas.Option.{slice_get_within, slice_get_read, same_Some
 use Rattle.std.specs.List.{slice_get}
 use Rattle.std.specs.Slice.{IsItemAt}
 use Rattle.source_vm.specs.declared.live.LiveSnap.{LiveSnap}
-use Rattle.source_vm.specs.KeptFacts.{owner_in}
+use Rattle.source_vm.specs.Live.{owner_in}
 use Rattle.source_vm.proofs.LiveLemmas.{owner_in-at, none_of_id}
 use Rattle.source_vm.proofs.live.owner_in.Goals as goal
 
@@ -27,16 +27,16 @@ returns-in-Some c =
     let xs : List LiveSnap = c.args.live.now in
     let x : LiveSnap = c.in-Some.snap.now in
     let at : slice_get xs c.place_from.result ≡ Some x = item_at xs c.place_from.result c.get.result c.in-Some.snap c.get.ensures.lookup c.in-Some.is in
-    sym (owner_in-at 0 c.requires.0 xs c.place_from.result x c.requires.1 at) ∙ ap (λ s. owner_in s xs) c.if-snap-id.true
+    sym (owner_in-at xs c.place_from.result x c.requires at) ∙ ap (λ s. owner_in s xs) c.if-snap-id.true
 
 pub returns-in_default : goal.returns-in_default
 returns-in_default c =
     let xs : List LiveSnap = c.args.live.now in
-    sym (none_of_id c.args.id c.requires.0 xs c.place_from.result c.requires.1 c.place_from.ensures.point
+    sym (none_of_id c.args.id xs c.place_from.result c.requires c.place_from.ensures.point
     (other_there c.args.id xs c.place_from.result c.get.result c.in-Some.snap c.get.ensures.lookup c.in-Some.is c.if-snap-id.false))
 
 pub returns-in_default-2 : goal.returns-in_default-2
 returns-in_default-2 c =
     let xs : List LiveSnap = c.args.live.now in
-    sym (none_of_id c.args.id c.requires.0 xs c.place_from.result c.requires.1 c.place_from.ensures.point
+    sym (none_of_id c.args.id xs c.place_from.result c.requires c.place_from.ensures.point
     (none_there c.args.id xs c.place_from.result c.get.result c.get.ensures.lookup c.in_default.is))

@@ -8,4 +8,4 @@ pub returns-clause-point : goal.returns-clause-point
 returns-clause-point c =
     let xs : List LiveSnap = c.args.live.now in
     IsPartitionPoint-from_clause (λ x. ltb x.id c.args.id) xs c.partition_point.result c.partition_point.ensures.partitioned
-    (IsPartitionedBy-ltb (λ x. x.id) xs c.args.id (are_rising c.requires.0 xs c.requires.1)) (λ a r f k. search rules)
+    (IsPartitionedBy-ltb (λ x. x.id) xs c.args.id (are_rising xs c.requires)) (λ a r f k. search rules)
