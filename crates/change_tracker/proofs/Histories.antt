@@ -8,26 +8,22 @@ use Rattle.std.proofs.lemmas.Option.{same_Some, none-some, slice_get_within}
 use Rattle.std.proofs.lemmas.List.{take-append-le, drop-append-le, take_all, append-nil}
 use Rattle.std.proofs.lemmas.List.Sums.{sum_by-take-le}
 use Rattle.std.proofs.lemmas.List.Folds.{list_any-append, find-append}
-use Rattle.sector_model.specs.Run.{meets, met_blocks, block_count}
+use Rattle.sector_model.specs.Run.{meets, met_blocks, block_count, with_met}
 use Rattle.sector_model.specs.declared.run.Run.{Run}
-use Rattle.basics.proofs.ItemAt.{slice_get-front}
+use Rattle.basics.proofs.ItemAt.{slice_get-front, slice_get-last}
 use Rattle.change_id.specs.ChangeId.{packed}
 use Rattle.change_id.specs.declared.ChangeId.{ChangeId}
 use Rattle.change_id.proofs.Counts.{epoch-append, counted-last}
 use Rattle.change_id.proofs.IdMarks.{in_force-parts, same-epochs, mark-stays, later_entries_keep}
-use Rattle.change_tracker.specs.Tracker.{TrackerState, Snapshot, snapshot_of, fresh, next_id, with_met, after_marking, after_freezing, after_enabling, after_reset, without_changes}
+use Rattle.change_tracker.specs.Tracker.{TrackerState, Snapshot, snapshot_of, fresh, next_id, after_marking, after_freezing, after_enabling, after_reset, without_changes}
 use Rattle.change_tracker.specs.History.{TrackStep, Marked, Frozen, Enabled, Reset, reading, freezes, is_reset, run_in, runs_between, mark, id_at, is_met, IsFrozenAs, IsOfEpoch, changed_in, TellsChanges, AreNumbered, StandsFor, Takes}
-use Rattle.change_tracker.proofs.Blocks.{among, same_blocks, met_more}
+use Rattle.sector_model.proofs.Among.{among, same_blocks, met_more, none_pass}
 use Rattle.change_tracker.proofs.Steps.{place_new, epoch_of, counted_of, number_of, counts_mark, counts_freeze, counts_enable, counts_reset, runs_stay, runs_push, runs_none, force, force_some}
 
 -- ---- parts of a list
 
 pub at_front : {X : Type 0} (xs ys : List X) (i : ℕ) (x : X) → slice_get xs i ≡ Some x → slice_get (xs ++ ys) i ≡ Some x
 at_front xs ys i x is = slice_get-front xs ys i (slice_get_within xs i x is) ∙ is
-
-pub at_end : {X : Type 0} (xs : List X) (y : X) → slice_get (xs ++ y ∷ []) (length xs) ≡ Some y
-at_end [] y = refl
-at_end (x ∷ xs) y = at_end xs y
 
 pub pushed_at : {X : Type 0} (xs : List X) (y : X) (i : ℕ) (x : X) → slice_get (xs ++ y ∷ []) i ≡ Some x → (slice_get xs i ≡ Some x) ⊎ ((i ≡ length xs) × (y ≡ x))
 pushed_at [] y zero x is = inr (refl, same_Some y x is)
@@ -290,7 +286,7 @@ numbered_new old y n uuid was told new grown = record {
         let is : seq ≡ n + 1 = omega (arith, last, high) in
         let place : length old.snapshots + 1 - (n + 1 - seq) - 1 ≡ length old.snapshots = omega (arith, is) in (
           y,
-          ap (λ (xs : List Snapshot). slice_get xs (length old.snapshots + 1 - (n + 1 - seq) - 1)) grown ∙ ap (slice_get (old.snapshots ++ y ∷ [])) place ∙ at_end old.snapshots y,
+          ap (λ (xs : List Snapshot). slice_get xs (length old.snapshots + 1 - (n + 1 - seq) - 1)) grown ∙ ap (slice_get (old.snapshots ++ y ∷ [])) place ∙ slice_get-last old.snapshots y,
           told ∙ ap (λ (k : ℕ). Some (numbered uuid k)) (sym is),
         )
     | inr early ↦
@@ -448,10 +444,6 @@ stands_frozen id old le h stands = record {
 }
 
 -- ---- nothing was told yet
-
-none_pass : (xs : List ℕ) → filter (λ b. false) xs ≡ []
-none_pass [] = refl
-none_pass (x ∷ xs) = none_pass xs
 
 pub stands_fresh : (machine disk capacity : ℕ) → StandsFor (fresh machine disk capacity) []
 stands_fresh machine disk capacity = record {

@@ -19,7 +19,7 @@ use Rattle.change_tracker.specs.declared.refusals.TrackRefused.TheVariants.{Unkn
 use Rattle.change_tracker.specs.Tracker.{TrackerState, Snapshot}
 use Rattle.change_tracker.specs.Kept.{AreIds, is_accepted, in_force_of}
 use Rattle.change_tracker.specs.History.{TrackStep, reading, runs_between, areas_between, answered, mark, id_at, is_met, changed_in, IsFrozenAs, StandsFor}
-use Rattle.change_tracker.proofs.Blocks.{same_blocks}
+use Rattle.sector_model.proofs.Among.{same_blocks}
 use Rattle.change_tracker.proofs.Steps.{epoch_of, number_of, force, place_of_id, apart}
 
 -- ---- the place of an id

@@ -21,7 +21,7 @@ use Rattle.change_tracker.specs.Touches.{is_touched, areas_in}
 use Rattle.change_tracker.specs.Maps.{window}
 use Rattle.change_tracker.specs.Kept.{state_of, snapshot_at, is_accepted, window_from, in_force_of}
 use Rattle.change_tracker.specs.History.{TrackStep, freezes, answered, changed_in, StandsFor, strange_refusal, query_refusal}
-use Rattle.change_tracker.proofs.Blocks.{same_blocks}
+use Rattle.sector_model.proofs.Among.{same_blocks}
 use Rattle.change_tracker.proofs.States.{view_get, view_find, in_changes}
 use Rattle.change_tracker.proofs.Lookups.{known_at, query_unknown, query_known, query_outside, query_within, since_told, since_strange, all_told}
 

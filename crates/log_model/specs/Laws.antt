@@ -3,7 +3,7 @@
 use Rattle.std.specs.Prelude.{◌≡◌, ℕ, ◌+◌, ◌<◌, ◌≤◌, ◌^◌, List, Bool, [], ◌∷◌, ◌++◌, length, take, slice_get, true, false, ◌||◌, ◌&&◌, ◌⊎◌, ◌↔◌, Option, Some, None, Ok, Err}
 use Rattle.std.specs.List.{flat_map, filter, list_any, All}
 use Rattle.sector_model.specs.Run.{in_blocks, end_of, AreSpaced}
-use Rattle.sector_model.specs.Page.{PageContents, areas_from, page_from, ArePages, LiesWithin}
+use Rattle.sector_model.specs.Page.{PageContents, page_from, ArePages, PagesTell, LiesWithin}
 use Rattle.sector_model.specs.declared.run.Run.{Run}
 use Rattle.sector_model.specs.declared.sector.Sector.{Sector}
 use Rattle.change_id.specs.History as history
@@ -273,9 +273,7 @@ AnswersAreAreas = (machine c d s : ℕ) (since : Since) (log : List Entry) (area
 -- start on; from sector 0 on they are the answer
 abbrev pub AnswerPagesJoin : Type 0
 AnswerPagesJoin = (machine c d s : ℕ) (since : Since) (log : List Entry) (areas : List Run)
-    (start : ℕ) (pages : List PageContents)
-    → c < 2 ^ 64 → changed_areas machine c d s since log ≡ Ok areas
-    → ArePages c areas start pages → flat_map (λ p. p.areas) pages ≡ areas_from start areas
+    → c < 2 ^ 64 → changed_areas machine c d s since log ≡ Ok areas → PagesTell c areas
 
 abbrev pub AllPagesAreTheAnswer : Type 0
 AllPagesAreTheAnswer = (machine c d s : ℕ) (since : Since) (log : List Entry)

@@ -9,7 +9,8 @@ use Rattle.std.proofs.lemmas.Option.{slice_get_past, slice_get-get_or, get_or_fr
 use Rattle.basics.proofs.Replaced.{length-replaced, replaced-before, replaced-within, replaced-behind}
 use Rattle.sector_model.proofs.Touched.{filter-range_same}
 use Rattle.snapshot_chain.proofs.Writes.{run_before, run_from}
-use Rattle.snapshot_chain.proofs.Touching.{among, has_more}
+use Rattle.sector_model.proofs.Among.{among_range}
+use Rattle.snapshot_chain.proofs.Touching.{has_more}
 use Rattle.sector_model.specs.Sector.{zero_sector}
 use Rattle.sector_model.specs.Run.{block_count, range_of, touches, with_met}
 use Rattle.basics.specs.Replaced.{replaced}
@@ -169,7 +170,7 @@ written_state c layers ids free freeze_room merge_room first sectors new long fi
         (λ b from less. any-same (λ offset. is_some (found (set layers (length ids) new) b offset)) (λ offset. is_some (option_or (run_at first sectors (128 * b + offset)) (found layers b offset))) 0 128
         (λ offset low within. ap is_some (more b offset (omega (arith, within))))
         ∙ has_more first sectors b (found layers b)
-        ∙ ap (λ x. x || touches b (record { first = first; sectors = sectors })) (sym (among (has_found layers) b (block_count c) (omega (arith, less)))))
+        ∙ ap (λ x. x || touches b (record { first = first; sectors = sectors })) (sym (among_range (has_found layers) b (block_count c) (omega (arith, less)))))
 
 -- a write that was refused for want of memory
 same-newest : (layers : List LayerState) (n : ℕ) (new : LayerState) → length layers ≡ n + 1 → HasSame (layer_at layers n) new → HoldsSame layers (set layers n new)

@@ -1,7 +1,7 @@
 -- What a disk that stands for a log answers of its changes: what its tracker does, of which the
 -- chain says which snapshots are live.
-use Rattle.std.proofs.Common.{◌≡◌, ℕ, ◌+◌, nat_lt, slice_range, List, [], ◌∷◌, ◌++◌, Bool, true, false, not, cond, Option, Some, None, is_some, is_none, IfSome, Result, Ok, Err, IfOk, OnOk, subst, sym, ap, refl, ◌∙◌}
-use Rattle.std.specs.List.{list_any, cons_option}
+use Rattle.std.proofs.Common.{◌≡◌, ℕ, ◌+◌, nat_lt, slice_range, List, [], ◌∷◌, ◌++◌, true, false, not, cond, Option, Some, None, is_some, is_none, IfSome, Result, Ok, Err, IfOk, OnOk, subst, sym, ap, ◌∙◌}
+use Rattle.std.specs.List.{list_any}
 use Rattle.std.specs.Option.{option_map}
 use Rattle.basics.specs.Refusal.{IsRefusedBy, IsRefusedOr}
 use Rattle.sector_model.specs.Run.{areas_of}
@@ -25,7 +25,7 @@ use Rattle.change_tracker.specs.History as tracker
 use Rattle.change_tracker.proofs.Histories as trackers
 use Rattle.sector_model.specs.declared.NoMemory.{NoMemory}
 use Rattle.source_disk.specs.Parts.{steps_of}
-use Rattle.source_disk.specs.SourceDisk.{SourceDiskState, machine_of, number_of, capacity_of, has_snapshot, contents_of, blocks_of, with_freeze_room}
+use Rattle.source_disk.specs.SourceDisk.{SourceDiskState, machine_of, number_of, capacity_of, has_snapshot, contents_of, with_freeze_room}
 use Rattle.source_disk.specs.StandsFor.{StandsFor}
 use Rattle.source_disk.specs.Told.{contents_told, allocated_told, id_told, changes_told}
 use Rattle.source_disk.specs.Refusals.{read_refusal, snapshot_refusal, id_refusal, query_refusal}

@@ -1,6 +1,6 @@
 -- What a log is to the chain of a disk: the same writes, the same live snapshots, and the same
 -- events before each snapshot.
-use Rattle.std.proofs.Common.{◌≡◌, ℕ, List, [], ◌∷◌, ◌++◌, take, Bool, true, false, not, ◌||◌, ◌&&◌, ◌==◌, cond, eqb, Option, Some, None, is_some, sym, ap, refl, ◌∙◌, ◌⊎◌, inl, inr}
+use Rattle.std.proofs.Common.{◌≡◌, ℕ, List, [], ◌∷◌, ◌++◌, take, Bool, true, false, not, ◌||◌, ◌&&◌, ◌==◌, cond, eqb, Option, Some, None, is_some, sym, ap, refl, ◌∙◌, inl, inr}
 use Rattle.std.specs.List.{fold, filter, filter_map, cons_option, list_any}
 use Rattle.std.proofs.lemmas.Bool.{cases_eq, eq-eqb, ne_eqb, eqb-true}
 use Rattle.std.proofs.lemmas.List.Folds.{list_any-append}
@@ -9,19 +9,19 @@ use Rattle.std.proofs.Math.Bool.{or-false, or-true}
 use Rattle.sector_model.specs.Disk.{Write as Replacement, fold_writes}
 use Rattle.sector_model.specs.Run.{touched_blocks, areas_of}
 use Rattle.change_id.specs.History.{Reading}
-use Rattle.change_id.specs.Filtered.{passes, ReadsAs, ReadTheSame}
+use Rattle.change_id.specs.Filtered.{passes, ReadTheSame}
 use Rattle.change_id.proofs.Filtered.{read_the_same}
 use Rattle.log_model.specs.declared.entry.Owner.{Owner}
 use Rattle.log_model.specs.declared.entry.Act.{Act}
 use Rattle.log_model.specs.declared.entry.Act.TheVariants.{Write, Snap, Remove, Reset, Enable, Off, On}
 use Rattle.log_model.specs.declared.entry.Entry.{Entry}
 use Rattle.log_model.specs.Entry.{write_to, writes_of, takes, contents}
-use Rattle.log_model.specs.Legal.{owner_after, owner_after_act, owner_of}
+use Rattle.log_model.specs.Legal.{owner_after, owner_after_act}
 use Rattle.log_model.specs.Marks.{mark, before, takes_in}
 use Rattle.log_model.specs.Frozen as log_frozen
 use Rattle.log_model.specs.Touched.{touched_areas}
 use Rattle.log_model.specs.Refusals as log_model
-use Rattle.snapshot_chain.specs.History.{DiskEvent, Written, Frozen, Merged, write_in, freezes, writes_in, present, before_freeze, frozen, allocated, live_after, live_snapshots, is_live}
+use Rattle.snapshot_chain.specs.History.{DiskEvent, Written, Frozen, Merged, write_in, freezes, writes_in, present, before_freeze, frozen, allocated, live_after, is_live}
 use Rattle.source_disk.specs.Parts.{chain_event, events_of}
 
 -- ---- writes

@@ -1,16 +1,15 @@
 -- What a log is to the tracking of a disk: the same epochs, identifiers and answers.
-use Rattle.std.proofs.Common.{◌≡◌, ℕ, ◌<◌, List, [], ◌∷◌, length, drop, take, Bool, true, false, ◌||◌, ◌==◌, cond, eqb, Option, Some, None, is_some, Result, sym, ap, refl, ◌∙◌, ◌↔◌}
+use Rattle.std.proofs.Common.{◌≡◌, ℕ, ◌<◌, List, [], ◌∷◌, length, Bool, true, false, ◌||◌, cond, eqb, Option, Some, None, is_some, sym, ap, refl, ◌∙◌}
 use Rattle.std.specs.List.{filter_map, cons_option, list_any, position_or_len}
 use Rattle.std.proofs.lemmas.Bool.{false≢true}
 use Rattle.std.proofs.lemmas.List.Folds.{list_any_at}
 use Rattle.std.proofs.lemmas.List.Sums.{passes_at_first}
 use Rattle.sector_model.specs.Disk.{Write as Replacement}
-use Rattle.sector_model.specs.Run.{meets, touches, blocks_where, areas_of}
+use Rattle.sector_model.specs.Run.{touches, blocks_where, areas_of}
 use Rattle.sector_model.specs.declared.run.Run.{Run}
 use Rattle.change_id.specs.History as history
 use Rattle.change_id.specs.Filtered.{passes, ReadsAs, ReadTheSame, place_in}
 use Rattle.change_id.proofs.Filtered.{read_the_same, answer_the_same}
-use Rattle.change_id.specs.declared.ChangeId.{ChangeId}
 use Rattle.change_id.specs.declared.Since.{Since}
 use Rattle.log_model.specs.declared.entry.Owner.{Owner}
 use Rattle.log_model.specs.declared.entry.Act.{Act}

@@ -1,6 +1,6 @@
 -- What a disk that stands for a log stands for after one entry more, and that room is no part of it.
 use Rattle.std.proofs.Common.{◌≡◌, ℕ, ◌≤◌, List, [], ◌∷◌, ◌++◌, length, Bool, true, false, ◌||◌, cond, eqb, Option, Some, None, is_some, Result, Ok, Err, OnOk, subst, sym, ap, refl, ◌∙◌, arith}
-use Rattle.std.specs.List.{filter_map, cons_option}
+use Rattle.std.specs.List.{cons_option}
 use Rattle.std.proofs.lemmas.Bool.{eq-eqb, false≢true}
 use Rattle.std.proofs.lemmas.List.{append-nil}
 use Rattle.std.proofs.lemmas.List.Elements.{filter_map-append}
@@ -18,7 +18,7 @@ use Rattle.snapshot_chain.specs.Laws as chain_laws
 use Rattle.change_tracker.specs.Laws as tracker_laws
 use Rattle.change_tracker.proofs.Histories as trackers
 use Rattle.source_disk.specs.Parts.{chain_event, track_step, events_of, steps_of}
-use Rattle.source_disk.specs.SourceDisk.{SourceDiskState, IsInStep, number_of, after_writing, after_freezing, after_merging, after_enabling, after_reset, without_room, IsSameButRoom}
+use Rattle.source_disk.specs.SourceDisk.{SourceDiskState, number_of, after_writing, after_freezing, after_merging, after_enabling, after_reset, without_room, IsSameButRoom}
 use Rattle.source_disk.specs.StandsFor.{StandsFor, Takes, concerns}
 
 -- ---- the parts, after one entry more
