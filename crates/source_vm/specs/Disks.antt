@@ -10,9 +10,9 @@ use Rattle.source_vm.specs.Machine.{may_have_disks}
 
 pub record IsDisk (machine disk capacity : ℕ) (log : List Entry) (d : SourceDiskState)
     : Type 0 where
-  pub machine : machine_of d ≡ machine
-  pub place : number_of d ≡ disk
-  pub capacity : size_of d ≡ capacity
+  pub of_machine : machine_of d ≡ machine
+  pub numbered : number_of d ≡ disk
+  pub sized : size_of d ≡ capacity
   pub stands : StandsFor d log
 
 pub record AreDisks (machine : ℕ) (capacities : List ℕ) (log : List Entry)
@@ -26,7 +26,7 @@ pub record IsSound (machine : ℕ) (capacities : List ℕ) (log : List Entry)
     (disks : List SourceDiskState) : Type 0 where
   pub sizes : may_have_disks capacities ≡ true
   pub legal : Legal (all_of capacities) log
-  pub disks : AreDisks machine capacities log disks
+  pub stand : AreDisks machine capacities log disks
 
 -- whatever machine and log they were the disks of, they are still
 abbrev pub StillDisks : (old new : List SourceDiskState) → Type 0
