@@ -8,7 +8,7 @@ ghost use Rattle.source_vm.specs.Disks.{AreDisks, StillDisks, DisksTake, CanFree
 
 use basics::MAX_DISKS;
 use sector_model::NoMemory;
-use source_disk::SourceDisk;
+use source_disk::{SourceDisk, room_is_no_part};
 use std::alloc::Global;
 
 /// The disks of a machine, none of which was written. It answers only want of memory.
@@ -41,6 +41,7 @@ pub(crate) fn reserve_freezes(disks: &mut [SourceDisk]) -> Result<(), NoMemory>
     ensures still { StillDisks disks.old disks.new }
     ensures room { OnOk result (All (λ d. has_freeze_room d ≡ true) disks.new) }
 {
+    room_is_no_part();
     for disk in disks.iter_mut() {
         disk.reserve_freeze()?;
     }
@@ -63,6 +64,7 @@ pub(crate) fn reserve_merges(disks: &mut [SourceDisk], id: u32) -> Result<(), No
     ensures still { StillDisks disks.old disks.new }
     ensures room { OnOk result (All (HasMergeRoom id) disks.new) }
 {
+    room_is_no_part();
     for disk in disks.iter_mut() {
         if disk.reserve_merge(id).is_err() {
             return Err(NoMemory);
