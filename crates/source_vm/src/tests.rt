@@ -1,6 +1,6 @@
 //! A machine by worked values, one whose log is full, and drawn calls whose answers are compared
 //! with those of the plain machine.
-ghost use Rattle.std.specs.Prelude.{◌≡◌, IfOk};
+ghost use Rattle.std.specs.Prelude.{◌≡◌, ◌<◌, ◌≤◌, IfOk};
 
 use crate::{Machine, PlainLink, WriteRefused, may_have_disks};
 use basics::advance;
