@@ -10,6 +10,8 @@ mod live;
 mod machine;
 mod machine_log;
 mod plain_link;
+#[cfg(test)]
+mod tests;
 
 pub use log_model::WriteRefused;
 pub use machine::{Machine, may_have_disks};
