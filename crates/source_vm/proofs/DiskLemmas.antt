@@ -53,6 +53,7 @@ one_more R n old new item now stepped less changed = record {
   where
     inside : n < length new
     inside = omega (arith, less, stepped.as_many)
+
     by : (k : ℕ) (o d : SourceDiskState) → (k ≡ n) ⊎ (k ≢ n) → k < n + 1 → slice_get old k ≡ Some o → slice_get (set new n now) k ≡ Some d → R o d
     by k o d (inl same) before at_old at_new =
         let here : slice_get new n ≡ Some o = stepped.rest n (omega arith) ∙ ap (slice_get old) (sym same) ∙ at_old in
@@ -184,6 +185,7 @@ one_took pass act n disks item now less took others machine capacities log who a
   where
     more : List Entry
     more = log ++ record { who = who; act = act } ∷ []
+
     by : (k : ℕ) (d : SourceDiskState) → slice_get (set disks n now) k ≡ Some d → (k ≡ n) ⊎ (k ≢ n) → IsDisk machine k (capacity_of capacities k) more d
     by k d at (inl here) =
         let is : now ≡ d = same_Some now d (sym (get-set_same disks n now less) ∙ ap (slice_get (set disks n now)) (sym here) ∙ at) in
@@ -230,6 +232,7 @@ one_made machine n capacities disks d are less made stands = record {
   where
     many : length disks ≡ n
     many = omega (arith, are.count, length-take n capacities)
+
     by : (k : ℕ) (x : SourceDiskState) → slice_get (disks ++ d ∷ []) k ≡ Some x → (k < n) ⊎ (n ≤ k) → IsDisk machine k (capacity_of (take (n + 1) capacities) k) [] x
     by k x at (inl before) =
         let old = are.each k x (sym (slice_get-front disks (d ∷ []) k (omega (arith, many))) ∙ at) in
