@@ -1,8 +1,8 @@
 -- What a machine does to its disks, one after another.
-use Rattle.std.proofs.Common.{◌≡◌, ◌≢◌, ℕ, zero, suc, ◌+◌, ◌<◌, ◌≤◌, ◌⊎◌, inl, inr, List, [], ◌∷◌, ◌++◌, length, get_or, set, Bool, true, false, Option, Some, None, Result, Ok, Err, is_some, subst, sym, ap, refl, ◌∙◌, arith, take, length-set, length-append, length-take, get_or-take}
+use Rattle.std.proofs.Common.{◌≡◌, ◌≢◌, ℕ, zero, suc, ◌+◌, ◌<◌, ◌≤◌, ◌⊎◌, inl, inr, List, [], ◌∷◌, ◌++◌, length, get_or, set, true, false, Some, subst, sym, ap, refl, ◌∙◌, arith, take, length-set, length-append, length-take, get_or-take}
 use Rattle.std.specs.List.{slice_get, All}
-use Rattle.std.proofs.lemmas.Bool.{cases_lt, cases_eq, false≢true}
-use Rattle.std.proofs.lemmas.Option.{none-some, same_Some, slice_get_within, slice_get-get_or, get_or_from_slice_get}
+use Rattle.std.proofs.lemmas.Bool.{cases_lt, cases_eq}
+use Rattle.std.proofs.lemmas.Option.{same_Some, slice_get_within, slice_get-get_or, get_or_from_slice_get}
 use Rattle.basics.proofs.ItemAt.{slice_get-front, slice_get-last}
 use Rattle.log_model.specs.declared.entry.Owner.{Owner}
 use Rattle.log_model.specs.declared.entry.Act.{Act}
@@ -10,7 +10,7 @@ use Rattle.log_model.specs.declared.entry.Act.TheVariants.{Snap}
 use Rattle.log_model.specs.declared.entry.Entry.{Entry}
 use Rattle.log_model.specs.Legal.{Legal, Disks, capacity_of, taken}
 use Rattle.log_model.specs.Refusals.{is_live}
-use Rattle.source_disk.specs.SourceDisk.{SourceDiskState, machine_of, number_of, capacity_of as size_of, has_freeze_room, has_snapshot, fresh, IsFree, HasMergeRoom, IsSameButRoom}
+use Rattle.source_disk.specs.SourceDisk.{SourceDiskState, machine_of, number_of, capacity_of as size_of, has_freeze_room, fresh, HasMergeRoom, IsSameButRoom}
 use Rattle.source_disk.specs.StandsFor.{StandsFor, Takes, concerns}
 use Rattle.source_disk.specs.Laws.{RoomIsNoPart, NextIsFree, OthersPass, StandingHolds}
 use Rattle.source_vm.specs.Disks.{IsDisk, AreDisks, StillDisks, DisksTake, CanFreeze, HasSnap}

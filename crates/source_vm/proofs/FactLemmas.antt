@@ -1,18 +1,17 @@
 -- What is kept beside a log follows it.
-use Rattle.std.proofs.Common.{◌≡◌, ℕ, ◌+◌, ◌<◌, ◌≤◌, List, [], ◌∷◌, ◌++◌, length, Bool, true, false, cond, not, eqb, Option, Some, None, option_map, subst, sym, ap, refl, ◌∙◌, arith, add-zero, ◌⊎◌, inl, inr, ◌||◌}
+use Rattle.std.proofs.Common.{◌≡◌, ℕ, ◌+◌, ◌<◌, ◌≤◌, List, [], ◌∷◌, ◌++◌, length, true, false, cond, not, eqb, sym, ap, refl, ◌∙◌, arith, add-zero, ◌⊎◌, inl, inr, ◌||◌}
 use Rattle.std.specs.List.{All}
 use Rattle.std.proofs.lemmas.Bool.{false≢true}
 use Rattle.std.proofs.lemmas.List.Elements.{All-push, All-weaker, All-filter}
 use Rattle.std.proofs.lemmas.List.Kept.{AllPairs-filter}
 use Rattle.std.proofs.lemmas.List.Sums.{fold-append, sum_by-append}
-use Rattle.log_model.specs.declared.entry.Owner.{Owner}
 use Rattle.log_model.specs.declared.entry.Act.{Act}
 use Rattle.log_model.specs.declared.entry.Act.TheVariants.{Write, Snap, Remove, Reset, Enable, Off, On}
 use Rattle.log_model.specs.declared.entry.Entry.{Entry}
 use Rattle.log_model.specs.declared.folds.Tracking.{Tracking}
 use Rattle.log_model.specs.declared.folds.Tracking.TheVariants.{Never, Enabled, Active}
-use Rattle.log_model.specs.Entry.{sectors_of, is_snap, is_enable, is_on, is_off}
-use Rattle.log_model.specs.Legal.{Disks, Legal, ActMayStand, machine_on, on_after, taken, owner_of, owner_after, is_enabled, enabled_after, written}
+use Rattle.log_model.specs.Entry.{sectors_of, is_snap, is_enable, is_on}
+use Rattle.log_model.specs.Legal.{Disks, ActMayStand, machine_on, on_after, taken, owner_of, owner_after, is_enabled, enabled_after, written}
 use Rattle.log_model.specs.Marks.{tracking, tracking_after}
 use Rattle.log_model.specs.Frozen.{last_off, off_after}
 use Rattle.change_id.proofs.Ends.{by_last}

@@ -1,10 +1,10 @@
 -- Lists of live snapshots, whose numbers ascend.
-use Rattle.std.proofs.Common.{◌≡◌, ◌≢◌, ℕ, zero, suc, ◌+◌, ◌-◌, ◌<◌, ◌≤◌, ◌⊎◌, List, [], ◌∷◌, ◌++◌, length, get_or, drop, take, Bool, true, false, cond, not, eqb, ltb, Option, Some, None, option_map, subst, sym, ap, refl, ◌∙◌, arith, inl, inr, length-drop}
-use Rattle.std.specs.List.{slice_get, find, filter, remove, All, AllPairs}
+use Rattle.std.proofs.Common.{◌≡◌, ◌≢◌, ℕ, zero, suc, ◌+◌, ◌-◌, ◌<◌, ◌≤◌, ◌⊎◌, List, [], ◌∷◌, ◌++◌, length, get_or, drop, Bool, true, false, cond, not, eqb, ltb, Option, Some, None, option_map, sym, ap, refl, ◌∙◌, arith, inl, inr, length-drop}
+use Rattle.std.specs.List.{slice_get, find, remove, All}
 use Rattle.std.specs.List.Sorted.{IsPartitionPoint, IsNonDecreasingBy}
 use Rattle.std.proofs.lemmas.Bool.{cases_lt, cases_eq, eqb-true, eqb-false, eq-eqb, ne_eqb, ltb-true, ltb-false}
 use Rattle.std.proofs.lemmas.Option.{none-some, same_Some, slice_get_within, slice_get-get_or, get_or_from_slice_get}
-use Rattle.std.proofs.lemmas.List.Elements.{All-head, All-tail, All-push, All-filter}
+use Rattle.std.proofs.lemmas.List.Elements.{All-head, All-tail}
 use Rattle.std.proofs.lemmas.List.Quantifiers.{all_pairs_push}
 use Rattle.basics.proofs.ItemAt.{slice_get-drop}
 use Rattle.log_model.specs.declared.entry.Owner.{Owner}

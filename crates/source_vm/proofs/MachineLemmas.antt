@@ -1,8 +1,8 @@
 -- What a call of a machine leaves of its log and of its disks.
-use Rattle.std.proofs.Common.{◌≡◌, ◌≢◌, ℕ, ◌+◌, ◌<◌, ◌≤◌, List, [], ◌∷◌, ◌++◌, length, take, drop, Bool, true, false, cond, not, ◌&&◌, ◌||◌, leb, ltb, eqb, Option, Some, None, is_some, is_none, Bor, Result, Ok, Err, is_ok, is_err, IsOk, OnOk, OnErr, IfOk, MatchResult, subst, sym, ap, refl, ◌∙◌, arith}
+use Rattle.std.proofs.Common.{◌≡◌, ℕ, ◌+◌, List, [], ◌∷◌, ◌++◌, length, take, drop, Bool, true, false, cond, ◌&&◌, leb, Option, Some, None, Bor, Result, Ok, Err, is_ok, is_err, OnOk, OnErr, IfOk, MatchResult, subst, sym, ap, refl, ◌∙◌, arith}
 use Rattle.std.specs.List.{slice_get}
 use Rattle.std.specs.Slice.{IsItemAt}
-use Rattle.std.proofs.lemmas.Bool.{false≢true, lt-ltb, ne_eqb}
+use Rattle.std.proofs.lemmas.Bool.{false≢true, lt-ltb}
 use Rattle.std.proofs.lemmas.List.{append-nil, take_all, drop_all}
 use Rattle.std.proofs.lemmas.Option.{none-some, slice_get_read, slice_get_within}
 use Rattle.basics.specs.Refusal.{IsRefusedBy}
@@ -12,17 +12,16 @@ use Rattle.sector_model.specs.Run.{is_within as lies_within}
 use Rattle.log_model.specs.declared.entry.Act.{Act}
 use Rattle.log_model.specs.declared.entry.Entry.{Entry}
 use Rattle.log_model.specs.declared.refusals.LinkRefused.{LinkRefused}
-use Rattle.log_model.specs.declared.refusals.LinkRefused.TheVariants.{NoMemory}
 use Rattle.log_model.specs.Legal.{Legal, all_of, capacity_of}
 use Rattle.log_model.specs.Laws.{FitsBehind}
-use Rattle.log_model.specs.Link.{LinkState, AddsAct, OnlyReads, log_met}
+use Rattle.log_model.specs.Link.{AddsAct, log_met}
 use Rattle.log_model.specs.Refusals.{is_known, is_within}
 use Rattle.log_model.proofs.LegalLogs.{legal_grows, legal_front, legal_grew}
 use Rattle.log_model.proofs.Accepted.{plain_adds, log_before}
 use Rattle.source_disk.specs.SourceDisk.{SourceDiskState, capacity_of as size_of}
 use Rattle.source_vm.specs.MachineLog.{LogState}
-use Rattle.source_vm.specs.Machine.{MachineState, Adds, with_act, link_of}
-use Rattle.source_vm.specs.Disks.{IsDisk, AreDisks, IsSound, StillDisks, DisksTake}
+use Rattle.source_vm.specs.Machine.{MachineState, Adds, link_of}
+use Rattle.source_vm.specs.Disks.{AreDisks, IsSound, StillDisks, DisksTake}
 
 abbrev pub entry : ℕ → Act → Entry
 entry who act = record { who = who; act = act }

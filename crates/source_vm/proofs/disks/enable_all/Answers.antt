@@ -1,4 +1,4 @@
-use Rattle.std.proofs.Common.{◌≡◌, List, length, get_or, ap, arith}
+use Rattle.std.proofs.Common.{List, ap}
 use Rattle.log_model.specs.declared.entry.Act.TheVariants.{Enable}
 use Rattle.source_disk.specs.SourceDisk.{SourceDiskState, machine_of, number_of, capacity_of}
 use Rattle.source_vm.proofs.DiskLemmas.{Took, none_stepped, one_more, all_took}

@@ -1,6 +1,3 @@
-use Rattle.std.proofs.Common.{ℕ}
-use Rattle.log_model.specs.declared.entry.Owner.{Owner}
-use Rattle.log_model.specs.declared.entry.Act.TheVariants.{Snap}
 use Rattle.source_vm.proofs.DiskLemmas.{Stepped, TookSnap}
 use Rattle.source_vm.proofs.disks.freeze_all.Given as goal
 

@@ -1,4 +1,4 @@
-use Rattle.std.proofs.Common.{◌≡◌, ℕ, ◌<◌, length, List, get_or, true, Ok, OnOk, ap, subst, sym}
+use Rattle.std.proofs.Common.{◌≡◌, ℕ, get_or, OnOk, ap, subst, sym}
 use Rattle.log_model.specs.declared.entry.Act.TheVariants.{Remove}
 use Rattle.source_disk.specs.SourceDisk.{SourceDiskState, machine_of, number_of, capacity_of, after_merging, HasMergeRoom}
 use Rattle.source_disk.specs.StandsFor.{Takes}

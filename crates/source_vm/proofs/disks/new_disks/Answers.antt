@@ -1,4 +1,4 @@
-use Rattle.std.proofs.Common.{◌≡◌, ℕ, ◌+◌, ◌++◌, ◌∷◌, [], List, take, get_or, length, subst, sym, ap, ◌∙◌, rules, arith}
+use Rattle.std.proofs.Common.{◌≡◌, ℕ, ◌+◌, [], List, take, get_or, subst, sym}
 use Rattle.std.proofs.lemmas.List.{take_all}
 use Rattle.source_disk.specs.SourceDisk.{SourceDiskState, fresh}
 use Rattle.source_vm.specs.Disks.{AreDisks}

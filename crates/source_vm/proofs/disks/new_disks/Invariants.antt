@@ -1,4 +1,4 @@
-use Rattle.std.proofs.Common.{◌≡◌, [], take}
+use Rattle.std.proofs.Common.{[], take}
 use Rattle.source_vm.specs.Disks.{AreDisks}
 use Rattle.source_vm.proofs.disks.new_disks.Given as goal
 

@@ -1,5 +1,5 @@
-use Rattle.std.proofs.Common.{◌≡◌, List, get_or, set, true, ap, arith, refl, sym, ◌∙◌, ◌<◌, length}
-use Rattle.source_disk.specs.SourceDisk.{SourceDiskState, has_freeze_room, without_room, IsSameButRoom}
+use Rattle.std.proofs.Common.{◌≡◌, List, set, true, ap, arith, ◌<◌, length}
+use Rattle.source_disk.specs.SourceDisk.{SourceDiskState, has_freeze_room, without_room}
 use Rattle.source_vm.proofs.DiskLemmas.{GotFreezeRoom, none_stepped, one_more, still_disks, still_one, still_then, holds_of_all}
 use Rattle.source_vm.proofs.disks.reserve_freezes.Goals as goal
 

@@ -1,16 +1,8 @@
-use Rattle.std.proofs.Common.{◌≡◌, List, get_or, set, Bool, true, false, not, Result, Ok, Err, is_err, OnOk, OnErr, ap, subst, arith, refl, sym, ◌∙◌, ◌<◌, length}
-use Rattle.std.proofs.lemmas.Bool.{false≢true}
+use Rattle.std.proofs.Common.{◌≡◌, List, get_or, set, ap, arith, sym, ◌∙◌, ◌<◌, length}
 use Rattle.source_disk.specs.SourceDisk.{SourceDiskState, HasMergeRoom, with_merge_room, without_room, IsSameButRoom}
 use Rattle.source_vm.proofs.DiskLemmas.{GotMergeRoom, none_stepped, one_more, still_disks, still_one, still_then, holds_of_all}
+use Rattle.source_vm.proofs.MachineLemmas.{on_ok, on_err}
 use Rattle.source_vm.proofs.disks.reserve_merges.Goals as goal
-
-on_ok : {T E P : Type 0} (r : Result T E) → is_err r ≡ false → OnOk r P → P
-on_ok (Ok x) is h = h
-on_ok (Err e) is h = absurd (false≢true (sym is))
-
-on_err : {T E P : Type 0} (r : Result T E) → is_err r ≡ true → OnErr r P → P
-on_err (Ok x) is h = absurd (false≢true is)
-on_err (Err e) is h = h
 
 pub loop-disk-init : goal.loop-disk-init
 loop-disk-init c = none_stepped (GotMergeRoom c.args.id) c.args.disks.now

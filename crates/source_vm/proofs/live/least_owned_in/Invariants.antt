@@ -1,4 +1,3 @@
-use Rattle.std.proofs.Common.{◌≡◌}
 use Rattle.source_vm.proofs.LiveLemmas.{NoneOf}
 use Rattle.source_vm.proofs.live.least_owned_in.Given as goal
 

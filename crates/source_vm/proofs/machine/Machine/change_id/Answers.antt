@@ -1,10 +1,7 @@
-use Rattle.std.proofs.Common.{◌≡◌, ℕ, List, true, false, not, cond, Option, Some, None, Result, is_ok, IsOk, IfOk, subst, sym, ap, refl, ◌∙◌}
+use Rattle.std.proofs.Common.{◌≡◌, ℕ, List, true, not, cond, Some, None, is_ok, IfOk, subst, sym, ap, ◌∙◌}
 use Rattle.std.specs.List.{slice_get}
 use Rattle.basics.specs.Refusal.{IsRefusedBy}
-use Rattle.change_id.specs.declared.ChangeId.{ChangeId}
-use Rattle.change_tracker.specs.declared.refusals.TrackRefused.{TrackRefused}
 use Rattle.change_tracker.specs.declared.refusals.TrackRefused.TheVariants.{UnknownSnap as NotKnown}
-use Rattle.log_model.specs.declared.refusals.LinkRefused.{LinkRefused}
 use Rattle.log_model.specs.declared.refusals.LinkRefused.TheVariants.{UnknownSnap, Range}
 use Rattle.log_model.specs.Legal.{capacity_of}
 use Rattle.log_model.specs.Marks.{id_at}

@@ -1,4 +1,4 @@
-use Rattle.std.proofs.Common.{◌≡◌, ℕ, List, ◌++◌, length, take, drop, true, subst, sym, ap, ◌∙◌}
+use Rattle.std.proofs.Common.{◌≡◌, List, ◌++◌, length, take, drop, true, subst, sym, ap, ◌∙◌}
 use Rattle.log_model.specs.declared.entry.Act.TheVariants.{Enable}
 use Rattle.log_model.specs.Legal.{all_of}
 use Rattle.log_model.specs.Laws.{FitsBehind}

@@ -1,4 +1,4 @@
-use Rattle.std.proofs.Common.{◌≡◌, ℕ, List, true, refl, sym, ◌∙◌}
+use Rattle.std.proofs.Common.{◌≡◌, List, true, refl, sym, ◌∙◌}
 use Rattle.log_model.specs.declared.entry.Act.TheVariants.{On}
 use Rattle.log_model.specs.Legal.{all_of}
 use Rattle.log_model.specs.Laws.{FitsBehind}

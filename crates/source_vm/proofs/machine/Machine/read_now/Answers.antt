@@ -1,18 +1,14 @@
-use Rattle.std.proofs.Common.{◌≡◌, ℕ, ◌+◌, List, length, true, false, not, cond, Option, Some, None, is_none, Result, Ok, Err, is_ok, IsOk, slice_range, subst, sym, ap, refl, ◌∙◌}
+use Rattle.std.proofs.Common.{◌≡◌, ℕ, ◌+◌, List, length, true, false, cond, Some, None, Ok, Err, slice_range, subst, sym, ap, refl, ◌∙◌}
 use Rattle.std.specs.List.{slice_get}
 use Rattle.basics.specs.Refusal.{IsRefusedBy}
 use Rattle.sector_model.specs.declared.sector.Sector.{Sector}
-use Rattle.snapshot_chain.specs.declared.chain.ChainRefused.{ChainRefused}
-use Rattle.snapshot_chain.specs.declared.chain.ChainRefused.TheVariants.{UnknownSnap as ChainUnknown}
 use Rattle.sector_model.specs.Run.{is_within as lies_within}
 use Rattle.log_model.specs.declared.refusals.LinkRefused.{LinkRefused}
-use Rattle.log_model.specs.declared.refusals.LinkRefused.TheVariants.{UnknownSnap, Range}
+use Rattle.log_model.specs.declared.refusals.LinkRefused.TheVariants.{Range}
 use Rattle.log_model.specs.Entry.{contents}
-use Rattle.log_model.specs.Frozen.{frozen}
 use Rattle.log_model.specs.Legal.{capacity_of}
-use Rattle.log_model.specs.Refusals.{is_within, is_live, read_refusal}
-use Rattle.source_disk.specs.SourceDisk.{SourceDiskState, number_of, capacity_of as size_of, contents_of}
-use Rattle.source_disk.proofs.Holding.{holds_the_log}
+use Rattle.log_model.specs.Refusals.{is_within}
+use Rattle.source_disk.specs.SourceDisk.{SourceDiskState, number_of, capacity_of as size_of}
 use Rattle.source_vm.specs.Disks.{IsDisk}
 use Rattle.source_vm.specs.MachineLog.{LogState}
 use Rattle.source_vm.specs.Machine.{MachineState}

@@ -1,4 +1,4 @@
-use Rattle.std.proofs.Common.{◌≡◌, ℕ, ◌+◌, List, length, Bool, true, false, not, cond, Option, Some, None, is_none, Result, Ok, Err, is_ok, IsOk, slice_range, subst, sym, ap, refl, ◌∙◌}
+use Rattle.std.proofs.Common.{◌≡◌, ℕ, ◌+◌, List, length, Bool, true, false, not, cond, Option, Some, None, is_none, Result, Ok, Err, slice_range, subst, sym, ap, refl, ◌∙◌}
 use Rattle.std.specs.List.{slice_get}
 use Rattle.basics.specs.Refusal.{IsRefusedBy}
 use Rattle.sector_model.specs.declared.sector.Sector.{Sector}
@@ -7,7 +7,6 @@ use Rattle.snapshot_chain.specs.declared.chain.ChainRefused.TheVariants.{Unknown
 use Rattle.sector_model.specs.Run.{is_within as lies_within}
 use Rattle.log_model.specs.declared.refusals.LinkRefused.{LinkRefused}
 use Rattle.log_model.specs.declared.refusals.LinkRefused.TheVariants.{UnknownSnap, Range}
-use Rattle.log_model.specs.Entry.{contents}
 use Rattle.log_model.specs.Frozen.{frozen}
 use Rattle.log_model.specs.Legal.{capacity_of}
 use Rattle.log_model.specs.Refusals.{is_within, is_live, read_refusal}
@@ -16,7 +15,6 @@ use Rattle.source_disk.proofs.Holding.{holds_the_log}
 use Rattle.source_vm.specs.Disks.{IsDisk}
 use Rattle.source_vm.specs.MachineLog.{LogState}
 use Rattle.source_vm.specs.Machine.{MachineState}
-use Rattle.source_vm.specs.Refusals.{read_now_refusal}
 use Rattle.source_vm.proofs.MachineLemmas.{disk_at, known_at, lies_as, read_within, read_outside, when_ok}
 use Rattle.source_vm.proofs.machine.Machine.read_snap.Goals as goal
 

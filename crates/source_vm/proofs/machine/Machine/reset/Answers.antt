@@ -1,4 +1,4 @@
-use Rattle.std.proofs.Common.{◌≡◌, ◌≢◌, ℕ, ◌+◌, ◌<◌, List, length, get_or, set, true, false, cond, eqb, is_some, Some, None, ◌||◌, subst, sym, ap, refl, ◌∙◌, arith}
+use Rattle.std.proofs.Common.{◌≡◌, ◌≢◌, ℕ, ◌<◌, List, length, set, true, false, cond, is_some, Some, None, subst, sym, ap, ◌∙◌, arith}
 use Rattle.std.specs.List.{slice_get}
 use Rattle.std.proofs.lemmas.Bool.{ne_eqb}
 use Rattle.std.proofs.lemmas.Option.{slice_get-get_or}
@@ -6,8 +6,8 @@ use Rattle.log_model.specs.declared.entry.Act.TheVariants.{Reset}
 use Rattle.log_model.specs.Legal.{all_of}
 use Rattle.log_model.specs.Laws.{FitsBehind}
 use Rattle.log_model.proofs.Accepted.{reset_stands}
-use Rattle.change_tracker.specs.History.{TrackStep, Reset as Restarted}
-use Rattle.source_disk.specs.SourceDisk.{SourceDiskState, machine_of, number_of, capacity_of, epoch_of}
+use Rattle.change_tracker.specs.History.{Reset as Restarted}
+use Rattle.source_disk.specs.SourceDisk.{SourceDiskState, machine_of, number_of, capacity_of}
 use Rattle.source_disk.specs.StandsFor.{Takes, concerns}
 use Rattle.source_disk.proofs.Taking.{others_pass}
 use Rattle.source_disk.proofs.Holding.{holds_the_log}

@@ -1,4 +1,4 @@
-use Rattle.std.proofs.Common.{◌≡◌, List, length, subst, ap, ◌∙◌, sym, rules}
+use Rattle.std.proofs.Common.{◌≡◌, List, length, subst, ap, ◌∙◌, rules}
 use Rattle.log_model.specs.declared.entry.Entry.{Entry}
 use Rattle.log_model.specs.declared.link.Facts.{Facts}
 use Rattle.log_model.specs.Legal.{is_enabled}

@@ -1,4 +1,4 @@
-use Rattle.std.proofs.Common.{◌≡◌, ℕ, cond, is_ok, ◌++◌, ◌∷◌, [], List, length, subst, sym, ap, ◌∙◌, rules, arith}
+use Rattle.std.proofs.Common.{◌≡◌, cond, is_ok, ◌++◌, ◌∷◌, [], List, length, subst, sym, ap, ◌∙◌, rules}
 use Rattle.log_model.specs.declared.entry.Act.{Act}
 use Rattle.log_model.specs.declared.entry.Entry.{Entry}
 use Rattle.log_model.specs.Legal.{Legal, all_of}
@@ -6,7 +6,7 @@ use Rattle.log_model.specs.Laws.{FitsBehind}
 use Rattle.log_model.proofs.LegalLogs.{legal_grows}
 use Rattle.source_vm.specs.declared.kept_facts.KeptFacts.{KeptFacts}
 use Rattle.source_vm.specs.declared.live.LiveSnap.{LiveSnap}
-use Rattle.source_vm.specs.MachineLog.{LogState, IsKept}
+use Rattle.source_vm.specs.MachineLog.{LogState}
 use Rattle.source_vm.specs.KeptFacts.{facts_after, FactsStand}
 use Rattle.source_vm.specs.Live.{live_after}
 use Rattle.source_vm.proofs.FactLemmas.{stand_after}
