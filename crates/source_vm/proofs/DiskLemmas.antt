@@ -1,15 +1,16 @@
 -- What a machine does to its disks, one after another.
-use Rattle.std.proofs.Common.{◌≡◌, ◌≢◌, ℕ, zero, suc, ◌+◌, ◌<◌, ◌≤◌, ◌⊎◌, inl, inr, List, [], ◌∷◌, ◌++◌, length, get_or, set, Bool, true, false, Option, Some, None, Result, Ok, Err, is_some, subst, sym, ap, refl, ◌∙◌, arith, length-set}
+use Rattle.std.proofs.Common.{◌≡◌, ◌≢◌, ℕ, zero, suc, ◌+◌, ◌<◌, ◌≤◌, ◌⊎◌, inl, inr, List, [], ◌∷◌, ◌++◌, length, get_or, set, Bool, true, false, Option, Some, None, Result, Ok, Err, is_some, subst, sym, ap, refl, ◌∙◌, arith, take, length-set, length-append, length-take, get_or-take}
 use Rattle.std.specs.List.{slice_get, All}
 use Rattle.std.proofs.lemmas.Bool.{cases_lt, cases_eq, false≢true}
 use Rattle.std.proofs.lemmas.Option.{none-some, same_Some, slice_get_within, slice_get-get_or, get_or_from_slice_get}
+use Rattle.basics.proofs.ItemAt.{slice_get-front, slice_get-last}
 use Rattle.log_model.specs.declared.entry.Owner.{Owner}
 use Rattle.log_model.specs.declared.entry.Act.{Act}
 use Rattle.log_model.specs.declared.entry.Act.TheVariants.{Snap}
 use Rattle.log_model.specs.declared.entry.Entry.{Entry}
 use Rattle.log_model.specs.Legal.{Legal, Disks, capacity_of, taken}
 use Rattle.log_model.specs.Refusals.{is_live}
-use Rattle.source_disk.specs.SourceDisk.{SourceDiskState, machine_of, number_of, capacity_of as size_of, has_freeze_room, has_snapshot, IsFree, HasMergeRoom, IsSameButRoom}
+use Rattle.source_disk.specs.SourceDisk.{SourceDiskState, machine_of, number_of, capacity_of as size_of, has_freeze_room, has_snapshot, fresh, IsFree, HasMergeRoom, IsSameButRoom}
 use Rattle.source_disk.specs.StandsFor.{StandsFor, Takes, concerns}
 use Rattle.source_disk.specs.Laws.{RoomIsNoPart, NextIsFree, OthersPass, StandingHolds}
 use Rattle.source_vm.specs.Disks.{IsDisk, AreDisks, StillDisks, DisksTake, CanFreeze, HasSnap}
@@ -52,6 +53,7 @@ one_more R n old new item now stepped less changed = record {
   where
     inside : n < length new
     inside = omega (arith, less, stepped.as_many)
+
     by : (k : ℕ) (o d : SourceDiskState) → (k ≡ n) ⊎ (k ≢ n) → k < n + 1 → slice_get old k ≡ Some o → slice_get (set new n now) k ≡ Some d → R o d
     by k o d (inl same) before at_old at_new =
         let here : slice_get new n ≡ Some o = stepped.rest n (omega arith) ∙ ap (slice_get old) (sym same) ∙ at_old in
@@ -183,6 +185,7 @@ one_took pass act n disks item now less took others machine capacities log who a
   where
     more : List Entry
     more = log ++ record { who = who; act = act } ∷ []
+
     by : (k : ℕ) (d : SourceDiskState) → slice_get (set disks n now) k ≡ Some d → (k ≡ n) ⊎ (k ≢ n) → IsDisk machine k (capacity_of capacities k) more d
     by k d at (inl here) =
         let is : now ≡ d = same_Some now d (sym (get-set_same disks n now less) ∙ ap (slice_get (set disks n now)) (sym here) ∙ at) in
@@ -217,3 +220,36 @@ all_can_freeze free machine disks' capacities log disks legal are room k d less 
   free = free disks' (get_or disks k d) log legal (are.each k (get_or disks k d) (slice_get-get_or disks k d less)).stands;
   room = room k d less;
 }
+
+-- ---- disks that are made
+
+pub one_made : (machine n : ℕ) (capacities : List ℕ) (disks : List SourceDiskState) (d : SourceDiskState) → AreDisks machine (take n capacities) [] disks → n < length capacities
+    → d ≡ fresh machine n (get_or capacities n 0) → StandsFor d [] → AreDisks machine (take (n + 1) capacities) [] (disks ++ d ∷ [])
+one_made machine n capacities disks d are less made stands = record {
+  count = omega (arith, length-append disks (d ∷ []), are.count, length-take n capacities, length-take (n + 1) capacities);
+  each = λ k x at. by k x at (cases_lt k n);
+}
+  where
+    many : length disks ≡ n
+    many = omega (arith, are.count, length-take n capacities)
+
+    by : (k : ℕ) (x : SourceDiskState) → slice_get (disks ++ d ∷ []) k ≡ Some x → (k < n) ⊎ (n ≤ k) → IsDisk machine k (capacity_of (take (n + 1) capacities) k) [] x
+    by k x at (inl before) =
+        let old = are.each k x (sym (slice_get-front disks (d ∷ []) k (omega (arith, many))) ∙ at) in
+        record {
+          of_machine = old.of_machine;
+          numbered = old.numbered;
+          sized = old.sized ∙ get_or-take n capacities k 0 before ∙ sym (get_or-take (n + 1) capacities k 0 (omega arith));
+          stands = old.stands;
+        }
+    by k x at (inr behind) =
+        let inside = slice_get_within (disks ++ d ∷ []) k x at in
+        let here : k ≡ n = omega (arith, inside, length-append disks (d ∷ []), many) in
+        let is : d ≡ x = same_Some d x (sym (slice_get-last disks d) ∙ ap (slice_get (disks ++ d ∷ [])) (many ∙ sym here) ∙ at) in
+        subst (λ (y : SourceDiskState). IsDisk machine k (capacity_of (take (n + 1) capacities) k) [] y) is
+        (record {
+          of_machine = ap (λ (y : SourceDiskState). machine_of y) made;
+          numbered = ap (λ (y : SourceDiskState). number_of y) made ∙ sym here;
+          sized = ap (λ (y : SourceDiskState). size_of y) made ∙ ap (λ j. get_or capacities j 0) (sym here) ∙ sym (get_or-take (n + 1) capacities k 0 (omega arith));
+          stands = stands;
+        })

@@ -27,7 +27,12 @@ impl KeptFacts {
     /// Those of an empty log.
     pub fn new() -> KeptFacts
         ensures { result ≡ record {
-            on = true; tracking = Tracking.Never; taken = 0; written = 0; last_off = None } }
+          on = true;
+          tracking = Tracking.Never;
+          taken = 0;
+          written = 0;
+          last_off = None;
+        } }
     {
         KeptFacts {
             on: true,

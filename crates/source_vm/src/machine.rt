@@ -2,11 +2,12 @@
 //! call walks it.
 ghost use Rattle.std.specs.Prelude.{◌≡◌, true, ◌+◌, ◌<◌, ◌≤◌, length, slice_get, slice_range, IfOk, OnOk, OnErr};
 ghost use Rattle.std.specs.Option.{option_copied};
+ghost use Rattle.std.specs.List.{list_all};
 ghost use Rattle.basics.specs.Refusal.{IsRefusedBy};
 ghost use Rattle.log_model.specs.Entry.{contents};
 ghost use Rattle.log_model.specs.Legal.{Legal, all_of, capacity_of};
 ghost use Rattle.log_model.specs.Link.{facts_of, IsLeastOwned};
-ghost use Rattle.source_vm.specs.Machine.{may_have_disks};
+ghost use Rattle.source_vm.specs.Machine.{may_have_disks, is_capacity};
 
 mod acts;
 mod guest_write;
@@ -27,11 +28,16 @@ use std::marker::Model;
 pub fn may_have_disks(capacities: &[u64]) -> bool
     ensures { result ≡ may_have_disks capacities.now }
 {
-    !capacities.is_empty()
-        && capacities.len() <= MAX_DISKS
-        && capacities
-            .iter()
-            .all(|capacity| 1 <= *capacity && *capacity <= MAX_DISK_SECTORS)
+    1 <= capacities.len() && capacities.len() <= MAX_DISKS && are_capacities(capacities)
+}
+
+/// Whether a disk may have each of these capacities.
+fn are_capacities(capacities: &[u64]) -> bool
+    ensures { result ≡ list_all is_capacity capacities.now }
+{
+    capacities
+        .iter()
+        .all(|capacity| 1 <= *capacity && *capacity <= MAX_DISK_SECTORS)
 }
 
 /// A machine with its disks and its log. Contracts see its number, the capacities of its disks and

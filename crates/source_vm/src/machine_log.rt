@@ -124,7 +124,9 @@ impl MachineLog {
         requires room { self.old.room ≡ true }
         requires fits { FitsBehind (all_of self.old.capacities) self.old.entries who act }
         ensures { self.new ≡ record self.old {
-            entries = self.old.entries ++ record { who = who; act = act } ∷ []; room = false } }
+          entries = self.old.entries ++ record { who = who; act = act } ∷ [];
+          room = false;
+        } }
     {
         self.facts = self.facts.after(&act, self.entries.len() as u64);
         follow(&mut self.live, &act);

@@ -9,6 +9,7 @@ ghost use Rattle.source_vm.specs.Machine.{Adds};
 use super::Machine;
 use log_model::{Act, WriteRefused};
 use sector_model::{Sector, SectorList};
+use source_disk::room_is_no_part;
 
 impl Machine {
     /// Writes sectors of a disk from sector `first` on, under the number `who`.
@@ -40,6 +41,7 @@ impl Machine {
         if self.log.reserve().is_err() {
             return Err(WriteRefused::NoMemory);
         }
+        room_is_no_part();
         let written = &mut self.disks[disk as usize];
         if written.write(first, sectors).is_err() {
             return Err(WriteRefused::NoMemory);
