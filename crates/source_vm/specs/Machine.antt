@@ -1,11 +1,10 @@
 -- A machine is its number, the capacities of its disks and its log. All else that it is, or that a
 -- call of it answers, is what the log says.
-use Rattle.std.specs.Prelude.{◌≡◌, ℕ, List, [], ◌∷◌, ◌++◌, length, take, Bool, ◌&&◌, nat_le, Result, Ok, Err}
-use Rattle.std.specs.List.{count_by, list_all}
+use Rattle.std.specs.Prelude.{◌≡◌, ℕ, List, [], ◌∷◌, ◌++◌, length, Bool, ◌&&◌, nat_le, Result, Ok, Err}
+use Rattle.std.specs.List.{list_all}
 use Rattle.basics.specs.declared.limits.TheConstants.{MAX_DISKS, MAX_DISK_SECTORS}
 use Rattle.log_model.specs.declared.entry.Act.{Act}
 use Rattle.log_model.specs.declared.entry.Entry.{Entry}
-use Rattle.log_model.specs.Entry.{is_write}
 use Rattle.log_model.specs.Link.{LinkState}
 use Rattle.log_model.specs.PlainMachine.{plain_state}
 
@@ -37,10 +36,6 @@ abbrev pub Adds : {T E : Type 0} → Result T E → (who : ℕ) → Act → (old
     → Type 0
 Adds (Ok answer) who act old new = new ≡ with_act who act old
 Adds (Err refusal) who act old new = new ≡ old
-
--- how many writes stand before a place of the log
-abbrev pub writes_before : (place : ℕ) → List Entry → ℕ
-writes_before place log = count_by (λ e. is_write e.act) (take place log)
 
 -- the machine as the caller with this number reaches it, where nobody else does
 abbrev pub link_of : (who : ℕ) → MachineState → LinkState

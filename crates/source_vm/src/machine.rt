@@ -67,7 +67,8 @@ impl Model for Machine {
 }
 
 impl Machine {
-    ghost use Rattle.source_vm.specs.Machine.{fresh, writes_before};
+    ghost use Rattle.log_model.specs.Entry.{writes_before};
+    ghost use Rattle.source_vm.specs.Machine.{fresh};
     ghost use Rattle.source_vm.specs.Refusals.{read_now_refusal};
 
     /// A machine with disks of these capacities, in sectors: 1 to

@@ -320,7 +320,7 @@ fn compare(
     x: u64,
 ) -> Result<(), Fail> {
     let disk = part(x, 28, 3) as u32;
-    let snap = part(x, 32, 2 + plain.facts().snaps as u64) as u32;
+    let snap = part(x, 32, 1 + plain.facts().snaps as u64) as u32;
     assert_eq!(rt; link.change_id(snap, disk), plain.change_id(snap, disk));
     let mut read = [Sector::filled(9); 4];
     let mut wanted = [Sector::filled(9); 4];
