@@ -1,6 +1,6 @@
-//! The log of a machine, with what it says kept beside it, so that no call walks the log. It is legal
-//! for the capacities of the machine's disks, which stand here for that reason. Why a call of the
-//! machine is refused is decided here, before anything changes.
+//! The log of a machine, with what it says kept beside it, so that no call walks the log. It is
+//! legal for the capacities of the machine's disks, which stand here for that reason. Why a call of
+//! the machine is refused is decided here, before anything changes.
 ghost use Rattle.std.specs.Prelude.{◌≡◌, ◌∷◌, ◌++◌, [], true, false, IfOk, OnOk, OnErr};
 ghost use Rattle.log_model.specs.declared.entry.Act.{Act};
 ghost use Rattle.log_model.specs.declared.entry.Entry.{Entry};
