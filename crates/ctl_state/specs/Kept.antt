@@ -1,0 +1,34 @@
+-- What the state keeps beside plans and migrations, so that names and machines are looked up and not
+-- looked for: each is what plans and migrations say.
+use Rattle.std.specs.Prelude.{◌≡◌, ℕ, ◌≤◌, nat_lt, List, length, Option, Some, slice_get}
+use Rattle.std.specs.BTreeMap.{BTreeMap, get}
+use Rattle.std.specs.BTreeSet.{BTreeSet, contains}
+use Rattle.std.specs.Cmp.Lexicographic.{slice_cmp}
+use Rattle.std.specs.Ordering.{nat_cmp}
+use Rattle.ctl_state.specs.declared.migration.Migration.{Migration}
+use Rattle.ctl_state.specs.declared.plans.PlanCourse.{PlanCourse}
+use Rattle.plan_model.specs.declared.plan.Plan.{Plan}
+use Rattle.ctl_state.specs.Value.{CtlValue, plan_named, work_on}
+
+-- no plan has more live migrations than it started
+abbrev pub AreCourses : List PlanCourse → Type 0
+AreCourses courses = (i : ℕ) (course : PlanCourse)
+    → slice_get courses i ≡ Some course → course.live ≤ course.started
+
+-- a set of the machines at work, each of which has one piece of work
+pub record IsWork (plans : List Plan) (courses : List PlanCourse) (migrations : List Migration)
+    (work : BTreeSet ℕ) : Type 0 where
+  pub works : (vm : ℕ) → contains nat_cmp work vm ≡ nat_lt 0 (work_on plans courses migrations vm)
+  pub once : (vm : ℕ) → work_on plans courses migrations vm ≤ 1
+
+-- a map of the numbers of plans by their names
+abbrev pub AreNames : List Plan → BTreeMap (List ℕ) ℕ → Type 0
+AreNames plans names =
+    (name : List ℕ) → get (slice_cmp nat_cmp) names name ≡ plan_named plans name
+
+pub record IsKept (plans : List Plan) (courses : List PlanCourse) (migrations : List Migration)
+    (names : BTreeMap (List ℕ) ℕ) (work : BTreeSet ℕ) : Type 0 where
+  pub paired : length courses ≡ length plans
+  pub courses_hold : AreCourses courses
+  pub names_hold : AreNames plans names
+  pub work_holds : IsWork plans courses migrations work

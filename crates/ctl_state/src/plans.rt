@@ -1,0 +1,116 @@
+//! How far a plan is, and what the records change in that.
+ghost use Rattle.std.specs.Prelude.{◌≡◌, ◌+◌, ◌<◌, ◌^◌, [], ◌∷◌, ◌++◌, ℕ, List, Some, None, IfOk, OnOk, OnErr};
+ghost use Rattle.std.specs.BTreeMap.{get};
+ghost use Rattle.ctl_state.specs.declared.plans.PlanCourse.{PlanCourse};
+ghost use Rattle.ctl_state.specs.Value.{numbered, change_numbered, new_course, plan_named};
+ghost use Rattle.ctl_state.specs.MayStand.{is_next_of};
+ghost use Rattle.ctl_state.specs.Fold.{plan_of, with_started, with_ended, with_cutover};
+ghost use Rattle.ctl_state.specs.Kept.{AreNames};
+
+use basics::NoMemory;
+use plan_model::{Cutover, Name, NumberList, Plan};
+use std::collections::BTreeMap;
+
+/// How far a plan is.
+#[derive(Clone, Copy, Debug, PartialEq, Eq)]
+pub struct PlanCourse {
+    /// Its cutover, once one is set.
+    pub cutover: Option<Cutover>,
+    /// How many of its machines, from the first one on, have their migration.
+    pub started: usize,
+    /// How many of these migrations haven't ended.
+    pub live: usize,
+}
+
+impl PlanCourse {
+    const NEW: PlanCourse = PlanCourse {
+        cutover: None,
+        started: 0,
+        live: 0,
+    };
+}
+
+/// The plan of these, in memory of its own.
+pub(crate) fn plan_of(
+    plan: u32,
+    name: &Name,
+    interval: u32,
+    vms: &NumberList,
+) -> Result<Plan, NoMemory>
+    ensures { IfOk result (λ made. made ≡ plan_of plan name.now interval vms.now) }
+{
+    Ok(Plan {
+        number: plan,
+        name: name.clone()?,
+        interval,
+        vms: vms.clone()?,
+    })
+}
+
+/// Adds a plan whose name is new, or nothing for want of memory.
+pub(crate) fn add_plan(
+    plans: &mut Vec<Plan>,
+    courses: &mut Vec<PlanCourse>,
+    names: &mut BTreeMap<Name, u32>,
+    plan: Plan,
+) -> Result<(), NoMemory>
+    requires new { plan_named plans.old.items plan.name ≡ None }
+    requires named { AreNames plans.old.items names.old }
+    ensures plan { OnOk result (plans.new.items ≡ plans.old.items ++ plan ∷ []) }
+    ensures course { OnOk result (courses.new.items ≡ courses.old.items ++ new_course ∷ []) }
+    ensures names { AreNames plans.new.items names.new }
+    ensures plans_kept { OnErr result (plans.new.items ≡ plans.old.items) }
+    ensures courses_kept { OnErr result (courses.new.items ≡ courses.old.items) }
+{
+    let name = plan.name.clone()?;
+    plans.reserve(1)?;
+    courses.reserve(1)?;
+    names.insert(name, plan.number)?;
+    plans.push(plan)?;
+    courses.push(PlanCourse::NEW)?;
+    Ok(())
+}
+
+/// Whether the machine is the next of the plan that gets a migration.
+pub(crate) fn is_next_of(vm: u32, plan: &Plan, course: &PlanCourse) -> bool
+    ensures { result ≡ is_next_of vm plan.now course.now }
+{
+    match plan.vms.as_slice().get(course.started) {
+        None => false,
+        Some(next) => *next == vm,
+    }
+}
+
+/// One more machine of the plan has its migration.
+pub(crate) fn start_one(courses: &mut [PlanCourse], plan: u32)
+    requires started { (course : PlanCourse) → numbered courses.old plan ≡ Some course
+        → course.started + 1 < 2 ^ 64 }
+    requires live { (course : PlanCourse) → numbered courses.old plan ≡ Some course
+        → course.live + 1 < 2 ^ 64 }
+    ensures { courses.new ≡ change_numbered courses.old plan with_started }
+{
+    if plan != 0 && plan as usize - 1 < courses.len() {
+        let course = &mut courses[plan as usize - 1];
+        course.started += 1;
+        course.live += 1;
+    }
+}
+
+/// One migration of the plan ended.
+pub(crate) fn end_in(courses: &mut [PlanCourse], plan: u32)
+    ensures { courses.new ≡ change_numbered courses.old plan with_ended }
+{
+    if plan != 0 && plan as usize - 1 < courses.len() {
+        let course = &mut courses[plan as usize - 1];
+        course.live = course.live.saturating_sub(1);
+    }
+}
+
+/// The cutover of the plan is set.
+pub(crate) fn cut_over(courses: &mut [PlanCourse], plan: u32, cutover: Cutover)
+    ensures { courses.new ≡ change_numbered courses.old plan (with_cutover cutover) }
+{
+    if plan != 0 && plan as usize - 1 < courses.len() {
+        courses[plan as usize - 1].cutover = Some(cutover);
+    }
+}
