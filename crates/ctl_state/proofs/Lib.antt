@@ -1,2 +1,4 @@
 pub mod CopyFacts
 pub mod ListFacts
+pub mod KeptFacts
+pub mod StepFacts
