@@ -4,6 +4,8 @@ use Rattle.std.specs.Prelude.{slice_get}
 use Rattle.std.specs.List.{sum_by, count_by, find, zip, list_any, AllByRecursion}
 use Rattle.std.specs.Option.{option_map_or, option_or}
 use Rattle.std.specs.BTreeMap.{BTreeMap, get, is_at}
+use Rattle.std.specs.Map.{lookup}
+use Rattle.std.specs.Cmp.Lexicographic.{slice_cmp}
 use Rattle.std.specs.Ordering.{nat_cmp, is_eq}
 use Rattle.std.proofs.lemmas.Grind.{common_steps}
 use Rattle.std.proofs.lemmas.Bool.{eqb-true, eq-eqb, ltb-true, lt-ltb}
@@ -329,7 +331,7 @@ kept_start plans courses migrations names work work' plan vm mig p course m hp h
         (k.work_holds.works v)
       ∙ ap (λ j. work_kept j (live_on (migrations ++ m ∷ []) v)) (sym counts.0)
 
-neither : (a b : Bool) → (a || b) ≡ false → (a ≡ false) × (b ≡ false)
+pub neither : (a b : Bool) → (a || b) ≡ false → (a ≡ false) × (b ≡ false)
 neither true b h = absurd (cc)
 neither false b h = (refl, h)
 
@@ -492,3 +494,25 @@ kept_work plans courses migrations names work work' same k = record {
   work_holds = same_work plans plans courses courses migrations migrations work work' (λ vm. refl)
     (λ vm. refl) same k.work_holds;
 }
+
+-- where nothing was read nothing is kept
+no_work : (vm : ℕ) → work_on [] [] [] vm ≡ 0
+unfolding work_on
+no_work vm = refl
+
+pub kept_empty : (plans : List Plan) (courses : List PlanCourse) (migrations : List Migration)
+    (names : BTreeMap (List ℕ) ℕ) (work : Work) → plans ≡ [] → courses ≡ [] → migrations ≡ []
+    → names.entries ≡ [] → work.entries ≡ [] → IsKept plans courses migrations names work
+kept_empty plans courses migrations names work p c m n w =
+    let A : List Plan → Type 0 = λ ps. IsKept ps courses migrations names work in
+    let B : List PlanCourse → Type 0 = λ cs. IsKept [] cs migrations names work in
+    let C : List Migration → Type 0 = λ ms. IsKept [] [] ms names work in
+    subst A (sym p) (subst B (sym c) (subst C (sym m) (record {
+      paired = refl; courses_hold = tt;
+      names_hold = λ q. ap (λ (es : List (List ℕ × ℕ)). lookup (is_at (slice_cmp nat_cmp q)) es) n;
+      work_holds = record {
+        works = λ vm. ap (λ (es : List (ℕ × Option ℕ)). lookup (is_at (nat_cmp vm)) es) w
+          ∙ ap (λ k. work_kept k None) (sym (no_work vm));
+        once = λ vm. let z = no_work vm in omega (arith, z);
+      };
+    })))

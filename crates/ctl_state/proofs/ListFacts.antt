@@ -1,12 +1,15 @@
 -- Lists: elements, tests and sums of them, and what an edit of one element leaves.
-use Rattle.std.proofs.Common.{◌≡◌, ◌≢◌, ℕ, zero, suc, ◌+◌, ◌-◌, ◌==◌, ◌<◌, ◌≤◌, Bool, true, false, cond, ◌||◌, nat_lt, List, [], ◌∷◌, ◌++◌, length, take, drop, set, get_or, Option, Some, None, option_map, refl, ap, subst, sym, ◌∙◌, arith}
+use Rattle.std.proofs.Common.{◌≡◌, ◌≢◌, ℕ, zero, suc, ◌+◌, ◌-◌, ◌==◌, ◌<◌, ◌≤◌, Bool, true, false, cond, ◌||◌, nat_lt, List, [], ◌∷◌, ◌++◌, length, take, drop, set, get_or, Option, Some, None, option_map, is_some, is_none, not, refl, ap, subst, sym, ◌∙◌, arith}
 use Rattle.std.specs.Prelude.{slice_get}
 use Rattle.std.specs.List.{sum_by, count_by, find, zip, list_any, AllByRecursion}
 use Rattle.std.specs.Option.{option_map_or}
 use Rattle.std.proofs.lemmas.List.Sums.{sum_by-cons}
 use Rattle.std.proofs.lemmas.Bool.{lt-ltb}
+use Rattle.std.specs.Str.{bytes_eq}
+use Rattle.plan_model.specs.declared.plan.Plan.{Plan}
+use Rattle.plan_model.specs.Plans.{is_taken}
 use Rattle.ctl_state.specs.Migration.{change_at}
-use Rattle.ctl_state.specs.Value.{numbered}
+use Rattle.ctl_state.specs.Value.{numbered, plan_named}
 
 -- what a vector holds after all of its elements were written
 pub all_written : {X : Type 0} (n : ℕ) (now old target : List X)
@@ -199,3 +202,23 @@ pub any-same : {X : Type 0} (p q : X → Bool) (xs : List X) → ((x : X) → p 
 any-same p q [] h = refl
 any-same p q (x ∷ xs) h =
     ap (λ b. b || list_any p xs) (h x) ∙ ap (λ b. q x || b) (any-same p q xs h)
+
+-- an element is found exactly where one passes the test
+any-found : {X : Type 0} (p : X → Bool) (xs : List X) → list_any p xs ≡ is_some (find p xs)
+any-found p [] = refl
+any-found {X} p (x ∷ xs) = elim (p x) as
+    (λ b. (b || list_any p xs) ≡ is_some (cond b (Some x) (find p xs)))
+    [ true ↦ refl | false ↦ any-found p xs ]
+
+map_none : {X Y : Type 0} (f : X → Y) (o : Option X)
+    → is_none (option_map f o) ≡ not (is_some o)
+map_none f None = refl
+map_none f (Some x) = refl
+
+-- a name that no plan has isn't taken
+pub is_untaken : (plans : List Plan) (name : List ℕ)
+    → is_none (plan_named plans name) ≡ not (is_taken name plans)
+is_untaken plans name =
+    let test : Plan → Bool = λ plan. bytes_eq plan.name name in
+    map_none (λ (plan : Plan). plan.number) (find test plans)
+    ∙ ap not (sym (any-found test plans))

@@ -1,6 +1,9 @@
 //! One record more: it is strange where it may not stand, and else takes effect. What can be refused
 //! is looked at before memory is taken, and memory is taken before anything changes.
-ghost use Rattle.std.specs.Prelude.{◌≡◌, false, OnOk, OnErr};
+ghost use Rattle.std.specs.Prelude.{◌≡◌, false, not, OnOk, OnErr};
+ghost use Rattle.std.specs.Bool.{OnTrue};
+ghost use Rattle.plan_model.specs.Plans.{is_taken};
+ghost use Rattle.ctl_state.specs.Kept.{HasRoom};
 ghost use Rattle.basics.specs.Refusal.{IsRefusedOr};
 ghost use Rattle.record_codec.specs.declared.record.Record.{Record};
 ghost use Rattle.ctl_state.specs.Refusal.{strange_unless};
@@ -8,7 +11,7 @@ ghost use Rattle.ctl_state.specs.MayStand.{record_may_stand, is_new_plan, are_fr
 ghost use Rattle.ctl_state.specs.Fold.{after_record, after_step_in};
 
 use crate::migration::{end_one, step_one};
-use crate::plans::{add_plan, cut_over, cutover_of, end_in, is_next_of, plan_of, start_one};
+use crate::plans::{add_plan, cut_over, cutover_of, end_in, is_next_of, start_one};
 use crate::work::{begin_work, put_to_work, take_from_work};
 use crate::{CtlState, Migration, StateRefused};
 use basics::MAX_DISKS;
@@ -70,14 +73,19 @@ impl CtlState {
             return Err(StateRefused::Strange);
         }
         put_to_work(&mut self.work, vms.as_slice())?;
-        let added = match plan_of(plan, name, interval, vms) {
-            Ok(made) => add_plan(&mut self.plans, &mut self.courses, &mut self.names, made),
-            Err(refused) => Err(refused),
-        };
+        let added = add_plan(
+            &mut self.plans,
+            &mut self.courses,
+            &mut self.names,
+            plan,
+            name,
+            interval,
+            vms,
+        );
         if added.is_err() {
             take_from_work(&mut self.work, vms.as_slice());
+            return Err(StateRefused::NoMemory);
         }
-        added?;
         Ok(())
     }
 
@@ -152,17 +160,25 @@ impl CtlState {
     fn is_new_plan(&self, plan: u32, name: &Name) -> bool
         ensures { result ≡ is_new_plan self.now plan name.now }
     {
-        plan != 0 && plan as usize - 1 == self.plans.len() && !self.names.contains_key(name)
+        plan != 0 && plan as usize - 1 == self.plans.len() && self.is_new_name(name)
+    }
+
+    #[tactic(auto, using(crate::proofs::ListFacts::is_untaken))]
+    fn is_new_name(&self, name: &Name) -> bool
+        ensures { result ≡ not (is_taken name.now self.now.plans) }
+    {
+        self.plan_named(name).is_none()
     }
 
     fn are_free(&self, vms: &[u32]) -> bool
         ensures { result ≡ are_free self.now vms.now }
     {
-        !vms.is_empty() && !vms.iter().any(|vm| self.work.contains_key(vm))
+        !vms.is_empty() && !vms.iter().any(|vm| self.is_at_work(*vm))
     }
 
     fn may_start(&self, mig: u32, plan: u32, vm: u32, disks: u32) -> bool
-        ensures { result ≡ may_start self.now mig plan vm disks }
+        ensures value { result ≡ may_start self.now mig plan vm disks }
+        ensures room { OnTrue result (HasRoom self.now.courses plan) }
     {
         mig != 0
             && mig as usize - 1 == self.migrations.len()
@@ -172,7 +188,8 @@ impl CtlState {
     }
 
     fn is_next(&self, plan: u32, vm: u32) -> bool
-        ensures { result ≡ is_next self.now plan vm }
+        ensures value { result ≡ is_next self.now plan vm }
+        ensures room { OnTrue result (HasRoom self.now.courses plan) }
     {
         match (self.plan(plan), self.course(plan)) {
             (Some(plan), Some(course)) => is_next_of(vm, plan, course),

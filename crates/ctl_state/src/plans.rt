@@ -1,11 +1,11 @@
 //! How far a plan is, and what the records change in that.
-ghost use Rattle.std.specs.Prelude.{◌≡◌, ◌+◌, ◌<◌, ◌^◌, [], ◌∷◌, ◌++◌, ℕ, List, Some, None, IfOk, OnOk, OnErr};
-ghost use Rattle.std.specs.BTreeMap.{get};
-ghost use Rattle.ctl_state.specs.declared.plans.PlanCourse.{PlanCourse};
-ghost use Rattle.ctl_state.specs.Value.{numbered, change_numbered, new_course, plan_named};
+ghost use Rattle.std.specs.Prelude.{◌≡◌, ◌+◌, ◌<◌, ◌^◌, [], ◌∷◌, ◌++◌, false, OnOk, OnErr};
+ghost use Rattle.std.specs.Bool.{OnTrue};
+ghost use Rattle.plan_model.specs.Plans.{is_taken};
+ghost use Rattle.ctl_state.specs.Value.{change_numbered, new_course};
 ghost use Rattle.ctl_state.specs.MayStand.{is_next_of};
 ghost use Rattle.ctl_state.specs.Fold.{plan_of, with_started, with_ended, with_cutover, cutover_of};
-ghost use Rattle.ctl_state.specs.Kept.{AreNames};
+ghost use Rattle.ctl_state.specs.Kept.{AreCourses, AreNames, HasRoom};
 
 use basics::NoMemory;
 use plan_model::{Cutover, Moment, Name, NumberList, Plan};
@@ -30,50 +30,44 @@ impl PlanCourse {
     };
 }
 
-/// The plan of these, in memory of its own.
-pub(crate) fn plan_of(
-    plan: u32,
-    name: &Name,
-    interval: u32,
-    vms: &NumberList,
-) -> Result<Plan, NoMemory>
-    ensures { IfOk result (λ made. made ≡ plan_of plan name.now interval vms.now) }
-{
-    Ok(Plan {
-        number: plan,
-        name: name.clone()?,
-        interval,
-        vms: vms.clone()?,
-    })
-}
-
 /// Adds a plan whose name is new, or nothing for want of memory.
 pub(crate) fn add_plan(
     plans: &mut Vec<Plan>,
     courses: &mut Vec<PlanCourse>,
     names: &mut BTreeMap<Name, u32>,
-    plan: Plan,
+    plan: u32,
+    name: &Name,
+    interval: u32,
+    vms: &NumberList,
 ) -> Result<(), NoMemory>
-    requires new { plan_named plans.old.items plan.name ≡ None }
+    requires new { is_taken name.now plans.old.items ≡ false }
     requires named { AreNames plans.old.items names.old }
-    ensures plan { OnOk result (plans.new.items ≡ plans.old.items ++ plan ∷ []) }
+    ensures plan { OnOk result (plans.new.items
+        ≡ plans.old.items ++ plan_of plan name.now interval vms.now ∷ []) }
     ensures course { OnOk result (courses.new.items ≡ courses.old.items ++ new_course ∷ []) }
     ensures names { AreNames plans.new.items names.new }
     ensures plans_kept { OnErr result (plans.new.items ≡ plans.old.items) }
     ensures courses_kept { OnErr result (courses.new.items ≡ courses.old.items) }
 {
-    let name = plan.name.clone()?;
+    let key = name.clone()?;
+    let made = Plan {
+        number: plan,
+        name: name.clone()?,
+        interval,
+        vms: vms.clone()?,
+    };
     plans.reserve(1)?;
     courses.reserve(1)?;
-    names.insert(name, plan.number)?;
-    plans.push(plan)?;
+    names.insert(key, plan)?;
+    plans.push(made)?;
     courses.push(PlanCourse::NEW)?;
     Ok(())
 }
 
 /// Whether the machine is the next of the plan that gets a migration.
 pub(crate) fn is_next_of(vm: u32, plan: &Plan, course: &PlanCourse) -> bool
-    ensures { result ≡ is_next_of vm plan.now course.now }
+    ensures value { result ≡ is_next_of vm plan.now course.now }
+    ensures room { OnTrue result (course.now.started + 1 < 2 ^ 64) }
 {
     match plan.vms.as_slice().get(course.started) {
         None => false,
@@ -83,10 +77,8 @@ pub(crate) fn is_next_of(vm: u32, plan: &Plan, course: &PlanCourse) -> bool
 
 /// One more machine of the plan has its migration.
 pub(crate) fn start_one(courses: &mut Vec<PlanCourse>, plan: u32)
-    requires started { (course : PlanCourse) → numbered courses.old.items plan ≡ Some course
-        → course.started + 1 < 2 ^ 64 }
-    requires live { (course : PlanCourse) → numbered courses.old.items plan ≡ Some course
-        → course.live + 1 < 2 ^ 64 }
+    requires started { HasRoom courses.old.items plan }
+    requires live { AreCourses courses.old.items }
     ensures { courses.new.items ≡ change_numbered courses.old.items plan with_started }
 {
     if plan != 0 && plan as usize - 1 < courses.len() {
