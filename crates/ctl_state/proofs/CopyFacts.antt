@@ -74,9 +74,9 @@ named_holds copies ids h = (rw length-named h.0, named_small copies ids h.1)
 pub sum_fits : (copies : List DiskCopy) → Holds copies → sectors_written copies < 2 ^ 64
 sum_fits copies h =
     let each = sum_by-le (λ (copy : DiskCopy). copy.written) MAX_STAGE_SECTORS copies
-      (All-from_recursion (λ (copy : DiskCopy). copy.written ≤ MAX_STAGE_SECTORS) copies h.1) in
+    (All-from_recursion (λ (copy : DiskCopy). copy.written ≤ MAX_STAGE_SECTORS) copies h.1) in
     let few : length copies * MAX_STAGE_SECTORS ≤ MAX_DISKS * MAX_STAGE_SECTORS =
-      mul-le-mul_right MAX_STAGE_SECTORS h.0 in
+    mul-le-mul_right MAX_STAGE_SECTORS h.0 in
     let most : MAX_DISKS * MAX_STAGE_SECTORS < 2 ^ 64 = lit< tt in
     omega (arith, each, few, most)
 
@@ -95,7 +95,7 @@ named_all copies now ids i h past = first_end now ids i past ∙ h
     first_end (x ∷ now) [] zero past = refl
     first_end (x ∷ now) [] (suc i) past =
         ap (λ rest. x ∷ rest) (first_end now [] i (omega arith)
-          ∙ ap (λ empty. take i now ++ named_copies (drop i now) empty) (drop-nil i))
+        ∙ ap (λ empty. take i now ++ named_copies (drop i now) empty) (drop-nil i))
     first_end (x ∷ now) (y ∷ ids) zero past = absurd (omega (arith, past))
     first_end (x ∷ now) (y ∷ ids) (suc i) past =
         ap (λ rest. x ∷ rest) (first_end now ids i (omega (arith, past)))

@@ -24,12 +24,13 @@ join_from before v [] rest = ap (λ n. after_from n v rest) (sym (add-zero befor
 join_from before v (r ∷ front) rest =
     let one_more : before + 1 + length front ≡ before + suc (length front) = omega arith in
     elim (record_may_stand v r) as
-      (λ b. cond b (after_from (before + 1) (after_record v r) (front ++ rest)) (Err (before + 1))
-        ≡ then_after (before + suc (length front))
-          (cond b (after_from (before + 1) (after_record v r) front) (Err (before + 1))) rest)
-    [ true ↦ join_from (before + 1) (after_record v r) front rest
-        ∙ ap (λ n. then_after n (after_from (before + 1) (after_record v r) front) rest) one_more
-    | false ↦ refl ]
+    (λ b. cond b (after_from (before + 1) (after_record v r) (front ++ rest)) (Err (before + 1))
+    ≡ then_after (before + suc (length front))
+    (cond b (after_from (before + 1) (after_record v r) front) (Err (before + 1))) rest) [
+      | true ↦ join_from (before + 1) (after_record v r) front rest
+          ∙ ap (λ n. then_after n (after_from (before + 1) (after_record v r) front) rest) one_more
+      | false ↦ refl
+    ]
 
 pub lists_join : (front rest : List Record)
     → after (front ++ rest) ≡ then_after (length front) (after front) rest
@@ -56,12 +57,12 @@ other_numbered {X} xs number other f h =
           ∙ (elim (eqb_tells other 0) [
             | inl z ↦ ap (λ b. cond b None (slice_get (change_at xs (number - 1) f) (other - 1))) z.0
                 ∙ sym (ap (λ b. cond b None (slice_get xs (other - 1))) z.0)
-            | inr no ↦
+            | inr nr ↦
                 let a = nz.1 in
-                let b = no.1 in
+                let b = nr.1 in
                 let apart : number - 1 ≢ other - 1 = omega (arith, h, a, b) in
                 ap (λ (o : Option X). cond (other == 0) None o)
-                  (other_at xs (number - 1) (other - 1) f apart)
+                (other_at xs (number - 1) (other - 1) f apart)
           ])
     ]
 
@@ -76,13 +77,13 @@ behind (y ∷ xs) x (suc j) h = behind xs x j (λ e. h (ap (λ n. suc n) e))
 pub other_added : {X : Type 0} (xs : List X) (x : X) (number : ℕ) → number ≢ length xs + 1
     → numbered (xs ++ x ∷ []) number ≡ numbered xs number
 other_added {X} xs x number h = elim (eqb_tells number 0) [
-    | inl z ↦ ap (λ b. cond b None (slice_get (xs ++ x ∷ []) (number - 1))) z.0
-        ∙ sym (ap (λ b. cond b None (slice_get xs (number - 1))) z.0)
-    | inr nz ↦
-        let a = nz.1 in
-        let apart : number - 1 ≢ length xs = omega (arith, h, a) in
-        ap (λ (o : Option X). cond (number == 0) None o) (behind xs x (number - 1) apart)
-    ]
+  | inl z ↦ ap (λ b. cond b None (slice_get (xs ++ x ∷ []) (number - 1))) z.0
+      ∙ sym (ap (λ b. cond b None (slice_get xs (number - 1))) z.0)
+  | inr nz ↦
+      let a = nz.1 in
+      let apart : number - 1 ≢ length xs = omega (arith, h, a) in
+      ap (λ (o : Option X). cond (number == 0) None o) (behind xs x (number - 1) apart)
+]
 
 step_other : (v : CtlValue) (mig q : ℕ) (r : Record) → Some mig ≢ Some q
     → migration_in (after_step_in v mig r) q ≡ migration_in v q
@@ -94,9 +95,9 @@ pub others_stay : (v : CtlValue) (r : Record) (q : ℕ) → record_may_stand v r
 others_stay v (PlanMade plan name interval vms) q h ne = refl
 others_stay v (MigrationStarted mig plan vm disks) q h ne =
     let last = eqb-true mig (length v.migrations + 1)
-      (and_parts (mig == length v.migrations + 1) _ h).0 in
+    (and_parts (mig == length v.migrations + 1) _ h).0 in
     other_added v.migrations (new_migration mig plan vm disks) q
-      (λ e. ne (ap Some (last ∙ sym e)))
+    (λ e. ne (ap Some (last ∙ sym e)))
 others_stay v (Chosen mig way at) q h ne = step_other v mig q (Chosen mig way at) ne
 others_stay v (SnapTaken mig snap mark) q h ne = step_other v mig q (SnapTaken mig snap mark) ne
 others_stay v (IdsStored mig ids) q h ne = step_other v mig q (IdsStored mig ids) ne
@@ -116,3 +117,19 @@ others_stay v (FinalSnapTaken mig snap mark place) q h ne =
     step_other v mig q (FinalSnapTaken mig snap mark place) ne
 others_stay v (CancelAsked mig) q h ne = step_other v mig q (CancelAsked mig) ne
 others_stay v (Ended mig how place) q h ne = step_other v mig q (Ended mig how place) ne
+
+one_more : (records : List Record) (v : CtlValue) (r : Record) → after records ≡ Ok v
+    → after (records ++ r ∷ []) ≡ cond (record_may_stand v r) (Ok (after_record v r))
+      (Err (length records + 1))
+one_more records v r h = lists_join records (r ∷ [])
+    ∙ ap (λ (a : Result CtlValue ℕ). then_after (length records) a (r ∷ [])) h
+
+pub goes_on : (v : CtlValue) (records : List Record) (r : Record) → after records ≡ Ok v
+    → record_may_stand v r ≡ true → after (records ++ r ∷ []) ≡ Ok (after_record v r)
+goes_on v records r h stands = one_more records v r h
+    ∙ ap (λ b. cond b (Ok (after_record v r)) (Err (length records + 1))) stands
+
+pub stops : (v : CtlValue) (records : List Record) (r : Record) → after records ≡ Ok v
+    → record_may_stand v r ≡ false → after (records ++ r ∷ []) ≡ Err (length records + 1)
+stops v records r h stands = one_more records v r h
+    ∙ ap (λ b. cond b (Ok (after_record v r)) (Err (length records + 1))) stands

@@ -36,7 +36,7 @@ pub change_at-suc : {X : Type 0} (x : X) (xs : List X) (i : ℕ) (f : X → X)
     → change_at (x ∷ xs) (suc i) f ≡ x ∷ change_at xs i f
 change_at-suc {X} x xs i f = elim (slice_get xs i) as
     (λ o. option_map_or (λ y. set (x ∷ xs) (suc i) (f y)) o (x ∷ xs)
-      ≡ x ∷ option_map_or (λ y. set xs i (f y)) o xs)
+    ≡ x ∷ option_map_or (λ y. set xs i (f y)) o xs)
     [ None ↦ refl | Some y ↦ refl ]
 
 pub length-change_at : {X : Type 0} (xs : List X) (i : ℕ) (f : X → X)
@@ -99,7 +99,7 @@ sum-zip_change {X} {Y} g (z ∷ xs) (w ∷ ys) zero f x y h k =
     omega (arith, a, b, c, d)
 sum-zip_change {X} {Y} g (z ∷ xs) (w ∷ ys) (suc i) f x y h k =
     let a = ap (λ (rest : List Y). sum_by g (zip (z ∷ xs) rest)) (change_at-suc w ys i f)
-      ∙ sum_by-cons g (z, w) (zip xs (change_at ys i f)) in
+    ∙ sum_by-cons g (z, w) (zip xs (change_at ys i f)) in
     let b = sum_by-cons g (z, w) (zip xs ys) in
     let c = sum-zip_change g xs ys i f x y h k in
     omega (arith, a, b, c)
@@ -135,13 +135,13 @@ find-change_same p show [] i f same shown = refl
 find-change_same {X} {Y} p show (x ∷ xs) zero f same shown =
     ap (λ b. option_map show (cond b (Some (f x)) (find p xs))) (same x)
     ∙ (elim (p x) as (λ b. option_map show (cond b (Some (f x)) (find p xs))
-        ≡ option_map show (cond b (Some x) (find p xs)))
-      [ true ↦ ap (λ y. Some y) (shown x) | false ↦ refl ])
+    ≡ option_map show (cond b (Some x) (find p xs)))
+    [ true ↦ ap (λ y. Some y) (shown x) | false ↦ refl ])
 find-change_same {X} {Y} p show (x ∷ xs) (suc i) f same shown =
     ap (λ (ys : List X). option_map show (find p ys)) (change_at-suc x xs i f)
     ∙ (elim (p x) as (λ b. option_map show (cond b (Some x) (find p (change_at xs i f)))
-        ≡ option_map show (cond b (Some x) (find p xs)))
-      [ true ↦ refl | false ↦ find-change_same p show xs i f same shown ])
+    ≡ option_map show (cond b (Some x) (find p xs)))
+    [ true ↦ refl | false ↦ find-change_same p show xs i f same shown ])
 
 -- a search that passes over an element passes over it however it is changed
 pub find-change_passed : {X : Type 0} (p : X → Bool) (xs : List X) (i : ℕ) (f : X → X) (x : X)
@@ -204,7 +204,7 @@ any-same p q (x ∷ xs) h =
     ap (λ b. b || list_any p xs) (h x) ∙ ap (λ b. q x || b) (any-same p q xs h)
 
 -- an element is found exactly where one passes the test
-any-found : {X : Type 0} (p : X → Bool) (xs : List X) → list_any p xs ≡ is_some (find p xs)
+pub any-found : {X : Type 0} (p : X → Bool) (xs : List X) → list_any p xs ≡ is_some (find p xs)
 any-found p [] = refl
 any-found {X} p (x ∷ xs) = elim (p x) as
     (λ b. (b || list_any p xs) ≡ is_some (cond b (Some x) (find p xs)))

@@ -30,17 +30,17 @@ named_by true plans p q e free =
     let same : p.name ≡ q = (bytes_eq-Decides p.name q).0 e in
     let test : Plan → Bool = λ plan. bytes_eq plan.name q in
     let absent : find test plans ≡ None = none_found (find test plans)
-      (sym (any-found test plans) ∙ ap (λ (name : List ℕ). is_taken name plans) (sym same) ∙ free) in
+    (sym (any-found test plans) ∙ ap (λ (name : List ℕ). is_taken name plans) (sym same) ∙ free) in
     ap (λ (o : Option Plan). option_map (λ (plan : Plan). plan.number) o)
-      (find-append test plans (p ∷ [])
-      ∙ ap (λ (o : Option Plan). option_or o (find test (p ∷ []))) absent
-      ∙ ap (λ b. cond b (Some p) None) e)
+    (find-append test plans (p ∷ [])
+    ∙ ap (λ (o : Option Plan). option_or o (find test (p ∷ []))) absent
+    ∙ ap (λ b. cond b (Some p) None) e)
 named_by false plans p q e free =
     let test : Plan → Bool = λ plan. bytes_eq plan.name q in
     ap (λ (o : Option Plan). option_map (λ (plan : Plan). plan.number) o)
-      (find-append test plans (p ∷ [])
-      ∙ ap (λ b. option_or (find test plans) (cond b (Some p) None)) e
-      ∙ or_none (find test plans))
+    (find-append test plans (p ∷ [])
+    ∙ ap (λ b. option_or (find test plans) (cond b (Some p) None)) e
+    ∙ or_none (find test plans))
 
 -- a name that no plan had is that of the plan which is added
 pub name_added : (plans : List Plan) (p : Plan) (key q : List ℕ) (old new : Option ℕ)

@@ -29,12 +29,14 @@ volume_done_keeps : (m : Migration) → Keeps m (with_volume_done m)
 volume_done_keeps m =
     let finished = record m { dv = finished_volume m.dv } in
     one_of (same_phase m.phase Phases.CopyFinal) m (moved finished Facts.Done) finished
-      (record { how = refl; machine = refl; number = refl })
-      (record { how = refl; machine = refl; number = refl })
+    (record { how = refl; machine = refl; number = refl })
+    (record { how = refl; machine = refl; number = refl })
 
 along : (a b c : Migration) → Keeps a b → Keeps b c → Keeps a c
 along a b c x y = record {
-  how = y.how ∙ x.how; machine = y.machine ∙ x.machine; number = y.number ∙ x.number;
+  how = y.how ∙ x.how;
+  machine = y.machine ∙ x.machine;
+  number = y.number ∙ x.number;
 }
 
 checkpoint_done_keeps : (m : Migration) → Keeps m (with_checkpoint_done m)
@@ -44,15 +46,15 @@ checkpoint_done_keeps m =
       written = m.written ++ sectors_written m.copies ∷ [];
     } in
     along m counted (with_volume_done counted) (record { how = refl; machine = refl; number = refl })
-      (volume_done_keeps counted)
+    (volume_done_keeps counted)
 
 stage_done_keeps : (m : Migration) (disk written : ℕ) → Keeps m (with_stage_done disk written m)
 stage_done_keeps m disk written =
     let copied = record m { copies = change_at m.copies disk (done_copy m.mark written) } in
     one_of (all_done copied.copies) m (with_checkpoint_done copied) copied
-      (along m copied (with_checkpoint_done copied)
-        (record { how = refl; machine = refl; number = refl }) (checkpoint_done_keeps copied))
-      (record { how = refl; machine = refl; number = refl })
+    (along m copied (with_checkpoint_done copied)
+    (record { how = refl; machine = refl; number = refl }) (checkpoint_done_keeps copied))
+    (record { how = refl; machine = refl; number = refl })
 
 pub step_keeps : (m : Migration) (r : Record) → ends r ≡ false → Keeps m (after_step m r)
 step_keeps m (PlanMade plan name interval vms) h = kept m
@@ -83,8 +85,8 @@ and_left false b h = h
 end_by_tests : (m : Migration) (b0 b1 b2 b3 live x y cancel : Bool)
     → (live && cond b0 x (y && cond b1 cancel ((b2 || b3) && not cancel))) ≡ true
     → is_live (option_map_or (λ end. with_end end m)
-      (cond b0 (Some Hows.Completed) (cond b1 (Some Hows.Cancelled)
-      (cond b2 (Some Hows.FailedVolume) (cond b3 (Some Hows.FailedSpent) None)))) m) ≡ false
+    (cond b0 (Some Hows.Completed) (cond b1 (Some Hows.Cancelled)
+    (cond b2 (Some Hows.FailedVolume) (cond b3 (Some Hows.FailedSpent) None)))) m) ≡ false
 end_by_tests m true b1 b2 b3 live x y cancel h = refl
 end_by_tests m false true b2 b3 live x y cancel h = refl
 end_by_tests m false false true b3 live x y cancel h = refl

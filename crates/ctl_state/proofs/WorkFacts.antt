@@ -1,5 +1,5 @@
 -- The map of the machines at work, as machines are put in and taken out one by one.
-use Rattle.std.proofs.Common.{◌≡◌, ◌≢◌, ℕ, zero, suc, ◌+◌, ◌-◌, ◌==◌, ◌<◌, ◌≤◌, Bool, true, false, cond, ◌||◌, not, List, [], ◌∷◌, length, drop, get_or, Option, Some, None, is_some, refl, ap, subst, sym, ◌∙◌, arith, add-one, inl, inr}
+use Rattle.std.proofs.Common.{◌≡◌, ◌≢◌, ℕ, zero, suc, ◌+◌, ◌-◌, ◌==◌, ◌<◌, ◌≤◌, Bool, true, false, cond, ◌||◌, not, List, [], ◌∷◌, length, length-drop, take, drop, get_or, Option, Some, None, is_some, refl, ap, subst, sym, ◌∙◌, arith, add-one, inl, inr}
 use Rattle.std.proofs.Math.Seq.{drop-cons}
 use Rattle.std.specs.List.{list_any}
 use Rattle.std.specs.BTreeMap.{get, is_at}
@@ -31,7 +31,7 @@ pub leave_next : (vms : List ℕ) (i v : ℕ) (old new : Option (Option ℕ)) �
 leave_next vms i v old new h e =
     let x = get_or vms i 0 in
     leave_by (x == v) (is_listed (drop (i + 1) vms) v) old new
-      (e ∙ ap (λ b. cond b None old) (is_eq-nat_cmp x v))
+    (e ∙ ap (λ b. cond b None old) (is_eq-nat_cmp x v))
     ∙ ap (λ b. cond b None old) (sym (from_place vms i v h))
 
 join_by : (b r : Bool) (base old new : Option (Option ℕ)) → new ≡ cond b (Some None) old
@@ -47,7 +47,7 @@ pub join_next : (vms : List ℕ) (i v : ℕ) (base old new : Option (Option ℕ)
 join_next vms i v base old new h e k =
     let x = get_or vms i 0 in
     join_by (x == v) (is_listed (drop (i + 1) vms) v) base old new
-      (e ∙ ap (λ b. cond b (Some None) old) (is_eq-nat_cmp x v)) k
+    (e ∙ ap (λ b. cond b (Some None) old) (is_eq-nat_cmp x v)) k
     ∙ ap (λ b. cond b (Some None) base) (sym (from_place vms i v h))
 
 -- one that wasn't in isn't among those that are
@@ -60,7 +60,7 @@ new_differs vms i base old h absent k differ =
     ap has_double (drop-cons vms i 0 h)
     ∙ ap (λ n. is_listed (drop n vms) x || has_double (drop n vms)) (sym (add-one i))
     ∙ ap (λ b. b || has_double (drop (i + 1) vms))
-      (unlisted (is_listed (drop (i + 1) vms) x) (sym k ∙ absent))
+    (unlisted (is_listed (drop (i + 1) vms) x) (sym k ∙ absent))
     ∙ differ
   where
     unlisted : (b : Bool) → cond b (Some None) base ≡ None → b ≡ false
@@ -115,7 +115,18 @@ pub none_at : (work : Work) (vms : List ℕ) (i : ℕ) → HasNone work vms → 
 none_at work vms i free h = none_from work vms i (get_or vms i 0) free
     (from_place vms i (get_or vms i 0) h
     ∙ ap (λ b. b || is_listed (drop (i + 1) vms) (get_or vms i 0))
-      (eq-eqb (get_or vms i 0) (get_or vms i 0) refl))
+    (eq-eqb (get_or vms i 0) (get_or vms i 0) refl))
+
+take_all : (n : ℕ) (xs : List ℕ) → length xs ≤ n → take n xs ≡ xs
+take_all zero [] h = refl
+take_all zero (x ∷ xs) h = absurd (omega (arith, h))
+take_all (suc n) [] h = refl
+take_all (suc n) (x ∷ xs) h = ap (λ rest. x ∷ rest) (take_all n xs (omega (arith, h)))
+
+-- a slice from a place to the end is the list from there on
+pub from_on : (xs : List ℕ) (i : ℕ) → take (length xs - i) (drop i xs) ≡ drop i xs
+from_on xs i = take_all (length xs - i) (drop i xs)
+    (let a = length-drop i xs in omega (arith, a))
 
 -- those that were put in so far are taken out again
 pub undone : (work now : Work) (vms : List ℕ) (i v : ℕ) (left : Option (Option ℕ))
@@ -127,7 +138,7 @@ undone work now vms i v left free e other = by_test (is_listed (drop i vms) v) r
   where
     by_test : (b : Bool) → is_listed (drop i vms) v ≡ b → left ≡ get nat_cmp work v
     by_test true h = e ∙ ap (λ b. cond b None (get nat_cmp now v)) h
-      ∙ sym (none_from work vms i v free h)
+        ∙ sym (none_from work vms i v free h)
     by_test false h = e ∙ ap (λ b. cond b None (get nat_cmp now v)) h ∙ other h
 
 -- beside those put in, the map is as it was, also where one of them was put in again
@@ -138,6 +149,7 @@ pub beside : (vms : List ℕ) (i x v : ℕ) (base old new : Option (Option ℕ))
 beside vms i x v base old new e k inside out =
     let differ : (x == v) ≡ false = elim (eqb_tells x v) [
       | inl h ↦ absurd (let s = sym inside ∙ ap (is_listed (drop i vms)) h.1 ∙ out in cc)
-      | inr h ↦ h.0 ] in
+      | inr h ↦ h.0
+    ] in
     e ∙ ap (λ b. cond b (Some None) old) (is_eq-nat_cmp x v ∙ differ)
     ∙ k ∙ ap (λ b. cond b (Some None) base) out

@@ -1,6 +1,6 @@
 -- What a record changes where it may stand, and what a list of records comes to: the value behind
 -- them all, or the number of the first that may not stand.
-use Rattle.std.specs.Prelude.{ℕ, ◌+◌, ◌-◌, ◌==◌, Bool, List, [], ◌∷◌, ◌++◌, Option, Some, None, Result, Ok, Err, if◌then◌else◌}
+use Rattle.std.specs.Prelude.{◌≡◌, ℕ, ◌+◌, ◌-◌, ◌==◌, Bool, List, [], ◌∷◌, ◌++◌, Option, Some, None, Result, Ok, Err, if◌then◌else◌}
 use Rattle.std.specs.Option.{option_map_or}
 use Rattle.plan_model.specs.declared.plan.Plan.{Plan}
 use Rattle.plan_model.specs.declared.way.Cutover.{Cutover}
@@ -67,3 +67,7 @@ after_from before v (r ∷ records) = if record_may_stand v r
 -- what all records come to, or the number, from 1 on, of the first that may not stand
 abbrev pub after : List Record → Result CtlValue ℕ
 after records = after_from 0 no_records records
+
+-- the value is what these records come to
+abbrev pub IsStateOf : CtlValue → List Record → Type 0
+IsStateOf v records = after records ≡ Ok v

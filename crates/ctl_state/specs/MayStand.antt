@@ -155,7 +155,7 @@ is_new_plan v plan name = plan == length v.plans + 1 && not (is_taken name v.pla
 
 -- there is a machine or more, and none is in some plan's unfinished work
 abbrev pub are_free : CtlValue → (vms : List ℕ) → Bool
-are_free v vms = nat_lt 0 (length vms) && not (list_any (is_at_work v) vms)
+are_free v vms = not (length vms == 0) && not (list_any (is_at_work v) vms)
 
 -- the machines of a new plan are free, and differ
 abbrev pub may_plan : CtlValue → (plan : ℕ) (name vms : List ℕ) → Bool

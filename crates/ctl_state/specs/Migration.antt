@@ -92,7 +92,9 @@ begun_copy copy = record copy { begun = true }
 -- the stage is done on the snapshot of this mark
 abbrev pub done_copy : (mark written : ℕ) → DiskCopy → DiskCopy
 done_copy mark written copy = record copy {
-  done = true; written = written; base = Some (record { mark = mark; id = copy.id });
+  done = true;
+  written = written;
+  base = Some (record { mark = mark; id = copy.id });
 }
 
 -- a new snapshot, at which no identifier is stored yet

@@ -18,10 +18,23 @@ use Rattle.ctl_state.specs.Migration.{same_phase, moved, new_copy, fresh_copy, b
 -- a migration that was just made
 abbrev pub new_migration : (mig plan vm disks : ℕ) → Migration
 new_migration mig plan vm disks = record {
-  number = mig; plan = plan; vm = vm; disks = disks;
-  phase = Phases.Started; cancel = false; snap = None; marks = []; written = [];
-  dv = no_checkpoints; last = None; how = None; place = None;
-  mark = 0; volumes = false; power = None; copies = replicate disks new_copy;
+  number = mig;
+  plan = plan;
+  vm = vm;
+  disks = disks;
+  phase = Phases.Started;
+  cancel = false;
+  snap = None;
+  marks = [];
+  written = [];
+  dv = no_checkpoints;
+  last = None;
+  how = None;
+  place = None;
+  mark = 0;
+  volumes = false;
+  power = None;
+  copies = replicate disks new_copy;
 }
 
 -- the fact by which a choice leads on

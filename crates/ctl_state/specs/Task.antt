@@ -24,9 +24,15 @@ end_of m = if m.cancel then Hows.Cancelled else Hows.Completed
 
 abbrev pub task_of : CtlValue → (now : Moment) → Migration → PhaseTask
 task_of v now m = record {
-  mig = m.number; phase = m.phase;
-  snap = current_snapshot m; previous = reached m;
+  mig = m.number;
+  phase = m.phase;
+  snap = current_snapshot m;
+  previous = reached m;
   last = same_phase m.phase Phases.AddFinalCheckpoint;
-  disks = m.disks; way = way_of v now m; now = now;
-  restore = unwrap_or m.power false; how = end_of m; place = stored_place m;
+  disks = m.disks;
+  way = way_of v now m;
+  now = now;
+  restore = unwrap_or m.power false;
+  how = end_of m;
+  place = stored_place m;
 }

@@ -2,6 +2,8 @@
 //! is looked at before memory is taken, and memory is taken before anything changes.
 ghost use Rattle.std.specs.Prelude.{◌≡◌, false, not, OnOk, OnErr};
 ghost use Rattle.std.specs.Bool.{OnTrue};
+ghost use Rattle.std.specs.List.{list_any};
+ghost use Rattle.ctl_state.specs.Value.{is_at_work};
 ghost use Rattle.plan_model.specs.Plans.{is_taken};
 ghost use Rattle.ctl_state.specs.Kept.{HasRoom};
 ghost use Rattle.basics.specs.Refusal.{IsRefusedOr};
@@ -28,12 +30,18 @@ impl CtlState {
         ensures kept { OnErr result (self.new ≡ self.old) }
     {
         match r {
-            Record::PlanMade { plan, name, interval, vms } => {
-                self.make_plan(*plan, name, *interval, vms)
-            }
-            Record::MigrationStarted { mig, plan, vm, disks } => {
-                self.start_migration(*mig, *plan, *vm, *disks)
-            }
+            Record::PlanMade {
+                plan,
+                name,
+                interval,
+                vms,
+            } => { self.make_plan(*plan, name, *interval, vms) }
+            Record::MigrationStarted {
+                mig,
+                plan,
+                vm,
+                disks,
+            } => { self.start_migration(*mig, *plan, *vm, *disks) }
             Record::CutoverSet { plan, has, at } => self.set_cutover(*plan, *has, *at),
             Record::Ended { mig, how, place } => self.end_migration(*mig, *how, *place),
             Record::Chosen { mig, .. }
@@ -157,7 +165,7 @@ impl CtlState {
         Ok(())
     }
 
-    fn is_new_plan(&self, plan: u32, name: &Name) -> bool
+    pub(crate) fn is_new_plan(&self, plan: u32, name: &Name) -> bool
         ensures { result ≡ is_new_plan self.now plan name.now }
     {
         plan != 0 && plan as usize - 1 == self.plans.len() && self.is_new_name(name)
@@ -170,13 +178,19 @@ impl CtlState {
         self.plan_named(name).is_none()
     }
 
-    fn are_free(&self, vms: &[u32]) -> bool
+    pub(crate) fn are_free(&self, vms: &[u32]) -> bool
         ensures { result ≡ are_free self.now vms.now }
     {
-        !vms.is_empty() && !vms.iter().any(|vm| self.is_at_work(*vm))
+        !vms.is_empty() && !self.any_at_work(vms)
     }
 
-    fn may_start(&self, mig: u32, plan: u32, vm: u32, disks: u32) -> bool
+    fn any_at_work(&self, vms: &[u32]) -> bool
+        ensures { result ≡ list_any (is_at_work self.now) vms.now }
+    {
+        vms.iter().any(|vm| self.is_at_work(*vm))
+    }
+
+    pub(crate) fn may_start(&self, mig: u32, plan: u32, vm: u32, disks: u32) -> bool
         ensures value { result ≡ may_start self.now mig plan vm disks }
         ensures room { OnTrue result (HasRoom self.now.courses plan) }
     {
@@ -197,7 +211,7 @@ impl CtlState {
         }
     }
 
-    fn may_cut_over(&self, plan: u32, has: bool, at: u64) -> bool
+    pub(crate) fn may_cut_over(&self, plan: u32, has: bool, at: u64) -> bool
         ensures { result ≡ may_cut_over self.now plan has at }
     {
         match self.course(plan) {

@@ -28,7 +28,10 @@ impl Model for CtlState {
     ghost use Rattle.ctl_state.specs.Kept.{IsKept};
 
     ghost view = { λ s. record {
-        plans = s.plans.items; courses = s.courses.items; migrations = s.migrations.items } };
+      plans = s.plans.items;
+      courses = s.courses.items;
+      migrations = s.migrations.items;
+    } };
 
     ghost invariant = { λ s. IsKept s.plans.items s.courses.items s.migrations.items
         s.names s.work };

@@ -166,16 +166,18 @@ impl Migration {
         ensures { result ≡ may_step self.now r.now }
     {
         match r {
-            Record::PlanMade { .. }
-            | Record::MigrationStarted { .. }
-            | Record::CutoverSet { .. } => false,
+            Record::PlanMade { .. } | Record::MigrationStarted { .. } | Record::CutoverSet { .. } =>
+                false,
             Record::Chosen { way, .. } => self.may_choose(*way),
             Record::SnapTaken { snap, .. } => self.may_take(*snap),
             Record::IdsStored { ids, .. } => self.may_store(ids.as_slice()),
             Record::VolumesMade { .. } => self.goes_on_in(Phase::CreateVolumes),
-            Record::CheckpointAdded { previous, current, last, .. } => {
-                self.may_add(*previous, *current, *last)
-            }
+            Record::CheckpointAdded {
+                previous,
+                current,
+                last,
+                ..
+            } => { self.may_add(*previous, *current, *last) }
             Record::StageBegun { disk, .. } => self.may_begin(*disk),
             Record::StageDone { disk, written, .. } => self.may_finish(*disk, *written),
             Record::Paused { .. } => self.may_pause(),
@@ -183,9 +185,12 @@ impl Migration {
             Record::PowerStored { .. } => self.goes_on_in(Phase::StorePowerState),
             Record::PoweredOff { .. } => self.goes_on_in(Phase::PowerOffSource),
             Record::OffSeen { off, .. } => self.may_see(*off),
-            Record::FinalSnapTaken { snap, mark, place, .. } => {
-                self.may_take_final(*snap, *mark, *place)
-            }
+            Record::FinalSnapTaken {
+                snap,
+                mark,
+                place,
+                ..
+            } => { self.may_take_final(*snap, *mark, *place) }
             Record::CancelAsked { .. } => self.may_cancel(),
             Record::Ended { how, place, .. } => self.may_end(*how, *place),
         }
@@ -281,12 +286,14 @@ impl Migration {
         ensures err { OnErr result (self.new ≡ self.old) }
     {
         match r {
-            Record::PlanMade { .. }
-            | Record::MigrationStarted { .. }
-            | Record::CutoverSet { .. } => {}
-            Record::CheckpointAdded { previous, current, last, .. } => {
-                self.add_checkpoint(*previous, *current, *last)?
-            }
+            Record::PlanMade { .. } | Record::MigrationStarted { .. } | Record::CutoverSet { .. } =>
+                {}
+            Record::CheckpointAdded {
+                previous,
+                current,
+                last,
+                ..
+            } => { self.add_checkpoint(*previous, *current, *last)? }
             Record::StageBegun { disk, .. } => self.copies.begin(*disk),
             Record::StageDone { disk, written, .. } => self.finish_stage(*disk, *written)?,
             Record::CancelAsked { .. } => self.cancel = true,
@@ -300,9 +307,12 @@ impl Migration {
             Record::PowerStored { on, .. } => self.store_power(*on),
             Record::PoweredOff { .. } => self.go(Fact::Done),
             Record::OffSeen { off, .. } => self.see(*off),
-            Record::FinalSnapTaken { snap, mark, place, .. } => {
-                self.take_final(*snap, *mark, *place)
-            }
+            Record::FinalSnapTaken {
+                snap,
+                mark,
+                place,
+                ..
+            } => { self.take_final(*snap, *mark, *place) }
         }
         Ok(())
     }

@@ -11,7 +11,10 @@ use std::collections::BTreeMap;
 
 /// Puts these machines, none of which is in the map, into it, all waiting. Strange exactly where one
 /// stands twice; then, and for want of memory, the map stays.
-pub(crate) fn put_to_work(work: &mut BTreeMap<u32, Option<u32>>, vms: &[u32]) -> Result<(), StateRefused>
+pub(crate) fn put_to_work(
+    work: &mut BTreeMap<u32, Option<u32>>,
+    vms: &[u32],
+) -> Result<(), StateRefused>
     requires { HasNone work.old vms.now }
     ensures refused { IsRefusedOr (strange_unless (not (has_double vms.now)))
         StateRefused.NoMemory result }
@@ -64,7 +67,8 @@ fn why_not(vms: &[u32]) -> StateRefused
     }
 }
 
-fn has_double(vms: &[u32]) -> bool
+/// Whether a machine stands twice in the list.
+pub(crate) fn has_double(vms: &[u32]) -> bool
     ensures { result ≡ has_double vms.now }
 {
     for (i, vm) in vms.iter().enumerate() {

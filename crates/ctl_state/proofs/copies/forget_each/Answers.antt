@@ -11,4 +11,4 @@ loop-copy-preserved c =
     let copy = get_or copies i new_copy in
     let within : i < length copies = omega arith in
     map_over_more unnamed_copy c.args.copies.now copies i copy c.loop-copy-test.true c.loop-copy.invariant
-      (get_or_default copies i new_copy copy within)
+    (get_or_default copies i new_copy copy within)

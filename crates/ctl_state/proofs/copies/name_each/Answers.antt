@@ -6,4 +6,4 @@ pub returns : goal.returns
 returns c =
     let past : min (length c.loop-i.copies) (length c.args.ids.now) ≤ c.loop-i.i = omega arith in
     named_all c.args.copies.now c.loop-i.copies c.args.ids.now c.loop-i.i
-      c.loop-i.invariant.0 past
+    c.loop-i.invariant.0 past

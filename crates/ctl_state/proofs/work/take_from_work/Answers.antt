@@ -7,5 +7,5 @@ use Rattle.ctl_state.proofs.work.take_from_work.Goals as goal
 pub loop-vm-preserved : goal.loop-vm-preserved
 loop-vm-preserved c = λ vm.
     leave_next c.args.vms.now c.loop-vm.vm-index vm (get nat_cmp c.loop-vm.work vm)
-      (get nat_cmp c.remove.new.self vm) c.loop-vm-test.true (c.remove.ensures.updates.0 vm)
+    (get nat_cmp c.remove.new.self vm) c.loop-vm-test.true (c.remove.ensures.updates.0 vm)
     ∙ c.loop-vm.invariant vm

@@ -12,7 +12,7 @@ invariant_of-self c =
     let now = c.name_each.new.copies in
     let whole : kept.len ≡ length now = omega arith in
     let e = all_written kept.len now kept.items (named_copies kept.items ids) whole
-      (c.name_each.ensures ∙ ap (λ (old : List DiskCopy). named_copies old ids)
-        c.deref_mut.ensures.value) in
+    (c.name_each.ensures ∙ ap (λ (old : List DiskCopy). named_copies old ids)
+    c.deref_mut.ensures.value) in
     let P : List DiskCopy → Type 0 = Holds in
     subst P (sym e) (named_holds kept.items ids c.self.invariant)

@@ -19,19 +19,19 @@ invariant_of-self c =
     let how = c.args.how in
     let place = c.args.place in
     let found : numbered kept.migrations.items mig ≡ Some m =
-      ap (λ (v : CtlValue). migration_in v mig) c.self.view_is ∙ sym c.in-Some.ensures in
+    ap (λ (v : CtlValue). migration_in v mig) c.self.view_is ∙ sym c.in-Some.ensures in
     let may = sym c.may_end.ensures ∙ c.if-may_end.true in
     let f : Migration → Migration = end_by how in
     let after = change_numbered kept.migrations.items mig f in
     let removed = λ (vm : ℕ). c.remove.ensures.updates.0 vm
-      ∙ ap (λ b. cond b None (get nat_cmp kept.work vm)) (is_eq-nat_cmp m.vm vm) in
+    ∙ ap (λ b. cond b None (get nat_cmp kept.work vm)) (is_eq-nat_cmp m.vm vm) in
     let ended = kept_end kept.plans.items kept.courses.items kept.migrations.items kept.names
-      kept.work c.remove.new.self mig m f found (may_end_live m how place may)
-      (end_ends m how place may) removed c.self.invariant in
+    kept.work c.remove.new.self mig m f found (may_end_live m how place may)
+    (end_ends m how place may) removed c.self.invariant in
     let both = kept_course kept.plans.items kept.courses.items after kept.names c.remove.new.self
-      m.plan with_ended (λ course. refl) (λ course h. omega (arith, h)) ended in
+    m.plan with_ended (λ course. refl) (λ course h. omega (arith, h)) ended in
     let P : List PlanCourse → Type 0 =
-      λ courses. IsKept kept.plans.items courses after kept.names c.remove.new.self in
+    λ courses. IsKept kept.plans.items courses after kept.names c.remove.new.self in
     let Q : List Migration → Type 0 = λ migrations. IsKept kept.plans.items
-      c.end_in.new.courses.items migrations kept.names c.remove.new.self in
+    c.end_in.new.courses.items migrations kept.names c.remove.new.self in
     subst Q (sym c.end_one.ensures) (subst P (sym c.end_in.ensures) both)

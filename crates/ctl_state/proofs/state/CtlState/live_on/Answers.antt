@@ -11,6 +11,6 @@ returns-in-None c =
     let vm = c.args.vm in
     let absent : get nat_cmp kept.work vm ≡ None = sym c.in-None.ensures.value in
     let idle = idle_none kept.plans.items kept.courses.items kept.migrations.items vm
-      (kept_none (work_on kept.plans.items kept.courses.items kept.migrations.items vm)
-        (live_on kept.migrations.items vm) (sym (c.self.invariant.work_holds.works vm) ∙ absent)) in
+    (kept_none (work_on kept.plans.items kept.courses.items kept.migrations.items vm)
+    (live_on kept.migrations.items vm) (sym (c.self.invariant.work_holds.works vm) ∙ absent)) in
     sym idle ∙ ap (λ (v : CtlValue). live_on v.migrations vm) c.self.view_is

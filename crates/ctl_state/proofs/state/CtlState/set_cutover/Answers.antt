@@ -9,8 +9,8 @@ pub invariant_of-self : goal.invariant_of-self
 invariant_of-self c =
     let kept = c.self.inside in
     let P : List PlanCourse → Type 0 =
-      λ courses. IsKept kept.plans.items courses kept.migrations.items kept.names kept.work in
+    λ courses. IsKept kept.plans.items courses kept.migrations.items kept.names kept.work in
     subst P (sym c.cut_over.ensures)
-      (kept_course kept.plans.items kept.courses.items kept.migrations.items kept.names kept.work
-        c.args.plan (with_cutover c.cutover_of.result) (λ course. refl) (λ course h. h)
-        c.self.invariant)
+    (kept_course kept.plans.items kept.courses.items kept.migrations.items kept.names kept.work
+    c.args.plan (with_cutover c.cutover_of.result) (λ course. refl) (λ course h. h)
+    c.self.invariant)
