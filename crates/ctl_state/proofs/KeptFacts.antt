@@ -543,3 +543,11 @@ free_in_map v names work vms k h =
       (λ vm. ap is_some (k.work_holds.works vm)
         ∙ kept_tells (work_on v.plans v.courses v.migrations vm) (live_on v.migrations vm))
     ∙ h
+
+-- other trees of the same names and the same machines
+pub kept_names : (plans : List Plan) (courses : List PlanCourse) (migrations : List Migration)
+    (names names' : BTreeMap (List ℕ) ℕ) (work : Work) → AreNames plans names'
+    → IsKept plans courses migrations names work → IsKept plans courses migrations names' work
+kept_names plans courses migrations names names' work named k = record {
+  paired = k.paired; courses_hold = k.courses_hold; names_hold = named; work_holds = k.work_holds;
+}

@@ -8,9 +8,9 @@ use Rattle.ctl_state.specs.Fold.{plan_of}
 use Rattle.ctl_state.specs.Value.{CtlValue, new_course, is_at_work}
 use Rattle.ctl_state.specs.MayStand.{is_new_plan, are_free, has_double}
 use Rattle.ctl_state.specs.Kept.{IsKept, AreNames}
-use Rattle.ctl_state.specs.Work.{HasNone, Joins}
-use Rattle.ctl_state.proofs.KeptFacts.{kept_plan, free_in_map}
-use Rattle.ctl_state.proofs.NextFacts.{and_parts, not_true, none_doubled, where_ok}
+use Rattle.ctl_state.specs.Work.{HasNone, Joins, Leaves}
+use Rattle.ctl_state.proofs.KeptFacts.{kept_plan, kept_work, kept_names, taken_back, free_in_map}
+use Rattle.ctl_state.proofs.NextFacts.{and_parts, not_true, none_doubled, where_ok, where_err}
 use Rattle.ctl_state.proofs.state.CtlState.make_plan.Goals as goal
 
 pub add_plan-added-requires-clause-new : goal.add_plan-added-requires-clause-new
@@ -58,3 +58,40 @@ invariant_of-self-2 c =
       (kept_plan kept.plans.items kept.courses.items kept.migrations.items kept.names
         c.add_plan-added.new.names kept.work c.put_to_work.new.work p differ none joins names
         c.self.invariant))
+
+pub invariant_of-self-then-is_err : goal.invariant_of-self-then-is_err
+invariant_of-self-then-is_err c =
+    let kept = c.self.inside in
+    let vms = c.args.vms.now in
+    let v : CtlValue = record {
+      plans = kept.plans.items; courses = kept.courses.items; migrations = kept.migrations.items;
+    } in
+    let F : CtlValue → Type 0 = λ now. are_free now vms ≡ true in
+    let G : List ℕ → Type 0 = λ ms. are_free c.args.self.now ms ≡ true in
+    let free = subst F (sym c.self.view_is) (subst G c.as_slice.ensures.numbers
+      (sym c.are_free.ensures ∙ c.if-not-are_free.false)) in
+    let none = free_in_map v kept.names kept.work vms c.self.invariant
+      (not_true (list_any (is_at_work v) vms) (and_parts (not (length vms == 0)) _ free).1) in
+    let J : List ℕ → Type 0 = λ ms. Joins kept.work c.put_to_work.new.work ms in
+    let joins = subst J c.as_slice-2.ensures.numbers c.in_ok-put_to_work.ensures.put in
+    let L : List ℕ → Type 0 = λ ms. Leaves c.put_to_work.new.work c.take_from_work.new.work ms in
+    let leaves = subst L c.as_slice-then-is_err.ensures.numbers c.take_from_work.ensures in
+    let back = taken_back kept.work c.put_to_work.new.work c.take_from_work.new.work vms none joins
+      leaves in
+    let r = c.add_plan-added.result in
+    let failed = sym c.is_err.ensures.value ∙ c.if-is_err.true in
+    let plans = where_err r (c.add_plan-added.new.plans.items ≡ kept.plans.items) failed
+      c.add_plan-added.ensures.plans_kept in
+    let courses = where_err r (c.add_plan-added.new.courses.items ≡ kept.courses.items) failed
+      c.add_plan-added.ensures.courses_kept in
+    let A : List Plan → Type 0 = λ ps. IsKept ps c.add_plan-added.new.courses.items
+      kept.migrations.items c.add_plan-added.new.names c.take_from_work.new.work in
+    let B : List PlanCourse → Type 0 = λ cs. IsKept kept.plans.items cs kept.migrations.items
+      c.add_plan-added.new.names c.take_from_work.new.work in
+    let S : List Plan → Type 0 = λ ps. AreNames ps c.add_plan-added.new.names in
+    let names = subst S plans c.add_plan-added.ensures.names in
+    subst A (sym plans) (subst B (sym courses)
+      (kept_names kept.plans.items kept.courses.items kept.migrations.items kept.names
+        c.add_plan-added.new.names c.take_from_work.new.work names
+        (kept_work kept.plans.items kept.courses.items kept.migrations.items kept.names kept.work
+          c.take_from_work.new.work back c.self.invariant)))
