@@ -1,0 +1,76 @@
+-- What is known of plan and course where a machine is the next of its plan, and of a plan that may be
+-- made.
+use Rattle.std.proofs.Common.{◌≡◌, ℕ, ◌==◌, Bool, true, false, ◌&&◌, not, Option, Some, None, Result, Ok, Err, is_err, OnOk, OnErr, refl, ap, sym, ◌∙◌}
+use Rattle.std.specs.Prelude.{List, slice_get}
+use Rattle.std.specs.Bool.{OnTrue}
+use Rattle.std.specs.Option.{option_map_or}
+use Rattle.std.proofs.lemmas.Bool.{eqb-true}
+use Rattle.basics.specs.Refusal.{IsRefusedOr}
+use Rattle.plan_model.specs.declared.plan.Plan.{Plan}
+use Rattle.ctl_state.specs.declared.plans.PlanCourse.{PlanCourse}
+use Rattle.ctl_state.specs.declared.refusal.StateRefused.{StateRefused}
+use Rattle.ctl_state.specs.declared.refusal.StateRefused.TheVariants.{Strange, NoMemory}
+use Rattle.ctl_state.specs.Refusal.{strange_unless}
+use Rattle.ctl_state.specs.Value.{CtlValue, numbered, plan_in, course_in}
+use Rattle.ctl_state.specs.MayStand.{is_next_of, is_next, may_start}
+
+-- the plan and its course, with the machine at the place of the next one
+pub record IsNext (plans : List Plan) (courses : List PlanCourse) (plan vm : ℕ) : Type 0 where
+  pub known : Plan
+  pub course : PlanCourse
+  pub plan_is : numbered plans plan ≡ Some known
+  pub course_is : numbered courses plan ≡ Some course
+  pub next_is : slice_get known.vms course.started ≡ Some vm
+
+at_next : (o : Option ℕ) (vm : ℕ) → option_map_or (λ next. next == vm) o false ≡ true → o ≡ Some vm
+at_next None vm h = absurd (cc)
+at_next (Some x) vm h = ap (λ y. Some y) (eqb-true x vm h)
+
+next_by : (plans : List Plan) (courses : List PlanCourse) (plan vm : ℕ) (o : Option Plan)
+    (q : Option PlanCourse) → numbered plans plan ≡ o → numbered courses plan ≡ q
+    → option_map_or (λ known. option_map_or (λ course. is_next_of vm known course) q false) o false
+    ≡ true
+    → IsNext plans courses plan vm
+next_by plans courses plan vm None q hp hc h = absurd (cc)
+next_by plans courses plan vm (Some known) None hp hc h = absurd (cc)
+next_by plans courses plan vm (Some known) (Some course) hp hc h = record {
+  known = known;
+  course = course;
+  plan_is = hp;
+  course_is = hc;
+  next_is = at_next (slice_get known.vms course.started) vm h;
+}
+
+pub and_parts : (a b : Bool) → (a && b) ≡ true → (a ≡ true) × (b ≡ true)
+and_parts true b h = (refl, h)
+and_parts false b h = absurd (cc)
+
+pub next_of_start : (v : CtlValue) (mig plan vm disks : ℕ) → may_start v mig plan vm disks ≡ true
+    → IsNext v.plans v.courses plan vm
+next_of_start v mig plan vm disks h =
+    next_by v.plans v.courses plan vm (plan_in v plan) (course_in v plan) refl refl
+    (and_parts (is_next v plan vm) _ (and_parts _ _ h).1).0
+
+-- an answer Ok says that none stands twice
+pub none_doubled : (b : Bool) (u : Unit {0})
+    → IsRefusedOr {T = Unit {0}} {E = StateRefused} (strange_unless (not b)) NoMemory (Ok u)
+    → b ≡ false
+none_doubled true u h = absurd (cc)
+none_doubled false u h = refl
+
+pub on_true : (b : Bool) (P : Type 0) → b ≡ true → OnTrue b P → P
+on_true true P e h = h
+on_true false P e h = absurd (cc)
+
+pub not_true : (b : Bool) → not b ≡ true → b ≡ false
+not_true true h = absurd (cc)
+not_true false h = refl
+
+-- what a call says of the outcome that it had
+pub where_ok : {T E : Type 0} (r : Result T E) (P : Type 0) → is_err r ≡ false → OnOk r P → P
+where_ok (Ok x) P e h = h
+where_ok (Err x) P e h = absurd (cc)
+
+pub where_err : {T E : Type 0} (r : Result T E) (P : Type 0) → is_err r ≡ true → OnErr r P → P
+where_err (Ok x) P e h = absurd (cc)
+where_err (Err x) P e h = h

@@ -1,0 +1,5 @@
+use Rattle.ctl_state.proofs.FoldFacts.{lists_join}
+use Rattle.ctl_state.proofs.laws.lists_join.Goals as goal
+
+pub returns : goal.returns
+returns c = lists_join

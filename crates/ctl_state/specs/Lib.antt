@@ -1,0 +1,11 @@
+pub mod Migration
+pub mod Steps
+pub mod Value
+pub mod MayStand
+pub mod Fold
+pub mod Ready
+pub mod Task
+pub mod Refusal
+pub mod Laws
+pub mod Work
+pub mod Kept

@@ -1,0 +1,31 @@
+//! The controller's state: what the records of the journal come to, read record by record. A record
+//! that may not stand behind those before it is strange, and changes nothing. From the state come
+//! the jobs that may be done at a moment, and what each job is told.
+#![tactic(auto)]
+
+mod apply;
+mod copies;
+mod laws;
+mod marks;
+mod migration;
+mod plans;
+mod ready;
+mod refusal;
+mod stands;
+mod state;
+mod steps;
+mod task;
+#[cfg(test)]
+mod tests;
+mod work;
+
+pub use basics::{Name, NoMemory, NumberList};
+pub use copies::{CopyBase, CopyList, DiskCopy, MAX_STAGE_SECTORS};
+pub use laws::{lists_join, records_change_their_own, states_go_on};
+pub use marks::MarkList;
+pub use migration::{How, Migration};
+pub use plans::PlanCourse;
+pub use ready::{Job, JobList};
+pub use refusal::StateRefused;
+pub use state::CtlState;
+pub use task::{Controller, Did, PhaseTask};
