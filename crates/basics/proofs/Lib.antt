@@ -1,3 +1,5 @@
 pub mod FaultLemmas
 pub mod CallLemmas
 pub mod NumberLemmas
+pub mod ItemAt
+pub mod Replaced

@@ -2,3 +2,5 @@ pub mod Faults
 pub mod Calls
 pub mod Refusal
 pub mod Spelled
+pub mod Replaced
+pub mod Generator

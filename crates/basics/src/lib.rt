@@ -3,6 +3,7 @@
 #![tactic(auto)]
 
 mod calls;
+mod generator;
 mod limits;
 mod name;
 mod number_list;
@@ -14,8 +15,10 @@ mod tests;
 mod text;
 
 pub use calls::Calls;
+pub use generator::{INCREMENT, MULTIPLIER, advance};
 pub use limits::{
-    MAX_DISK_SECTORS, MAX_DISKS, MAX_INTERVAL, MAX_LOGGED_SECTORS, MAX_WRITE_SECTORS,
+    MAX_DISK_SECTORS, MAX_DISKS, MAX_HOST_LIMIT, MAX_INTERVAL, MAX_LOGGED_SECTORS,
+    MAX_WRITE_SECTORS,
 };
 pub use name::{MAX_NAME_BYTES, Name};
 pub use number_list::NumberList;

@@ -6,6 +6,9 @@ pub const MAX_DISKS: usize = 16;
 /// The most sectors of a disk: 256 GiB.
 pub const MAX_DISK_SECTORS: u64 = 1 << 29;
 
+/// The most disks of one host that may be in flight at once, by the limit that it is given.
+pub const MAX_HOST_LIMIT: u32 = 1_024;
+
 /// The most sectors of one write: 64 KiB.
 pub const MAX_WRITE_SECTORS: u64 = 128;
 

@@ -1,5 +1,5 @@
 -- The pages of an answer.
-use Rattle.std.proofs.Common.{◌≡◌, ℕ, ◌^◌, ◌<◌, ◌≤◌, List, Bool, true, false, cond, Option, unwrap_or, Result, Ok, Err, sym, subst}
+use Rattle.std.proofs.Common.{◌≡◌, ℕ, ◌≤◌, List, Bool, true, false, cond, Option, unwrap_or, Ok, Err, sym, subst}
 use Rattle.std.proofs.lemmas.List.Elements.{All-from_recursion}
 use Rattle.sector_model.specs.Run.{end_of, in_blocks, areas_of, met_blocks}
 use Rattle.sector_model.specs.declared.run.Run.{Run}

@@ -1,10 +1,10 @@
 -- What the state of a tracker is for the maps and the snapshots that it keeps.
-use Rattle.std.proofs.Common.{◌≡◌, ℕ, zero, suc, ◌+◌, ◌-◌, ◌/◌, ◌%◌, ◌<◌, ◌≤◌, List, [], ◌∷◌, ◌++◌, length, take, drop, map, Bool, true, false, cond, ◌&&◌, ◌||◌, ◌==◌, eqb, ltb, leb, nat_eq, Option, Some, None, is_some, IfSome, unwrap_or, option_map, sym, ap, subst, refl, ◌∙◌, arith, inl, inr, length-append, length-drop, slice_range}
-use Rattle.std.specs.List.{list_any, find, filter, slice_get, position, enumerate_from, range_with_len}
+use Rattle.std.proofs.Common.{◌≡◌, ℕ, zero, suc, ◌+◌, ◌-◌, ◌/◌, ◌%◌, ◌<◌, ◌≤◌, List, [], ◌∷◌, ◌++◌, length, take, drop, map, Bool, true, false, cond, ◌&&◌, ◌||◌, ◌==◌, eqb, ltb, leb, nat_eq, Option, Some, None, is_some, IfSome, option_map, sym, ap, refl, ◌∙◌, arith, inl, inr, length-append, length-drop, slice_range}
+use Rattle.std.specs.List.{list_any, find, filter, slice_get, enumerate_from, range_with_len}
 use Rattle.std.proofs.Math.Bool.{or-false}
-use Rattle.std.proofs.lemmas.Bool.{cases_eq, cases_lt, eq-eqb, ne_eqb, lt-ltb, le-ltb, le-leb, lt-leb, leb-true, ltb-true, false≢true}
+use Rattle.std.proofs.lemmas.Bool.{cases_lt, lt-ltb, le-ltb, le-leb, lt-leb}
 use Rattle.std.proofs.lemmas.Option.{none-some}
-use Rattle.sector_model.specs.Run.{meets, blocks_where, block_count}
+use Rattle.sector_model.specs.Run.{meets, block_count}
 use Rattle.sector_model.specs.declared.run.Run.{Run}
 use Rattle.change_id.specs.declared.ChangeId.{ChangeId}
 use Rattle.change_id.specs.ChangeId.{packed}
@@ -12,11 +12,10 @@ use Rattle.change_tracker.specs.declared.kept.Kept.{Kept}
 use Rattle.change_tracker.specs.declared.maps.Maps.{Maps}
 use Rattle.change_tracker.specs.declared.word.Touch.{Touch}
 use Rattle.change_tracker.specs.declared.word.Window.{Window}
-use Rattle.change_tracker.specs.Tracker.{TrackerState, Snapshot, snapshot_of, fresh, with_met, after_marking, after_freezing, after_reset, without_changes}
-use Rattle.change_tracker.specs.Touches.{WordState, TouchState, is_inside, is_of, has_bit, touched_in, word_of, is_touched, HasSame, blocks_in}
+use Rattle.change_tracker.specs.Tracker.{Snapshot, fresh, with_met, after_marking, after_freezing, after_reset, without_changes}
+use Rattle.change_tracker.specs.Touches.{WordState, TouchState, is_of, has_bit, touched_in, word_of, is_touched, HasSame, blocks_in}
 use Rattle.change_tracker.specs.Maps.{window, HasSameTouches, IsTouchedWhere, NoneTouchedLater, is_met_by}
 use Rattle.change_tracker.specs.Kept.{snapshot_at, state_of, AreIds, NoLater, IsByNow}
-use Rattle.change_tracker.specs.History.{changed_in}
 use Rattle.change_tracker.proofs.Blocks.{among, same_blocks, met_more}
 
 -- ---- windows

@@ -1,10 +1,10 @@
 -- A walk over words: the first block that was touched, or wasn't, and the next area.
-use Rattle.std.proofs.Common.{◌≡◌, ◌≢◌, ℕ, ◌+◌, ◌-◌, ◌*◌, ◌/◌, ◌%◌, ◌^◌, ◌<◌, ◌≤◌, min, max, Bool, true, false, not, ◌&&◌, leb, eqb, bit_and, w64, Option, Some, None, sym, ap, refl, ◌∙◌, arith, inl, inr}
+use Rattle.std.proofs.Common.{◌≡◌, ◌≢◌, ℕ, ◌+◌, ◌*◌, ◌/◌, ◌%◌, ◌^◌, ◌<◌, ◌≤◌, max, Bool, true, false, not, ◌&&◌, leb, eqb, bit_and, w64, None, sym, ap, refl, ◌∙◌, arith, inl, inr}
 use Rattle.std.specs.Int.{bit_at, bit_not, trailing_zeros}
-use Rattle.std.proofs.lemmas.Bool.{cases_lt, le-leb, leb-true, eq-eqb, eqb-true, false≢true}
+use Rattle.std.proofs.lemmas.Bool.{cases_lt, le-leb, leb-true, eq-eqb, false≢true}
 use Rattle.std.proofs.lemmas.Nat.Bits.{bit_at-trailing_zeros}
 use Rattle.change_tracker.specs.declared.word.Window.{Window}
-use Rattle.change_tracker.specs.Touches.{WordState, TouchState, has_bit, touched_at, touched_in, word_of, is_touched}
+use Rattle.change_tracker.specs.Touches.{TouchState, has_bit, touched_in, word_of, is_touched}
 use Rattle.change_tracker.proofs.Bits.{and_has, not_has, from_has, none_has}
 
 pub in_word : (t : TouchState) (w : Window) (b word : ℕ) → b / 64 ≡ word → is_touched t w b ≡ touched_in w (b % 64) (word_of t word)

@@ -1,6 +1,6 @@
 -- What the room for later calls is to the steps for which a tracker stands, and what pages of an
 -- answer tell.
-use Rattle.std.specs.Prelude.{◌≡◌, ℕ, ◌<◌, ◌^◌, List, Bool, Option, Result, Ok}
+use Rattle.std.specs.Prelude.{◌≡◌, ℕ, ◌<◌, ◌^◌, List, Bool, Option, Ok}
 use Rattle.std.specs.List.{flat_map}
 use Rattle.sector_model.specs.Page.{PageContents, areas_from, ArePages}
 use Rattle.sector_model.specs.declared.run.Run.{Run}

@@ -1,7 +1,7 @@
 -- What a tracker holds: of each snapshot its identifier, the blocks that were touched before it, and
 -- those that changed since the one before it; and for which next call room was made. Maps are how it
 -- is kept, and no caller sees them.
-use Rattle.std.specs.Prelude.{◌≡◌, ℕ, ◌+◌, ◌==◌, nat_le, nat_eq, List, [], ◌∷◌, ◌++◌, map, Bool, false, ◌&&◌, ◌||◌, Option, Some, None, unwrap_or, option_map, if◌then◌else◌}
+use Rattle.std.specs.Prelude.{ℕ, ◌+◌, ◌==◌, nat_le, nat_eq, List, [], ◌∷◌, ◌++◌, map, Bool, false, ◌&&◌, ◌||◌, Option, Some, None, unwrap_or, option_map, if◌then◌else◌}
 use Rattle.std.specs.List.{find, list_any}
 use Rattle.sector_model.specs.Run.{blocks_where, meets}
 use Rattle.sector_model.specs.declared.run.Run.{Run}

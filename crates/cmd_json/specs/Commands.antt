@@ -1,10 +1,10 @@
 -- Each command by its row: its name, and its members in the order in which they are tested.
 use Rattle.std.specs.Prelude.{ℕ, ◌-◌, ◌^◌, List, [], ◌∷◌, codes}
-use Rattle.basics.specs.declared.limits.TheConstants.{MAX_DISK_SECTORS, MAX_WRITE_SECTORS, MAX_INTERVAL}
+use Rattle.basics.specs.declared.limits.TheConstants.{MAX_DISK_SECTORS, MAX_HOST_LIMIT, MAX_INTERVAL, MAX_WRITE_SECTORS}
 use Rattle.cmd_json.specs.Kinds.{Kind, a_text, a_name, a_moment, a_flag, a_number, a_multiple_of, a_list, a_move_write}
 use Rattle.cmd_json.specs.Members.{Reading, required, optional, defaulted, given, ◌⊛◌, and_then, an_object, the_row}
 use Rattle.cmd_json.specs.declared.refusal.CmdRefused.TheVariants.{Field}
-use Rattle.cmd_json.specs.declared.command.TheConstants.{MAX_READ_SECTORS, MAX_HOST_LIMIT, MAX_WORKERS, SECTOR_START_UNIT}
+use Rattle.cmd_json.specs.declared.command.TheConstants.{MAX_READ_SECTORS, MAX_WORKERS, SECTOR_START_UNIT}
 use Rattle.cmd_json.specs.declared.command.GuestLine.{GuestLine}
 use Rattle.cmd_json.specs.declared.command.DisturbLine.{DisturbLine}
 use Rattle.cmd_json.specs.declared.command.ActLine.{ActLine}

@@ -1,9 +1,9 @@
 -- What is known of a command that was read, so that nobody has to test it again.
 use Rattle.std.specs.Prelude.{◌≡◌, ℕ, ◌≤◌, ◌%◌, ⊤, List, All, IfSome}
 use Rattle.basics.specs.Spelled.{IsName}
-use Rattle.basics.specs.declared.limits.TheConstants.{MAX_DISK_SECTORS, MAX_WRITE_SECTORS, MAX_INTERVAL}
+use Rattle.basics.specs.declared.limits.TheConstants.{MAX_DISK_SECTORS, MAX_HOST_LIMIT, MAX_INTERVAL, MAX_WRITE_SECTORS}
 use Rattle.cmd_json.specs.Range.{IsWithin}
-use Rattle.cmd_json.specs.declared.command.TheConstants.{MAX_READ_SECTORS, MAX_HOST_LIMIT, MAX_WORKERS, SECTOR_START_UNIT}
+use Rattle.cmd_json.specs.declared.command.TheConstants.{MAX_READ_SECTORS, MAX_WORKERS, SECTOR_START_UNIT}
 use Rattle.cmd_json.specs.declared.command.Command.{Command}
 use Rattle.cmd_json.specs.declared.command.Command.TheVariants.{Move, Host, Vm, Enable, Write, Snapshot, Remove, Query, Read, Power, Reset, Inventory, Plan, Start, Run, Cutover, Cancel, Status, Target, Digest, Restart, Quit}
 

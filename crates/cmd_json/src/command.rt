@@ -5,9 +5,6 @@ use plan_model::{Moment, Name};
 /// The most sectors that one command shows, so that its reply stays short.
 pub const MAX_READ_SECTORS: u64 = 16;
 
-/// The most disks in flight that a host may be given.
-pub const MAX_HOST_LIMIT: u32 = 1_024;
-
 /// The most workers of a run.
 pub const MAX_WORKERS: u32 = 64;
 

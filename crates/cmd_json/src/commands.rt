@@ -7,7 +7,7 @@ ghost use Rattle.cmd_json.specs.Left.{left_in};
 ghost use Rattle.cmd_json.specs.Line.{command_named};
 ghost use Rattle.cmd_json.specs.Members.{Reads};
 
-use crate::command::{Command, MAX_HOST_LIMIT, MAX_READ_SECTORS, MAX_WORKERS};
+use crate::command::{Command, MAX_READ_SECTORS, MAX_WORKERS};
 use crate::kinds::{
     BYTE, FlagKind, LONG, MomentKind, NameKind, SectorStartKind, TextKind, WORD, within,
 };
@@ -15,7 +15,7 @@ use crate::lists::{ListKind, MoveWriteKind};
 use crate::members::Members;
 use crate::objects::{DisturbKind, GuestKind};
 use crate::refusal::CmdRefused;
-use basics::{MAX_DISK_SECTORS, MAX_INTERVAL, MAX_WRITE_SECTORS};
+use basics::{MAX_DISK_SECTORS, MAX_HOST_LIMIT, MAX_INTERVAL, MAX_WRITE_SECTORS};
 
 pub(crate) fn read_move(members: &mut Members) -> Result<Command, CmdRefused>
     ensures reads { Reads (command_named (codes "move") (left_in members.old)) (left_in members.new)

@@ -16,8 +16,8 @@ mod tests;
 
 pub use basics::{Sequence, Text};
 pub use command::{
-    ActLine, Command, DisturbLine, GuestLine, MAX_HOST_LIMIT, MAX_READ_SECTORS, MAX_WORKERS,
-    MoveWrite, SECTOR_START_UNIT,
+    ActLine, Command, DisturbLine, GuestLine, MAX_READ_SECTORS, MAX_WORKERS, MoveWrite,
+    SECTOR_START_UNIT,
 };
 pub use plan_model::{Moment, Name};
 pub use read::{BUILT, built_are_rows, order_is_kept, read_command};

@@ -4,21 +4,19 @@ use Rattle.std.specs.Prelude.{Option, Some, None, option_map, Result, Ok, Err, O
 use Rattle.std.specs.Option.{ForSome}
 use Rattle.std.specs.List.{list_any}
 use Rattle.std.proofs.lemmas.List.{get_or-take, ext_get_or, take_all}
-use Rattle.std.proofs.lemmas.Bool.{cases_lt}
+use Rattle.std.proofs.lemmas.Bool.{cases_lt, or_parts}
 use Rattle.std.proofs.lemmas.List.Folds.{list_any-append}
 use Rattle.std.proofs.lemmas.Bool.Decides.{nat_tests}
 use Rattle.edge_traits.specs.declared.span.Span.{Span}
-use Rattle.edge_traits.specs.Disk.{DiskContents, IsImage, covers, is_loose, settled, loosened, shortened, overwritten, after_write, after_cut, IsBrokenWrite, IsBrokenCut, WhereTold}
-use Rattle.edge_traits.specs.MemDisk.{IsConsistent, IsOverlaid, IsMixed, mixed_length, noise, advance}
-use Rattle.edge_traits.proofs.Overwritten.{length-overwritten, overwritten_before, overwritten_behind, front_of, rest_of, drop_on}
+use Rattle.basics.specs.Replaced.{replaced}
+use Rattle.edge_traits.specs.Disk.{DiskContents, IsImage, covers, is_loose, settled, loosened, shortened, after_write, after_cut, IsBrokenWrite, IsBrokenCut, WhereTold}
+use Rattle.edge_traits.specs.MemDisk.{IsConsistent, IsOverlaid, IsMixed, mixed_length, noise}
+use Rattle.basics.specs.Generator.{advance}
+use Rattle.basics.proofs.Replaced.{length-replaced_past, get_or-replaced_before, get_or-replaced_behind, take-replaced, drop-replaced, drop_on}
 
 -- each image now is one that could be before
 abbrev pub AllowsNoMore : (before now : DiskContents) → Type 0
 AllowsNoMore before now = (image : List ℕ) → IsImage now image → IsImage before image
-
-none_of : (a b : Bool) → (a || b) ≡ false → (a ≡ false) × (b ≡ false)
-none_of true b h = absurd (cc)
-none_of false b h = (refl, h)
 
 neither : (a b : Bool) → a ≡ false → b ≡ false → (a || b) ≡ false
 neither a b ha hb = rw (ha, hb) refl
@@ -31,8 +29,8 @@ not_loosened c first count offset h =
     let span : Span = record { first = first; count = count } in
     let both : (list_any (covers offset) c.loose || list_any (covers offset) (span ∷ [])) ≡ false =
     sym (list_any-append (covers offset) c.loose (span ∷ [])) ∙ h in
-    let parts = none_of (list_any (covers offset) c.loose) (list_any (covers offset) (span ∷ [])) both in
-    (parts.0, (none_of (covers offset span) false parts.1).0)
+    let parts = or_parts (list_any (covers offset) c.loose) (list_any (covers offset) (span ∷ [])) both in
+    (parts.0, (or_parts (covers offset span) false parts.1).0)
 
 pub still_not_loosened : (c : DiskContents) (first count offset : ℕ) → is_loose offset c ≡ false
     → covers offset (record { first = first; count = count }) ≡ false
@@ -72,29 +70,29 @@ settled_consistent bytes = record {
 written_kept : (c : DiskContents) (offset : ℕ) (bytes : List ℕ) (k : ℕ) → IsImage c c.bytes
     → offset ≤ length c.bytes → k < max (length c.bytes) (offset + length bytes)
     → k < length c.synced → is_loose k c ≡ false → (offset ≤ k → offset + length bytes ≤ k)
-    → get_or (overwritten offset bytes c.bytes) k 0 ≡ get_or c.synced k 0
+    → get_or (replaced c.bytes offset bytes) k 0 ≡ get_or c.synced k 0
 written_kept c offset bytes k image begins below synced loose outside =
     elim (cases_lt k offset) [
       | inl before ↦
           let within : k < length c.bytes = omega arith in
-          overwritten_before offset bytes c.bytes k begins before ∙ image.kept k within synced loose
+          get_or-replaced_before c.bytes bytes offset begins k 0 before ∙ image.kept k within synced loose
       | inr from ↦
           let behind : offset + length bytes ≤ k = outside from in
           let within : k < length c.bytes = omega arith in
-          overwritten_behind offset bytes c.bytes k begins behind ∙ image.kept k within synced loose
+          get_or-replaced_behind c.bytes bytes offset begins k 0 behind ∙ image.kept k within synced loose
     ]
 
 -- a write leaves what it gives to read among the images
 pub write_possible : (c : DiskContents) (offset : ℕ) (bytes : List ℕ) → IsImage c c.bytes
-    → offset ≤ length c.bytes → IsImage (after_write offset bytes c) (overwritten offset bytes c.bytes)
+    → offset ≤ length c.bytes → IsImage (after_write offset bytes c) (replaced c.bytes offset bytes)
 write_possible c offset bytes is begins =
-    let len : length (overwritten offset bytes c.bytes) ≡ max (length c.bytes) (offset + length bytes) =
-    length-overwritten offset bytes c.bytes begins in
+    let len : length (replaced c.bytes offset bytes) ≡ max (length c.bytes) (offset + length bytes) =
+    length-replaced_past c.bytes bytes offset begins in
     let long : c.least ≤ length c.bytes = is.long in
     let short : length c.bytes ≤ c.greatest = is.short in
-    let kept : (k : ℕ) → k < length (overwritten offset bytes c.bytes) → k < length c.synced
+    let kept : (k : ℕ) → k < length (replaced c.bytes offset bytes) → k < length c.synced
     → is_loose k (after_write offset bytes c) ≡ false
-    → get_or (overwritten offset bytes c.bytes) k 0 ≡ get_or c.synced k 0 =
+    → get_or (replaced c.bytes offset bytes) k 0 ≡ get_or c.synced k 0 =
     λ k below synced loose.
     let parts = not_loosened c offset (length bytes) k loose in
     let reached : k < max (length c.bytes) (offset + length bytes) = omega arith in
@@ -179,8 +177,8 @@ pub half_write : (c : DiskContents) (offset : ℕ) (bytes : List ℕ) (n : ℕ) 
 half_write c offset bytes n begins within =
     let some : List ℕ = take n bytes in
     let few : length some ≤ length bytes = omega (arith, length-take n bytes) in
-    let len : length (overwritten offset some c.bytes) ≡ max (length c.bytes) (offset + length some) =
-    length-overwritten offset some c.bytes begins in
+    let len : length (replaced c.bytes offset some) ≡ max (length c.bytes) (offset + length some) =
+    length-replaced_past c.bytes some offset begins in
     record {
       synced = refl;
       loose = λ k l. still_less c offset (length some) (length bytes) k few l;
@@ -189,8 +187,8 @@ half_write c offset bytes n begins within =
       possible = λ is. write_possible c offset some is begins;
       no_shorter = omega arith;
       no_longer = omega arith;
-      before = front_of offset some c.bytes begins;
-      behind = rest_of offset some c.bytes (offset + length bytes) begins (omega arith);
+      before = take-replaced c.bytes some offset begins;
+      behind = drop-replaced c.bytes some offset begins (offset + length bytes) (omega arith);
     }
 
 -- a part of a part is a part

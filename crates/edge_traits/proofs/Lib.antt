@@ -1,4 +1,3 @@
 mod Pieces
-pub mod Overwritten
 mod Spans
 pub mod Images

@@ -3,11 +3,13 @@ use Rattle.std.proofs.Common.{◌≡◌, ℕ, ◌+◌, ◌-◌, ◌<◌, ◌≤�
 use Rattle.std.specs.List.{list_any}
 use Rattle.std.proofs.lemmas.List.{take_more, get_or-take, get_or-drop}
 use Rattle.std.proofs.lemmas.List.Folds.{list_any-append}
+use Rattle.std.proofs.Math.Bool.{or-false}
 use Rattle.std.proofs.lemmas.Bool.{cases_lt}
 use Rattle.std.proofs.lemmas.Bool.Decides.{nat_tests}
 use Rattle.edge_traits.specs.declared.span.Span.{Span}
-use Rattle.edge_traits.specs.Disk.{covers, overwritten}
-use Rattle.edge_traits.proofs.Overwritten.{overwritten_before, overwritten_within, overwritten_behind}
+use Rattle.basics.specs.Replaced.{replaced}
+use Rattle.edge_traits.specs.Disk.{covers}
+use Rattle.basics.proofs.Replaced.{get_or-replaced_before, get_or-replaced_within, get_or-replaced_behind}
 
 covered : (offset : ℕ) (span : Span) → span.first ≤ offset → offset < span.first + span.count
     → covers offset span ≡ true
@@ -38,7 +40,7 @@ piece_at f n from offset begun within =
 pub span_copied : (span : Span) (from to : List ℕ) (f n : ℕ) → length from ≡ length to
     → f ≡ min span.first (length to) → n ≡ min span.count (length to - f)
     → (offset : ℕ) → offset < length from
-    → get_or (overwritten f (take (f + n - f) (drop f from)) to) offset 0
+    → get_or (replaced to f (take (f + n - f) (drop f from))) offset 0
     ≡ (if covers offset span then get_or from offset 0 else get_or to offset 0)
 span_copied span from to f n same first count offset within =
     let begins : f ≤ length to = omega arith in
@@ -47,7 +49,7 @@ span_copied span from to f n same first count offset within =
     elim (cases_lt offset f) [
       | inl before ↦
           let outside : offset < span.first = omega arith in
-          if_not _ _ _ _ (uncovered_before offset span outside) (overwritten_before f _ to offset begins before)
+          if_not _ _ _ _ (uncovered_before offset span outside) (get_or-replaced_before to _ f begins offset 0 before)
       | inr begun ↦
           elim (cases_lt offset (f + n)) [
             | inl inside ↦
@@ -55,11 +57,11 @@ span_copied span from to f n same first count offset within =
                 let to_end : offset < span.first + span.count = omega arith in
                 let in_piece : offset < f + length (take (f + n - f) (drop f from)) = omega arith in
                 if_so _ _ _ _ (covered offset span from_first to_end)
-                (overwritten_within f _ to offset begins begun in_piece ∙ piece_at f n from offset begun inside)
+                (get_or-replaced_within to _ f begins offset 0 begun in_piece ∙ piece_at f n from offset begun inside)
             | inr behind ↦
                 let past : span.first + span.count ≤ offset = omega arith in
                 let past_piece : f + length (take (f + n - f) (drop f from)) ≤ offset = omega arith in
-                if_not _ _ _ _ (uncovered_behind offset span past) (overwritten_behind f _ to offset begins past_piece)
+                if_not _ _ _ _ (uncovered_behind offset span past) (get_or-replaced_behind to _ f begins offset 0 past_piece)
           ]
     ]
 
@@ -69,10 +71,6 @@ if_either true true x y now new before after = after
 if_either true false x y now new before after = after ∙ before
 if_either false true x y now new before after = after
 if_either false false x y now new before after = after ∙ before
-
-or_false : (b : Bool) → (b || false) ≡ b
-or_false true = refl
-or_false false = refl
 
 -- one more of the spans
 pub one_span_more : (spans : List Span) (i : ℕ) (d : Span) (offset x y now new : ℕ)
@@ -86,6 +84,6 @@ one_span_more spans i d offset x y now new less before after =
     ≡ (list_any (covers offset) (take i spans) || covers offset span) =
     ap (λ (xs : List Span). list_any (covers offset) xs) (take_more spans i d less)
     ∙ list_any-append (covers offset) (take i spans) (span ∷ [])
-    ∙ ap (λ (b : Bool). list_any (covers offset) (take i spans) || b) (or_false (covers offset span)) in
+    ∙ ap (λ (b : Bool). list_any (covers offset) (take i spans) || b) (or-false (covers offset span)) in
     if_either _ _ x y now new before after
     ∙ ap (λ (b : Bool). if b then x else y) (sym split)

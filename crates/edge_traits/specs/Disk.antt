@@ -3,6 +3,7 @@
 -- succeeded, the ranges that were written since, and the least and the greatest length since.
 use Rattle.std.specs.Prelude.{◌≡◌, ℕ, ◌+◌, ◌<◌, ◌≤◌, min, max, nat_lt, nat_le, Bool, false, ◌&&◌, List, [], ◌∷◌, ◌++◌, length, take, drop, slice_index, Option, Some, None}
 use Rattle.std.specs.List.{list_any}
+use Rattle.basics.specs.Replaced.{replaced}
 use Rattle.edge_traits.specs.declared.span.Span.{Span}
 
 pub record DiskContents : Type 0 where
@@ -59,15 +60,10 @@ loosened first count c = record c {
 abbrev pub shortened : (len : ℕ) → DiskContents → DiskContents
 shortened len c = record c { least = min c.least len }
 
--- bytes with others in place of those from an offset on, which may reach past the end
-abbrev pub overwritten : (offset : ℕ) → List ℕ → (bytes : List ℕ) → List ℕ
-overwritten offset written bytes =
-    take offset bytes ++ written ++ drop (offset + length written) bytes
-
 -- what a write, a cut and a sync leave
 abbrev pub after_write : (offset : ℕ) → List ℕ → DiskContents → DiskContents
 after_write offset written c = record (loosened offset (length written) c) {
-  bytes = overwritten offset written c.bytes;
+  bytes = replaced c.bytes offset written;
 }
 
 abbrev pub after_cut : (len : ℕ) → DiskContents → DiskContents

@@ -5,6 +5,7 @@ use Rattle.std.specs.Vec.{vec_capacity}
 use Rattle.std.specs.declared.vec.Vec.{Vec}
 use Rattle.std.specs.declared.alloc.Global.{Global}
 use Rattle.basics.specs.Calls.{CallLog, no_calls, after_call}
+use Rattle.basics.specs.Generator.{advance}
 use Rattle.edge_traits.specs.Disk.{DiskContents, DiskState, IsImage, covers, settled, after_write, after_cut, after_sync}
 use Rattle.edge_traits.specs.declared.span.Span.{Span}
 use Rattle.edge_traits.specs.declared.mem_disk.Pick.{Pick}
@@ -48,10 +49,7 @@ after_using count contents d = record d {
   calls = after_call d.calls true;
 }
 
--- the numbers of a linear congruential generator, Knuth's MMIX, and the high byte of each
-abbrev pub advance : ℕ → ℕ
-advance x = (x * 6364136223846793005 + 1442695040888963407) % 2 ^ 64
-
+-- the high bytes of so many numbers of the generator
 abbrev pub noise : (count seed : ℕ) → List ℕ
 noise zero x = []
 noise (suc count) x = advance x / 2 ^ 56 ∷ noise count (advance x)

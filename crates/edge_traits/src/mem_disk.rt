@@ -5,10 +5,10 @@ ghost use Rattle.basics.specs.Faults.{HasCause};
 ghost use Rattle.edge_traits.specs.Disk.{IsImage, IsBrokenWrite, IsBrokenCut, after_write, after_cut, after_sync};
 ghost use Rattle.edge_traits.specs.MemDisk.{untouched, IsPicked, IsMixed, IsTooFullFor, after_asking, after_using, mixed_length as length_of};
 
-use crate::overlay::{advance, noise, overlay, overwrite};
+use crate::overlay::{noise, overlay, overwrite};
 use crate::span::Span;
 use crate::{Disk, Failed, NoMemory};
-use basics::Calls;
+use basics::{Calls, advance};
 use std::alloc::Global;
 use std::marker::Model;
 

@@ -1,20 +1,14 @@
 //! How a disk in memory moves bytes about.
 ghost use Rattle.std.specs.Prelude.{◌≡◌, ◌≤◌, ◌+◌, ℕ, ◌<◌, length, slice_index, vec_capacity, IfOk, if◌then◌else◌};
 ghost use Rattle.std.specs.List.{list_any};
-ghost use Rattle.edge_traits.specs.Disk.{covers, overwritten};
-ghost use Rattle.edge_traits.specs.MemDisk.{IsOverlaid, advance as advanced, noise as noise_of};
+ghost use Rattle.basics.specs.Replaced.{replaced};
+ghost use Rattle.edge_traits.specs.Disk.{covers};
+ghost use Rattle.edge_traits.specs.MemDisk.{IsOverlaid, noise as noise_of};
 
 use crate::NoMemory;
 use crate::span::Span;
+use basics::advance;
 use std::alloc::Global;
-
-/// The number of the generator after this one.
-pub(crate) fn advance(x: u64) -> u64
-    ensures { result ≡ advanced x }
-{
-    x.wrapping_mul(6364136223846793005)
-        .wrapping_add(1442695040888963407)
-}
 
 /// So many bytes of the generator. It answers only want of memory.
 pub(crate) fn noise(alloc: Global, count: usize, seed: u64) -> Result<Vec<u8>, NoMemory>
@@ -34,7 +28,7 @@ pub(crate) fn noise(alloc: Global, count: usize, seed: u64) -> Result<Vec<u8>, N
 pub(crate) fn overwrite(bytes: &mut Vec<u8>, offset: usize, written: &[u8])
     requires begins { offset ≤ length bytes.old.items }
     requires room { offset + length written.now ≤ vec_capacity bytes.old }
-    ensures bytes { bytes.new.items ≡ overwritten offset written.now bytes.old.items }
+    ensures bytes { bytes.new.items ≡ replaced bytes.old.items offset written.now }
     ensures room { vec_capacity bytes.old ≤ vec_capacity bytes.new }
 {
     let within = written.len().min(bytes.len() - offset);
@@ -45,7 +39,7 @@ pub(crate) fn overwrite(bytes: &mut Vec<u8>, offset: usize, written: &[u8])
 /// Puts bytes in place of as many others, from an offset on.
 fn write_over(bytes: &mut [u8], offset: usize, written: &[u8])
     requires { offset + length written.now ≤ length bytes.old }
-    ensures { bytes.new ≡ overwritten offset written.now bytes.old }
+    ensures { bytes.new ≡ replaced bytes.old offset written.now }
 {
     bytes[offset..offset + written.len()].copy_from_slice(written);
 }

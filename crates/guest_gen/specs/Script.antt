@@ -1,11 +1,8 @@
 -- The writes of a guest, as a list over the numbers of its generator.
 use Rattle.std.specs.Prelude.{ℕ, zero, suc, ◌+◌, ◌-◌, ◌*◌, ◌/◌, ◌%◌, ◌^◌, ◌<◌, ◌≤◌, List, map, length, min, slice_index}
 use Rattle.std.specs.List.{range_with_len}
+use Rattle.basics.specs.Generator.{advance}
 use Rattle.guest_gen.specs.declared.script.GuestWrite.{GuestWrite}
-
--- the number after x
-abbrev pub advance : ℕ → ℕ
-advance x = (x * 6364136223846793005 + 1442695040888963407) % 2 ^ 64
 
 -- the k-th number after the seed
 abbrev pub number : (seed k : ℕ) → ℕ

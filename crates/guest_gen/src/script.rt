@@ -1,8 +1,8 @@
 //! The generator and its writes.
 ghost use Rattle.std.specs.Prelude.{◌≡◌, ◌≤◌, ◌+◌, ◌*◌, ◌%◌, ◌/◌, ◌^◌, ◌<◌, [], ◌∷◌, length, slice_index, min, All, IfOk, MatchOption};
-ghost use Rattle.guest_gen.specs.Script.{advance, offered, write_from, Lies};
+ghost use Rattle.guest_gen.specs.Script.{offered, write_from, Lies};
 
-use basics::{MAX_DISK_SECTORS, MAX_DISKS};
+use basics::{MAX_DISK_SECTORS, MAX_DISKS, advance};
 use sector_model::NoMemory;
 use std::alloc::Global;
 use std::marker::Model;
@@ -92,9 +92,9 @@ fn write_after(state: u64, capacities: &[u64]) -> GuestWrite
     requires sizes { All (λ c. 1 ≤ c) capacities.now }
     ensures { result ≡ write_from state capacities.now }
 {
-    let x1 = step(state);
-    let x2 = step(x1);
-    let x3 = step(x2);
+    let x1 = advance(state);
+    let x2 = advance(x1);
+    let x3 = advance(x2);
     let disk = (x1 >> 33) as usize % capacities.len();
     let capacity = capacities[disk];
     let first = (x2 >> 33) % capacity;
@@ -104,13 +104,4 @@ fn write_after(state: u64, capacities: &[u64]) -> GuestWrite
         count: (1 + (x3 >> 33) % 8).min(capacity - first),
         stamp: x3,
     }
-}
-
-// The number after `state`.
-fn step(state: u64) -> u64
-    ensures { result ≡ advance state }
-{
-    state
-        .wrapping_mul(6364136223846793005)
-        .wrapping_add(1442695040888963407)
 }

@@ -1,5 +1,6 @@
 ghost use Rattle.std.specs.Prelude.{◌≡◌, ◌∷◌, []};
-ghost use Rattle.guest_gen.specs.Script.{advance, offered};
+ghost use Rattle.basics.specs.Generator.{advance};
+ghost use Rattle.guest_gen.specs.Script.{offered};
 
 use crate::{GuestScript, GuestWrite};
 use std::test::Fail;

@@ -2,11 +2,12 @@
 use Rattle.std.proofs.Common.{◌≡◌, ℕ, ◌+◌, ◌-◌, ◌<◌, ◌≤◌, List, [], ◌∷◌, ◌++◌, length, take, drop, refl, sym, ◌∙◌, ap, subst, arith, length-append}
 use Rattle.std.specs.Prelude.{Option, Some, None, option_map}
 use Rattle.std.specs.Option.{ForSome}
-use Rattle.edge_traits.specs.Disk.{DiskContents, IsImage, IsBrokenWrite, WhereTold, settled, loosened, after_write, after_sync, overwritten}
+use Rattle.basics.specs.Replaced.{replaced}
+use Rattle.edge_traits.specs.Disk.{DiskContents, IsImage, IsBrokenWrite, WhereTold, settled, loosened, after_write, after_sync}
 use Rattle.edge_traits.proofs.Images.{images_of_write, broken_write_images}
 use Rattle.journal.specs.Devices.{IsSettled, LeavesCutAppend}
 use Rattle.journal.specs.declared.format.TheConstants.{OPEN_GATE}
-use Rattle.journal.proofs.ImageLemmas.{cut_before, cut_after, overwritten_at_end, overwritten_gate}
+use Rattle.journal.proofs.ImageLemmas.{cut_before, cut_after, replaced_at_end, replaced_gate}
 
 -- the disk with the cell, when that is synced
 abbrev pub with_cell : (len : ℕ) (cell : List ℕ) → DiskContents → DiskContents
@@ -15,7 +16,7 @@ with_cell len cell c = after_sync (after_write len cell c)
 pub with_cell_is : (c : DiskContents) (len : ℕ) (cell : List ℕ) → len ≡ length c.bytes
     → with_cell len cell c ≡ settled (c.bytes ++ cell)
 with_cell_is c len cell long =
-    ap (λ n. settled (overwritten n cell c.bytes)) long ∙ ap settled (overwritten_at_end c.bytes cell)
+    ap (λ n. settled (replaced c.bytes n cell)) long ∙ ap settled (replaced_at_end c.bytes cell)
 
 later_images : (c : DiskContents) (len : ℕ) (cell image : List ℕ) → len ≡ length c.bytes → 1 ≤ len
     → IsImage (loosened (len - 1) 1 (with_cell len cell c)) image
@@ -90,8 +91,8 @@ opened_is : (c : DiskContents) (len : ℕ) (cell : List ℕ) → len ≡ length 
 opened_is c len cell long some =
     let bytes : 1 ≤ length c.bytes = omega (arith, long, some) in
     ap (λ (d : DiskContents). after_sync (after_write (len - 1) (OPEN_GATE ∷ []) d)) (with_cell_is c len cell long)
-    ∙ ap (λ n. settled (overwritten (n - 1) (OPEN_GATE ∷ []) (c.bytes ++ cell))) long
-    ∙ ap settled (overwritten_gate c.bytes cell OPEN_GATE bytes)
+    ∙ ap (λ n. settled (replaced (c.bytes ++ cell) (n - 1) (OPEN_GATE ∷ []))) long
+    ∙ ap settled (replaced_gate c.bytes cell OPEN_GATE bytes)
     ∙ ap (λ n. settled (take (n - 1) c.bytes ++ OPEN_GATE ∷ cell)) (sym long)
 
 -- all of it was done

@@ -4,8 +4,9 @@ use Rattle.std.proofs.lemmas.List.{ext_get_or, get_or-take, take-append-drop, ta
 use Rattle.std.proofs.Math.Seq.{drop-append_seam}
 use Rattle.std.proofs.lemmas.Bool.{cases_lt}
 use Rattle.std.proofs.lemmas.Bool.Decides.{nat_tests}
-use Rattle.edge_traits.specs.Disk.{DiskContents, IsImage, is_loose, settled, loosened, shortened, overwritten}
-use Rattle.edge_traits.proofs.Overwritten.{length-overwritten, overwritten_before, overwritten_within, overwritten_behind}
+use Rattle.basics.specs.Replaced.{replaced}
+use Rattle.edge_traits.specs.Disk.{DiskContents, IsImage, is_loose, settled, loosened, shortened}
+use Rattle.basics.proofs.Replaced.{length-replaced_past, get_or-replaced_before, get_or-replaced_within, get_or-replaced_behind}
 use Rattle.journal.specs.Devices.{IsSettled, IsCutAppend}
 
 -- lists that agree as far as the first goes
@@ -44,18 +45,18 @@ image_of_longer file count image is =
       omega (arith, length-drop (length file) image),
     )
 
-pub overwritten_at_end : (file written : List ℕ) → overwritten (length file) written file ≡ file ++ written
-overwritten_at_end file written =
+pub replaced_at_end : (file written : List ℕ) → replaced file (length file) written ≡ file ++ written
+replaced_at_end file written =
     let front : take (length file) file ≡ file = take_all (length file) file (omega arith) in
     let none : drop (length file + length written) file ≡ [] =
     drop_all (length file + length written) file (omega arith) in
     rw (front, none) (append-nil (file ++ written))
 
 -- one byte of a file with something behind it
-pub overwritten_gate : (file cell : List ℕ) (gate : ℕ) → 1 ≤ length file
-    → overwritten (length file - 1) (gate ∷ []) (file ++ cell)
+pub replaced_gate : (file cell : List ℕ) (gate : ℕ) → 1 ≤ length file
+    → replaced (file ++ cell) (length file - 1) (gate ∷ [])
     ≡ take (length file - 1) file ++ gate ∷ cell
-overwritten_gate file cell gate some =
+replaced_gate file cell gate some =
     let within : length file - 1 ≤ length file = omega arith in
     let front : take (length file - 1) (file ++ cell) ≡ take (length file - 1) file =
     take-append-le (length file - 1) file cell within in
@@ -69,35 +70,35 @@ overwritten_gate file cell gate some =
 -- an image of a settled disk of which one byte was written
 image_of_gate : (file : List ℕ) (at : ℕ) (image : List ℕ) → at < length file
     → IsImage (loosened at 1 (settled file)) image
-    → image ≡ overwritten at (get_or image at 0 ∷ []) file
+    → image ≡ replaced file at (get_or image at 0 ∷ [])
 image_of_gate file at image within is =
     let long : length file ≤ length image = is.long in
     let short : length image ≤ max (length file) (at + 1) = is.short in
     let gate : ℕ = get_or image at 0 in
-    let len : length (overwritten at (gate ∷ []) file) ≡ max (length file) (at + 1) =
-    length-overwritten at (gate ∷ []) file (omega arith) in
-    let same : length image ≡ length (overwritten at (gate ∷ []) file) = omega arith in
+    let len : length (replaced file at (gate ∷ [])) ≡ max (length file) (at + 1) =
+    length-replaced_past file (gate ∷ []) at (omega arith) in
+    let same : length image ≡ length (replaced file at (gate ∷ [])) = omega arith in
     let begins : at ≤ length file = omega arith in
-    ext_get_or 0 image (overwritten at (gate ∷ []) file) same
+    ext_get_or 0 image (replaced file at (gate ∷ [])) same
     (λ k below.
     let inside : k < length file = omega arith in
     elim (cases_lt k at) [
       | inl before ↦
           is.kept k below inside (before_it k at 1 file before)
-          ∙ sym (overwritten_before at (gate ∷ []) file k begins before)
+          ∙ sym (get_or-replaced_before file (gate ∷ []) at begins k 0 before)
       | inr from ↦
           elim (cases_lt at k) [
             | inl behind ↦
                 let past : at + 1 ≤ k = omega arith in
                 is.kept k below inside (behind_it k at 1 file past)
-                ∙ sym (overwritten_behind at (gate ∷ []) file k begins past)
+                ∙ sym (get_or-replaced_behind file (gate ∷ []) at begins k 0 past)
             | inr to ↦
                 let here : k ≡ at = omega arith in
                 let none : k - at ≡ 0 = omega arith in
                 let only : k < at + 1 = omega arith in
                 ap (λ n. get_or image n 0) here
                 ∙ ap (λ n. get_or (gate ∷ []) n 0) (sym none)
-                ∙ sym (overwritten_within at (gate ∷ []) file k begins from only)
+                ∙ sym (get_or-replaced_within file (gate ∷ []) at begins k 0 from only)
           ]
     ])
 
@@ -138,5 +139,5 @@ cut_after file cell image some is =
     inr (
       get_or image (length file - 1) 0,
       image_of_gate (file ++ cell) (length file - 1) image within is
-          ∙ overwritten_gate file cell (get_or image (length file - 1) 0) some,
+          ∙ replaced_gate file cell (get_or image (length file - 1) 0) some,
     )

@@ -5,7 +5,8 @@ use Rattle.std.specs.Option.{ForSome}
 use Rattle.std.proofs.lemmas.List.{take_all}
 use Rattle.std.proofs.lemmas.Bool.{cases_lt}
 use Rattle.std.proofs.Math.Seq.{take-append_seam, take-add}
-use Rattle.edge_traits.specs.Disk.{DiskContents, IsImage, IsBrokenWrite, IsBrokenCut, WhereTold, settled, loosened, shortened, after_write, after_cut, after_sync, overwritten}
+use Rattle.basics.specs.Replaced.{replaced}
+use Rattle.edge_traits.specs.Disk.{DiskContents, IsImage, IsBrokenWrite, IsBrokenCut, WhereTold, settled, loosened, shortened, after_write, after_cut, after_sync}
 use Rattle.edge_traits.proofs.Images.{images_of_write, broken_write_images, broken_cut_images}
 use Rattle.journal.specs.Devices.{IsSettled, LeavesFew}
 use Rattle.journal.specs.declared.format.TheConstants.{PIECE_BYTES}
@@ -13,7 +14,7 @@ use Rattle.journal.specs.declared.format.TheConstants.{PIECE_BYTES}
 -- one more piece of the file is read
 pub piece_read : (at end : ℕ) (old new file : List ℕ) → at ≤ end → end ≤ length old
     → length old ≡ length file → take at old ≡ take at file
-    → new ≡ overwritten at (take (end - at) (drop at file)) old → take end new ≡ take end file
+    → new ≡ replaced old at (take (end - at) (drop at file)) → take end new ≡ take end file
 piece_read at end old new file begun within same before is =
     let count : ℕ = end - at in
     let split : at + count ≡ end = omega arith in

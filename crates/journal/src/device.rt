@@ -3,7 +3,8 @@
 ghost use Rattle.std.specs.Prelude.{◌≡◌, ◌≢◌, ◌⊎◌, ◌≤◌, ◌<◌, ◌+◌, ◌-◌, ◌%◌, ◌^◌, [], ◌∷◌, ◌++◌, ℕ, length, take, drop, option_map, IfSome, IfOk, IfErr, OnOk, OnErr, MatchResult};
 ghost use Rattle.std.specs.Option.{ForSome};
 ghost use Rattle.basics.specs.Faults.{HasCause, Rose};
-ghost use Rattle.edge_traits.specs.Disk.{WhereTold, settled, overwritten};
+ghost use Rattle.basics.specs.Replaced.{replaced};
+ghost use Rattle.edge_traits.specs.Disk.{WhereTold, settled};
 ghost use Rattle.journal.specs.Devices.{IsSettled, LeavesCutAppend, LeavesCut, LeavesFew, IsFileRead};
 ghost use Rattle.journal.specs.Opening.{empty_file as file_of_none};
 
@@ -61,7 +62,7 @@ fn read_piece<D: Disk>(disk: &mut D, bytes: &mut [u8], at: usize, end: usize) ->
     requires within { end ≤ length bytes.old }
     requires all { ForSome (D.state disk.old).contents (λ c. length bytes.old ≡ length c.bytes) }
     ensures given { OnOk result (IfSome (D.state disk.old).contents
-        (λ c. bytes.new ≡ overwritten at (take (end - at) (drop at c.bytes)) bytes.old)) }
+        (λ c. bytes.new ≡ replaced bytes.old at (take (end - at) (drop at c.bytes)))) }
     ensures kept { (D.state disk.new).contents ≡ (D.state disk.old).contents }
     ensures cause { HasCause (D.state disk.old).faults (D.state disk.new).faults result }
     ensures offset { IfErr result (λ fault. fault.0 ≡ at) }

@@ -10,8 +10,8 @@ use Rattle.log_model.specs.declared.entry.Act.TheVariants.{Write, Snap, Remove, 
 use Rattle.log_model.specs.declared.entry.Entry.{Entry}
 use Rattle.log_model.specs.Legal.{Disks, all_of, only, HasDisk, Legal, MayStand, ActMayStand, capacity_of}
 use Rattle.log_model.specs.Laws.{PrefixesAreLegal, LegalGrows, LegalGrew, LegalForEachDisk}
-use Rattle.sector_model.proofs.ItemAt.{slice_get-front, slice_get-take}
-use Rattle.sector_model.proofs.ItemAt.{slice_get-last}
+use Rattle.basics.proofs.ItemAt.{slice_get-front, slice_get-take}
+use Rattle.basics.proofs.ItemAt.{slice_get-last}
 
 pub length-take-le : {X : Type 0} (n : ℕ) (xs : List X) → length (take n xs) ≤ length xs
 length-take-le n xs = omega (arith, length-take n xs)

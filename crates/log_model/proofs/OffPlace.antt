@@ -2,7 +2,7 @@
 use Rattle.std.proofs.Common.{◌≡◌, ℕ, List, [], ◌∷◌, ◌++◌, length, Bool, true, false, Option, Some, subst, sym, refl, ◌∙◌, arith, length-append}
 use Rattle.std.specs.List.{slice_get}
 use Rattle.std.proofs.lemmas.Option.{same_Some}
-use Rattle.sector_model.proofs.ItemAt.{slice_get-front}
+use Rattle.basics.proofs.ItemAt.{slice_get-front}
 use Rattle.log_model.specs.declared.entry.Act.{Act}
 use Rattle.log_model.specs.declared.entry.Act.TheVariants.{Write, Snap, Remove, Reset, Enable, Off, On}
 use Rattle.log_model.specs.declared.entry.Entry.{Entry}
@@ -10,8 +10,8 @@ use Rattle.log_model.specs.Entry.{is_off}
 use Rattle.log_model.specs.Legal.{machine_on, on_after}
 use Rattle.log_model.specs.Frozen.{last_off, off_after}
 use Rattle.log_model.specs.Laws.{HasOffPlace, OffHasPlace}
-use Rattle.log_model.proofs.Last.{by_last}
-use Rattle.sector_model.proofs.ItemAt.{slice_get-last}
+use Rattle.change_id.proofs.Ends.{by_last}
+use Rattle.basics.proofs.ItemAt.{slice_get-last}
 use Rattle.log_model.proofs.OffLaws.{last_off-last, machine_on-last}
 
 -- an entry that powers nothing leaves it

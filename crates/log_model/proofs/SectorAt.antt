@@ -13,8 +13,8 @@ use Rattle.log_model.specs.Entry.{writes_of, write_to, contents}
 use Rattle.log_model.specs.Legal.{Disks, all_of, HasDisk, Legal, capacity_of}
 use Rattle.log_model.specs.Refusals.{is_within, is_known}
 use Rattle.log_model.specs.PlainMachine.{sector_at, sector_after, sector_of_write}
-use Rattle.sector_model.proofs.ItemAt.{slice_get-take, slice_get-drop, slice_get-replicate}
-use Rattle.sector_model.proofs.Replaced.{length-replaced, replaced-before, replaced-within, replaced-behind}
+use Rattle.basics.proofs.ItemAt.{slice_get-take, slice_get-drop, slice_get-replicate}
+use Rattle.basics.proofs.Replaced.{length-replaced, replaced-before, replaced-within, replaced-behind}
 use Rattle.log_model.proofs.TouchedLaws.{writes_fit, length-contents}
 
 lt-leb_false : (m n : ℕ) → m < n → leb n m ≡ false
@@ -26,7 +26,7 @@ after_one c s disk w sector long fit here =
     let within : w.first + length w.sectors ≤ length disk = omega (arith, long, fit) in
     elim (cases_lt s w.first) [
       | inl less ↦
-          replaced-before disk w.sectors w.first within s less ∙ here
+          replaced-before disk w.sectors w.first (omega (arith, within)) s less ∙ here
           ∙ ap (λ b. Some (cond b (unwrap_or (slice_get w.sectors (s - w.first)) sector) sector)) (sym (lt-leb_false s w.first less))
       | inr from ↦
           let reads : sector_of_write s sector (Some w) ≡ unwrap_or (slice_get w.sectors (s - w.first)) sector = ap (λ b. cond b (unwrap_or (slice_get w.sectors (s - w.first)) sector) sector) (le-leb w.first s from) in
@@ -34,11 +34,11 @@ after_one c s disk w sector long fit here =
             | inl inside ↦
                 let at : s - w.first < length w.sectors = omega arith in
                 let found = slice_get-get_or w.sectors (s - w.first) sector at in
-                replaced-within disk w.sectors w.first within s from inside ∙ found
+                replaced-within disk w.sectors w.first (omega (arith, within)) s from inside ∙ found
                 ∙ ap Some (sym (reads ∙ ap (λ (o : Option Sector). unwrap_or o sector) found))
             | inr past ↦
                 let none = slice_get_past w.sectors (s - w.first) (omega arith) in
-                replaced-behind disk w.sectors w.first within s past ∙ here
+                replaced-behind disk w.sectors w.first (omega (arith, within)) s past ∙ here
                 ∙ ap Some (sym (reads ∙ ap (λ (o : Option Sector). unwrap_or o sector) none))
           ]
     ]

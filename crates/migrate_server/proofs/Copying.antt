@@ -5,7 +5,7 @@ use Rattle.std.proofs.lemmas.Bool.{false≢true}
 use Rattle.std.proofs.Math.Seq.{take-add}
 use Rattle.std.proofs.lemmas.List.{take_at, drop_at, drop-drop, take_all, drop_all, append-nil, length-take-le, length-replicate, length-drop, replicate-append-replicate, same_lists, get_or-replicate, get_or-take, get_or-drop, get_or_default}
 use Rattle.basics.specs.Faults.{counted_by}
-use Rattle.sector_model.specs.Disk.{replaced}
+use Rattle.basics.specs.Replaced.{replaced}
 use Rattle.sector_model.specs.Sector.{zero_sector}
 use Rattle.sector_model.specs.VolumeContents.{VolumeContents, IsSized, volume_written, volume_flushed}
 use Rattle.sector_model.specs.declared.sector.Sector.{Sector}

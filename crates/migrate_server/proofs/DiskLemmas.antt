@@ -18,7 +18,7 @@ use Rattle.migrate_server.specs.declared.command.MoveWrite.{MoveWrite}
 use Rattle.migrate_server.specs.WrittenDisk.{disk_write, disk_writes, written_disk}
 use Rattle.migrate_server.specs.WrittenDisk.{AreFlagged, FlagsAfter}
 use Rattle.migrate_server.specs.Copy.{IsClearOutside}
-use Rattle.sector_model.proofs.Replaced.{length-after_writes, untouched}
+use Rattle.sector_model.proofs.WritesKept.{length-after_writes, untouched}
 use Rattle.sector_model.proofs.Touched.{filter-range_same, not_touched}
 
 -- ---- sectors

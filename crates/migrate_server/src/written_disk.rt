@@ -1,7 +1,7 @@
 //! The disk of a move: a plain list of its sectors, and which of its blocks were written.
 ghost use Rattle.std.specs.Prelude.{◌≡◌, ◌+◌, ◌*◌, ◌/◌, ◌^◌, ◌<◌, ◌≤◌, ℕ, length, All, IfOk, OnOk, replicate, slice_index_or, true, false, take, ◌||◌};
 ghost use Rattle.std.specs.List.{filter, range_with_len};
-ghost use Rattle.sector_model.specs.Disk.{replaced};
+ghost use Rattle.basics.specs.Replaced.{replaced};
 ghost use Rattle.sector_model.specs.Sector.{zero_sector};
 ghost use Rattle.sector_model.specs.Run.{block_count, touches, touched_blocks, areas_of, AreSpaced, end_of};
 ghost use Rattle.migrate_server.specs.Copy.{IsClearOutside};

@@ -10,14 +10,14 @@ use Rattle.std.proofs.lemmas.List.{same_lists, length-replicate, take-append-dro
 use Rattle.std.proofs.lemmas.List.FromFn.{length-range_with_len, get_or-range_with_len, length-map-range_with_len}
 use Rattle.std.proofs.lemmas.List.Sums.{sum_by-cons}
 use Rattle.std.proofs.lemmas.List.Elements.{recursion_from_All}
-use Rattle.sector_model.specs.Disk.{replaced}
+use Rattle.basics.specs.Replaced.{replaced}
 use Rattle.sector_model.specs.Run.{end_of, has, in_runs, AreSpaced, AreSpacedFrom}
 use Rattle.sector_model.specs.VolumeContents.{with_found}
 use Rattle.sector_model.specs.LooseRuns.{flags_of, RunsAreUnique, LooseRunsCount, LooseRunsGrow, NoLooseRuns}
 use Rattle.sector_model.specs.declared.run.Run.{Run}
 use Rattle.sector_model.specs.declared.sector.Sector.{Sector}
-use Rattle.sector_model.proofs.ItemAt.{slice_get-replicate}
-use Rattle.sector_model.proofs.Replaced.{length-replaced, replaced-before, replaced-within, replaced-behind}
+use Rattle.basics.proofs.ItemAt.{slice_get-replicate}
+use Rattle.basics.proofs.Replaced.{length-replaced, replaced-before, replaced-within, replaced-behind}
 use Rattle.sector_model.proofs.Spacing.{none_before, none_in_gap, in_first, past_first, from_earlier}
 use Rattle.sector_model.proofs.NextRun.{run_is, true_false}
 
@@ -272,15 +272,15 @@ grown-at n loose new first count k fits less grown =
     flag-at n new k less ∙ ap Some (grown k) ∙ elim (cases_lt k first) [
       | inl before ↦
           ap (λ b. Some (in_runs loose k || (b && ltb k (first + count)))) (lt-leb first k before) ∙ ap Some (or-false (in_runs loose k))
-          ∙ sym (replaced-before (flags_of n loose) (replicate count true) first room k before ∙ flag-at n loose k less)
+          ∙ sym (replaced-before (flags_of n loose) (replicate count true) first (omega (arith, room)) k before ∙ flag-at n loose k less)
       | inr from ↦ elim (cases_lt k (first + count)) [
         | inl inside ↦
             ap (λ b. Some (in_runs loose k || (b && ltb k (first + count)))) (le-leb first k from) ∙ ap (λ b. Some (in_runs loose k || b)) (lt-ltb k (first + count) inside)
             ∙ ap Some (or-true (in_runs loose k))
-            ∙ sym (replaced-within (flags_of n loose) (replicate count true) first room k from (omega (arith, inside, long)) ∙ slice_get-replicate count (k - first) true (omega (arith, inside, from)))
+            ∙ sym (replaced-within (flags_of n loose) (replicate count true) first (omega (arith, room)) k from (omega (arith, inside, long)) ∙ slice_get-replicate count (k - first) true (omega (arith, inside, from)))
         | inr past ↦
             ap (λ b. Some (in_runs loose k || b)) (and_right (leb first k) (ltb k (first + count)) (le-ltb k (first + count) past)) ∙ ap Some (or-false (in_runs loose k))
-            ∙ sym (replaced-behind (flags_of n loose) (replicate count true) first room k (omega (arith, past, long)) ∙ flag-at n loose k less)
+            ∙ sym (replaced-behind (flags_of n loose) (replicate count true) first (omega (arith, room)) k (omega (arith, past, long)) ∙ flag-at n loose k less)
       ]
     ]
 

@@ -3,16 +3,16 @@ use Rattle.std.proofs.Common.{◌≡◌, ℕ, zero, suc, ◌+◌, ◌-◌, ◌<�
 use Rattle.std.specs.List.{slice_get, count_by}
 use Rattle.std.proofs.Math.Bool.{or-true, or-false}
 use Rattle.std.proofs.lemmas.Bool.{cases_lt, le-ltb, lt-ltb, le-leb, lt-leb, and_right}
-use Rattle.std.proofs.lemmas.Option.{unwrap_or-slice_get}
+use Rattle.std.proofs.lemmas.Option.{unwrap_or-slice_get, same_Some}
 use Rattle.std.proofs.lemmas.List.{length-replicate}
 use Rattle.std.proofs.lemmas.List.Sums.{sum_by-cons}
 use Rattle.sector_model.specs.Sector.{zero_sector}
-use Rattle.sector_model.specs.Disk.{replaced}
+use Rattle.basics.specs.Replaced.{replaced}
 use Rattle.sector_model.specs.VolumeContents.{VolumeContents, IsSized, IsFlushed, loose_count, volume_written, volume_zeroed, IsBrokenAt, with_found, volume_stopped, loose_of, loose_sectors, DiffersOnlyWhereLoose}
 use Rattle.sector_model.specs.Laws.{VolumesKeepTheirSize, IsStopped, DiffersInARow, FlushedIsNoneLoose, LooseThen}
 use Rattle.sector_model.specs.declared.sector.Sector.{Sector}
-use Rattle.sector_model.proofs.ItemAt.{slice_get-take, slice_get-drop, slice_get-replicate}
-use Rattle.sector_model.proofs.Replaced.{length-replaced, replaced-before, replaced-within, replaced-behind}
+use Rattle.basics.proofs.ItemAt.{slice_get-take, slice_get-drop, slice_get-replicate}
+use Rattle.basics.proofs.Replaced.{length-replaced, replaced-before, replaced-within, replaced-behind}
 
 -- ---- sizes
 
@@ -80,9 +80,6 @@ volume sectors loose = record { sectors = sectors; loose = loose }
 abbrev Same : List Bool → List Sector → List Sector → Type 0
 Same loose old new = (s : ℕ) → slice_get loose s ≡ Some false → slice_get new s ≡ slice_get old s
 
-some_same : (x y : Sector) → Some x ≡ Some y → x ≡ y
-some_same x y h = cc
-
 found_again : (loose : List Bool) (old new : List Sector) → length loose ≡ length old → length new ≡ length old → Same loose old new → new ≡ with_found loose old (loose_of loose new)
 found_again [] [] [] sized long same = refl
 found_again [] [] (y ∷ new) sized long same = absurd (omega arith)
@@ -90,7 +87,7 @@ found_again [] (x ∷ old) new sized long same = absurd (omega arith)
 found_again (b ∷ loose) [] new sized long same = absurd (omega arith)
 found_again (b ∷ loose) (x ∷ old) [] sized long same = absurd (omega arith)
 found_again (false ∷ loose) (x ∷ old) (y ∷ new) sized long same =
-    ap (λ (z : Sector). z ∷ new) (some_same y x (same 0 refl))
+    ap (λ (z : Sector). z ∷ new) (same_Some y x (same 0 refl))
     ∙ ap (λ (rest : List Sector). x ∷ rest) (found_again loose old new (omega arith) (omega arith) (λ s tight. same (suc s) tight))
 found_again (true ∷ loose) (x ∷ old) (y ∷ new) sized long same =
     ap (λ (rest : List Sector). y ∷ rest) (found_again loose old new (omega arith) (omega arith) (λ s tight. same (suc s) tight))
@@ -138,7 +135,7 @@ broken_others capacity first sectors old new sized fits broken s tight =
     elim (cases_lt s first) [
       | inl less ↦
           sym (slice_get-take new.sectors first s less) ∙ ap (λ (xs : List Sector). slice_get xs s) broken.before ∙ slice_get-take old.sectors first s less
-          ∙ sym (replaced-before old.sectors sectors first within s less)
+          ∙ sym (replaced-before old.sectors sectors first (omega (arith, within)) s less)
       | inr from ↦ elim (cases_lt s (first + length sectors)) [
         | inl inside ↦ absurd (tight_outside capacity first (length sectors) old.loose s sized.1 fits from inside tight)
         | inr past ↦
@@ -146,7 +143,7 @@ broken_others capacity first sectors old new sized fits broken s tight =
             sym (slice_get-drop new.sectors (first + length sectors) (s - (first + length sectors)) ∙ ap (slice_get new.sectors) at)
             ∙ ap (λ (xs : List Sector). slice_get xs (s - (first + length sectors))) broken.behind
             ∙ slice_get-drop old.sectors (first + length sectors) (s - (first + length sectors)) ∙ ap (slice_get old.sectors) at
-            ∙ sym (replaced-behind old.sectors sectors first within s past)
+            ∙ sym (replaced-behind old.sectors sectors first (omega (arith, within)) s past)
       ]
     ]
 
@@ -231,15 +228,15 @@ loose-at loose first n s fits =
     let within : first + length (replicate n true) ≤ length loose = omega (arith, k, fits) in
     elim (cases_lt s first) [
       | inl less ↦
-          at-default (replaced loose first (replicate n true)) s ∙ ap (λ (o : Option Bool). unwrap_or o false) (replaced-before loose (replicate n true) first within s less) ∙ sym (at-default loose s)
+          at-default (replaced loose first (replicate n true)) s ∙ ap (λ (o : Option Bool). unwrap_or o false) (replaced-before loose (replicate n true) first (omega (arith, within)) s less) ∙ sym (at-default loose s)
           ∙ sym (ap (λ b. get_or loose s false || b) (in-range first n s (inl less)) ∙ or-false (get_or loose s false))
       | inr from ↦ elim (cases_lt s (first + n)) [
         | inl inside ↦
             at-default (replaced loose first (replicate n true)) s
-            ∙ ap (λ (o : Option Bool). unwrap_or o false) (replaced-within loose (replicate n true) first within s from (omega (arith, k, inside)) ∙ slice_get-replicate n (s - first) true (omega arith))
+            ∙ ap (λ (o : Option Bool). unwrap_or o false) (replaced-within loose (replicate n true) first (omega (arith, within)) s from (omega (arith, k, inside)) ∙ slice_get-replicate n (s - first) true (omega arith))
             ∙ sym (ap (λ b. get_or loose s false || b && ltb s (first + n)) (le-leb first s from) ∙ ap (λ b. get_or loose s false || b) (lt-ltb s (first + n) inside) ∙ or-true (get_or loose s false))
         | inr past ↦
-            at-default (replaced loose first (replicate n true)) s ∙ ap (λ (o : Option Bool). unwrap_or o false) (replaced-behind loose (replicate n true) first within s (omega (arith, k, past))) ∙ sym (at-default loose s)
+            at-default (replaced loose first (replicate n true)) s ∙ ap (λ (o : Option Bool). unwrap_or o false) (replaced-behind loose (replicate n true) first (omega (arith, within)) s (omega (arith, k, past))) ∙ sym (at-default loose s)
             ∙ sym (ap (λ b. get_or loose s false || b) (in-range first n s (inr past)) ∙ or-false (get_or loose s false))
       ]
     ]

@@ -1,14 +1,11 @@
 -- A disk's contents are the list of its sectors, and nothing else: a write replaces the sectors of
 -- its range. So what writes leave of a disk is a fold, with which layers, snapshots and copies are
 -- compared.
-use Rattle.std.specs.Prelude.{ℕ, ◌+◌, ◌≤◌, List, ◌++◌, length, take, drop, replicate}
+use Rattle.std.specs.Prelude.{ℕ, ◌+◌, ◌≤◌, List, length, replicate}
 use Rattle.std.specs.List.{fold}
+use Rattle.basics.specs.Replaced.{replaced}
 use Rattle.sector_model.specs.Sector.{zero_sector}
 use Rattle.sector_model.specs.declared.sector.Sector.{Sector}
-
--- xs with ys in place of the items from `first` on
-abbrev pub replaced : {X : Type 0} → (xs : List X) (first : ℕ) (ys : List X) → List X
-replaced xs first ys = take first xs ++ ys ++ drop (first + length ys) xs
 
 -- the first sector of a write, and what it writes from there on
 pub record Write : Type 0 where

@@ -2,7 +2,7 @@
 use Rattle.std.specs.Prelude.{◌≡◌, ℕ, ◌+◌, ◌≤◌, List, [], length, map, Bool, ◌||◌}
 use Rattle.std.specs.List.{range_with_len, sum_by, All}
 use Rattle.sector_model.specs.Run.{end_of, has, in_runs, AreSpaced}
-use Rattle.sector_model.specs.Disk.{replaced}
+use Rattle.basics.specs.Replaced.{replaced}
 use Rattle.sector_model.specs.VolumeContents.{VolumeContents, loose_count, volume_written, volume_flushed}
 use Rattle.sector_model.specs.declared.run.Run.{Run}
 use Rattle.sector_model.specs.declared.sector.Sector.{Sector}

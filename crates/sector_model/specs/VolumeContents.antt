@@ -4,7 +4,7 @@
 -- stop. A failed flush leaves it as it was.
 use Rattle.std.specs.Prelude.{◌≡◌, ℕ, ◌+◌, List, [], ◌∷◌, length, take, drop, replicate, Bool, true, false, Some, slice_get, slice_index_or, count_by}
 use Rattle.sector_model.specs.Sector.{zero_sector}
-use Rattle.sector_model.specs.Disk.{replaced}
+use Rattle.basics.specs.Replaced.{replaced}
 use Rattle.sector_model.specs.declared.sector.Sector.{Sector}
 
 pub record VolumeContents : Type 0 where

@@ -6,7 +6,7 @@ use Rattle.std.specs.List.{slice_get}
 use borrow.Rule.Slice.PartMut.{put_mid, post_of}
 use Rattle.std.proofs.lemmas.Bool.{false≢true, cases_lt, cases_eq, ne_eqb}
 use Rattle.snapshot_chain.proofs.Masks.{empty_none}
-use Rattle.sector_model.proofs.ItemAt.{slice_get-front, slice_get-back, slice_get-take}
+use Rattle.basics.proofs.ItemAt.{slice_get-front, slice_get-back, slice_get-take}
 use Rattle.std.proofs.lemmas.List.{drop_all, get_or_default}
 use Rattle.std.proofs.Math.Seq.{drop-cons}
 use Rattle.std.proofs.Math.Nat.{mul-suc}

@@ -10,6 +10,7 @@ use Rattle.std.proofs.lemmas.Nat.{ones_cat, one_shl, mod-pow-add, mod-mul-add, m
 use Rattle.std.proofs.lemmas.Nat.Bits.{bit_at_cat_low, bit_at_cat_high, bit_at_above, bit_at-lt, and_pow, bit_at-trailing_zeros}
 use Rattle.std.specs.Int.Bits.{or_shifted_r}
 use Rattle.std.proofs.lemmas.Bool.{cases_eq, cases_lt, eqb-true, eq-eqb, ne_eqb}
+use Rattle.basics.proofs.ItemAt.{slice_get-front, slice_get-last}
 use Rattle.sector_model.specs.declared.sector.Sector.{Sector}
 use Rattle.snapshot_chain.specs.Page128.{PageState, no_sectors, has_offset, rank, sector_at, with_sector, IsPage, IsReplaced}
 
@@ -69,15 +70,6 @@ rank_less m k set =
     ap count_ones (sym (div-add-mod' m (2 ^ k))) ∙ ones_cat k (m / 2 ^ k) (m % 2 ^ k) (mod_below m (2 ^ k) (pow_pos k)) in
     omega (arith, parts, some_above m k set)
 
-front : {X : Type 0} (xs ys : List X) (k : ℕ) → k < length xs → slice_get (xs ++ ys) k ≡ slice_get xs k
-front [] ys k less = absurd (omega arith)
-front (x ∷ xs) ys zero less = refl
-front (x ∷ xs) ys (suc k) less = front xs ys k (omega arith)
-
-back : {X : Type 0} (xs : List X) (y : X) → slice_get (xs ++ y ∷ []) (length xs) ≡ Some y
-back [] y = refl
-back (x ∷ xs) y = back xs y
-
 chosen : {X : Type 0} (b : Bool) (x y z : Option X) → (b ≡ true → x ≡ y) → cond b x z ≡ cond b y z
 chosen true x y z h = h refl
 chosen false x y z h = refl
@@ -87,12 +79,12 @@ pub grown-below : (page : PageState) (offset k : ℕ) (sector : Sector) → leng
 grown-below page offset k sector long above less =
     rw (bit_below page.mask offset k less, rank_below page.mask offset k above (omega arith))
     (chosen (has_offset page.mask k) (slice_get (page.sectors ++ sector ∷ []) (rank page.mask k)) (slice_get page.sectors (rank page.mask k)) None
-    (λ set. front page.sectors (sector ∷ []) (rank page.mask k) (omega (arith, rank_less page.mask k (eqb-true (bit_at page.mask k) 1 set), long))))
+    (λ set. slice_get-front page.sectors (sector ∷ []) (rank page.mask k) (omega (arith, rank_less page.mask k (eqb-true (bit_at page.mask k) 1 set), long))))
 
 pub grown-here : (page : PageState) (offset : ℕ) (sector : Sector) → length page.sectors ≡ count_ones page.mask → page.mask < 2 ^ offset
     → sector_at (with_sector page offset sector) offset ≡ Some sector
 grown-here page offset sector long above =
-    rw (bit_here page.mask offset above, rank_here page.mask offset above, ← long) (back page.sectors sector)
+    rw (bit_here page.mask offset above, rank_here page.mask offset above, ← long) (slice_get-last page.sectors sector)
 
 pub above_none : (page : PageState) (offset k : ℕ) → page.mask < 2 ^ offset → offset ≤ k → sector_at page k ≡ None
 above_none page offset k above le = rw (bit_at_above page.mask offset k above le) refl

@@ -6,17 +6,17 @@ use Rattle.std.proofs.lemmas.Bool.{eq-eqb, cases_eq, cases_lt, ne_eqb, lt-ltb, l
 use Rattle.std.proofs.lemmas.List.{take_all, ext_get_or, get_or-take, get_or-drop}
 use Rattle.std.proofs.lemmas.List.FromFn.{length-map-range_with_len, get_or-map-range_with_len}
 use Rattle.std.proofs.lemmas.Option.{slice_get_past, slice_get-get_or, get_or_from_slice_get, unwrap_or-slice_get}
-use Rattle.sector_model.proofs.Replaced.{length-replaced, replaced-before, replaced-within, replaced-behind}
+use Rattle.basics.proofs.Replaced.{length-replaced, replaced-before, replaced-within, replaced-behind}
 use Rattle.sector_model.proofs.Touched.{filter-range_same}
 use Rattle.snapshot_chain.proofs.Writes.{run_before, run_from}
 use Rattle.snapshot_chain.proofs.Touching.{among, has_more}
 use Rattle.sector_model.specs.Sector.{zero_sector}
-use Rattle.sector_model.specs.Run.{block_count, touches}
-use Rattle.sector_model.specs.Disk.{replaced}
+use Rattle.sector_model.specs.Run.{block_count, range_of, touches, with_met}
+use Rattle.basics.specs.Replaced.{replaced}
 use Rattle.sector_model.specs.declared.sector.Sector.{Sector}
 use Rattle.snapshot_chain.specs.Page128.{run_at}
 use Rattle.snapshot_chain.specs.Layer.{LayerState, sector_in, HasSame, IsWritten, IsMerged}
-use Rattle.snapshot_chain.specs.Chain.{contents_of, with_touched, after_writing, after_freezing, after_merging, fresh}
+use Rattle.snapshot_chain.specs.Chain.{contents_of, after_writing, after_freezing, after_merging, fresh}
 use Rattle.snapshot_chain.specs.Layers.{found, sector_found, contents_in, has_found, blocks_in, snapshot_in, snapshots_in, layer_at}
 use Rattle.snapshot_chain.specs.Kept.{state_of, AreIds}
 use Rattle.snapshot_chain.specs.Reading.{layers_seen}
@@ -130,14 +130,14 @@ replaced-made f first ys c fits =
     at s less =
         let within : first + length ys ≤ length (map f (range_with_len 0 c)) = omega (arith, fits, length-map-range_with_len f 0 c) in
         elim (cases_lt s first) [
-          | inl before ↦ replaced-before (map f (range_with_len 0 c)) ys first within s before ∙ made s less ∙ sym (ap (λ (o : Option Sector). Some (unwrap_or o (f s))) (run_before first ys s before))
+          | inl before ↦ replaced-before (map f (range_with_len 0 c)) ys first (omega (arith, within)) s before ∙ made s less ∙ sym (ap (λ (o : Option Sector). Some (unwrap_or o (f s))) (run_before first ys s before))
           | inr from ↦ elim (cases_lt s (first + length ys)) [
             | inl mid ↦
                 let there : slice_get ys (s - first) ≡ Some (get_or ys (s - first) (f s)) = slice_get-get_or ys (s - first) (f s) (omega (arith, from, mid)) in
-                replaced-within (map f (range_with_len 0 c)) ys first within s from mid ∙ there
+                replaced-within (map f (range_with_len 0 c)) ys first (omega (arith, within)) s from mid ∙ there
                 ∙ sym (ap (λ (o : Option Sector). Some (unwrap_or o (f s))) (run_from first ys s from ∙ there))
             | inr past ↦
-                replaced-behind (map f (range_with_len 0 c)) ys first within s past ∙ made s less
+                replaced-behind (map f (range_with_len 0 c)) ys first (omega (arith, within)) s past ∙ made s less
                 ∙ sym (ap (λ (o : Option Sector). Some (unwrap_or o (f s))) (run_from first ys s from ∙ slice_get_past ys (s - first) (omega (arith, past))))
           ]
         ]
@@ -164,7 +164,7 @@ written_state c layers ids free freeze_room merge_room first sectors new long fi
     contents : contents_in c (set layers (length ids) new) ≡ replaced (contents_in c layers) first sectors
     contents = map-same (sector_found (set layers (length ids) new)) (λ s. unwrap_or (run_at first sectors s) (sector_found layers s)) 0 c each ∙ sym (replaced-made (sector_found layers) first sectors c fits)
 
-    blocks : blocks_in c (set layers (length ids) new) ≡ with_touched c (record { first = first; sectors = sectors }) (blocks_in c layers)
+    blocks : blocks_in c (set layers (length ids) new) ≡ with_met c (range_of (record { first = first; sectors = sectors })) (blocks_in c layers)
     blocks = filter-range_same (has_found (set layers (length ids) new)) (λ b. list_any (nat_eq b) (blocks_in c layers) || touches b (record { first = first; sectors = sectors })) 0 (block_count c)
         (λ b from less. any-same (λ offset. is_some (found (set layers (length ids) new) b offset)) (λ offset. is_some (option_or (run_at first sectors (128 * b + offset)) (found layers b offset))) 0 128
         (λ offset low within. ap is_some (more b offset (omega (arith, within))))

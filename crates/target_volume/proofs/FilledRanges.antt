@@ -4,7 +4,7 @@ use Rattle.std.specs.Prelude.{replicate}
 use borrow.Rule.Slice.PartMut.{put_mid}
 use Rattle.std.proofs.lemmas.List.{length-take, length-drop, length-replicate, take_all}
 use Rattle.std.proofs.lemmas.Slice.{put_mid-paste}
-use Rattle.sector_model.specs.Disk.{replaced}
+use Rattle.basics.specs.Replaced.{replaced}
 
 pub filled_range : {X : Type 0} (xs ys : List X) (at n : ℕ) (x : X) → at + n ≤ length xs
     → ys ≡ replicate (length (take (at + n - at) (drop at xs))) x → put_mid at (at + n - at) xs ys ≡ replaced xs at (replicate n x)

@@ -2,7 +2,7 @@
 use Rattle.std.specs.Prelude.{ℕ, List, length, replicate, true, false, Some}
 use Rattle.basics.specs.Calls.{CallLog, no_calls, never_fails, after_call}
 use Rattle.basics.specs.Faults.{counted_by}
-use Rattle.sector_model.specs.Disk.{replaced}
+use Rattle.basics.specs.Replaced.{replaced}
 use Rattle.sector_model.specs.Sector.{filled}
 use Rattle.sector_model.specs.VolumeContents.{VolumeContents, volume_written, volume_zeroed, volume_flushed}
 use Rattle.sector_model.specs.declared.sector.Sector.{Sector}

@@ -2,7 +2,7 @@
 //! should.
 ghost use Rattle.std.specs.Prelude.{◌≡◌, ◌+◌, ◌≤◌, ◌↔◌, length, take, drop, replicate, true, false, is_ok, IsTrue, IsOk, IsErr, IfSome, IfOk, OnOk, OnErr};
 ghost use Rattle.basics.specs.Calls.{FailsNext, after_call};
-ghost use Rattle.sector_model.specs.Disk.{replaced};
+ghost use Rattle.basics.specs.Replaced.{replaced};
 ghost use Rattle.sector_model.specs.VolumeContents.{IsSized};
 ghost use Rattle.target_volume.specs.MemVolume.{held_state, fresh_held, held_written, held_zeroed, held_flushed, held_broken, volume_state};
 ghost use Rattle.target_volume.specs.Volume.{after_write, after_zero, after_flush, VolumeFails, Breaks};

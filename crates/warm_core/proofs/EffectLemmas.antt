@@ -9,7 +9,7 @@ use Rattle.sector_model.specs.Page.{PageContents, page_from, LiesWithin}
 use Rattle.sector_model.specs.Sector.{zero_sector}
 use Rattle.sector_model.specs.declared.run.Run.{Run}
 use Rattle.sector_model.specs.declared.sector.Sector.{Sector}
-use Rattle.sector_model.proofs.ItemAt.{slice_get-take, slice_get-drop}
+use Rattle.basics.proofs.ItemAt.{slice_get-take, slice_get-drop}
 use Rattle.change_id.specs.declared.ChangeId.{ChangeId}
 use Rattle.log_model.specs.declared.entry.Entry.{Entry}
 use Rattle.log_model.specs.declared.link.Snapped.{Snapped}

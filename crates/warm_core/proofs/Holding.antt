@@ -9,7 +9,7 @@ use Rattle.sector_model.specs.Run.{in_blocks}
 use Rattle.sector_model.specs.Sector.{zero_sector}
 use Rattle.sector_model.specs.VolumeContents.{VolumeContents, IsSized, is_loose, volume_written, IsBrokenAt, DiffersOnlyWhereLoose}
 use Rattle.sector_model.specs.declared.sector.Sector.{Sector}
-use Rattle.sector_model.proofs.Replaced.{replaced-outside, replaced-within}
+use Rattle.basics.proofs.Replaced.{replaced-outside, replaced-within}
 use Rattle.sector_model.proofs.Volumes.{loose_then, broken_is_written, written-sized}
 use Rattle.log_model.specs.declared.entry.Entry.{Entry}
 use Rattle.log_model.specs.declared.link.Snapped.{Snapped}

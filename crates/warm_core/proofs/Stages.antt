@@ -11,7 +11,7 @@ use Rattle.sector_model.specs.Disk.{fresh_disk}
 use Rattle.sector_model.specs.VolumeContents.{VolumeContents, IsSized, IsFlushed, is_loose, volume_written, volume_zeroed, volume_flushed, IsBrokenAt}
 use Rattle.sector_model.specs.declared.run.Run.{Run}
 use Rattle.sector_model.specs.declared.sector.Sector.{Sector}
-use Rattle.sector_model.proofs.ItemAt.{slice_get-take, slice_get-drop, slice_get-replicate}
+use Rattle.basics.proofs.ItemAt.{slice_get-take, slice_get-drop, slice_get-replicate}
 use Rattle.sector_model.proofs.Volumes.{loose_then, flushed_is_none_loose, written-sized, keep_their_size}
 use Rattle.change_id.specs.declared.ChangeId.{ChangeId}
 use Rattle.log_model.specs.declared.entry.Entry.{Entry}

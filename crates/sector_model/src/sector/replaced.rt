@@ -1,6 +1,6 @@
 //! A list of sectors in which some are replaced.
 ghost use Rattle.std.specs.Prelude.{◌≡◌, ◌+◌, ◌≤◌, length};
-ghost use Rattle.sector_model.specs.Disk.{replaced};
+ghost use Rattle.basics.specs.Replaced.{replaced};
 
 use crate::{Sector, SectorList};
 

@@ -1,5 +1,6 @@
 use Rattle.std.proofs.Common.{◌≡◌, ℕ, suc, ◌+◌, ◌-◌, ◌≤◌, ◌/◌, ◌^◌, List, [], ◌∷◌, ◌++◌, sym, ◌∙◌, ap, length, arith, append_assoc, length-append}
-use Rattle.edge_traits.specs.MemDisk.{noise, advance}
+use Rattle.basics.specs.Generator.{advance}
+use Rattle.edge_traits.specs.MemDisk.{noise}
 use Rattle.edge_traits.proofs.Images.{length-noise}
 use Rattle.edge_traits.proofs.overlay.noise.Goals as goal
 

@@ -1,12 +1,9 @@
-use Rattle.std.proofs.Common.{◌≡◌, ℕ, ◌-◌, ◌<◌, ◌^◌, List, [], ◌∷◌, ◌++◌, length, get_or, Some, append_assoc, length-append, sym, ap, ◌∙◌, arith}
-use Rattle.sector_model.specs.Run.{end_of, in_blocks, next_run}
+use Rattle.std.proofs.Common.{◌≡◌, ℕ, ◌-◌, List, [], ◌∷◌, ◌++◌, length, get_or, append_assoc, length-append, sym, ap, ◌∙◌, arith}
+use Rattle.sector_model.specs.Run.{end_of}
 use Rattle.sector_model.specs.Page.{PageContents, areas_from}
 use Rattle.sector_model.specs.declared.run.Run.{Run}
-use Rattle.sector_model.proofs.Spacing.{SpacedWithin, runs_of-spaced}
-use Rattle.sector_model.proofs.NextRun.{Next, next_is, areas_from-none}
-use Rattle.sector_model.proofs.PageMade.{last_pushed, full_page, last_page}
-use Rattle.change_tracker.specs.declared.word.Window.{Window}
-use Rattle.change_tracker.specs.Touches.{TouchState, blocks_in, areas_in}
+use Rattle.sector_model.proofs.PageMade.{last_pushed}
+use Rattle.change_tracker.specs.Touches.{areas_in}
 use Rattle.change_tracker.proofs.AreasIn.{next_facts, full_then, full_last}
 use Rattle.change_tracker.proofs.touches.Touches.fill_page.Goals as goal
 use Rattle.change_tracker.proofs.touches.Touches.fill_page.Goals.{in-Some-next_block, in-None}

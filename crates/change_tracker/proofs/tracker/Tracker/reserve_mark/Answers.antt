@@ -1,7 +1,5 @@
-use Rattle.std.proofs.Common.{◌≡◌, Option, Some, Result, Ok, Err, OnErr, sym, ap, subst, refl, ◌∙◌, true, rules}
-use Rattle.sector_model.specs.declared.run.Run.{Run}
+use Rattle.std.proofs.Common.{◌≡◌, Some, ap, ◌∙◌, true, rules}
 use Rattle.change_tracker.specs.Tracker.{TrackerState, is_within}
-use Rattle.change_tracker.specs.Kept.{state_of}
 use Rattle.change_tracker.proofs.States.{same_state}
 use Rattle.change_tracker.proofs.Results.{refuse_within, only_memory, on_err}
 use Rattle.change_tracker.proofs.tracker.Tracker.reserve_mark.Goals as goal
