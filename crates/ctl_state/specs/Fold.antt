@@ -6,11 +6,12 @@ use Rattle.plan_model.specs.declared.plan.Plan.{Plan}
 use Rattle.plan_model.specs.declared.way.Cutover.{Cutover}
 use Rattle.record_codec.specs.declared.record.Record.{Record}
 use Rattle.record_codec.specs.declared.record.Record.TheVariants.{PlanMade, MigrationStarted, Chosen, SnapTaken, IdsStored, VolumesMade, CheckpointAdded, StageBegun, StageDone, Paused, SnapRemoved, CutoverSet, PowerStored, PoweredOff, OffSeen, FinalSnapTaken, CancelAsked, Ended}
+use Rattle.record_codec.specs.Record.{migration_of}
 use Rattle.ctl_state.specs.declared.migration.Migration.{Migration}
 use Rattle.ctl_state.specs.declared.plans.PlanCourse.{PlanCourse}
 use Rattle.ctl_state.specs.Value.{CtlValue, no_records, new_course, migration_in, change_numbered}
 use Rattle.ctl_state.specs.Steps.{new_migration, after_step}
-use Rattle.ctl_state.specs.MayStand.{may_stand}
+use Rattle.ctl_state.specs.MayStand.{record_may_stand}
 
 abbrev pub plan_of : (plan : ℕ) (name : List ℕ) (interval : ℕ) (vms : List ℕ) → Plan
 plan_of plan name interval vms =
@@ -40,6 +41,7 @@ after_step_in v mig r =
 abbrev pub plan_of_migration : CtlValue → (mig : ℕ) → ℕ
 plan_of_migration v mig = option_map_or (λ m. m.plan) (migration_in v mig) 0
 
+-- what makes or ends no migration changes that migration alone, or a plan's cutover
 abbrev pub after_record : CtlValue → Record → CtlValue
 after_record v (PlanMade plan name interval vms) = record v {
   plans = v.plans ++ plan_of plan name interval vms ∷ [];
@@ -49,32 +51,17 @@ after_record v (MigrationStarted mig plan vm disks) = record v {
   courses = change_numbered v.courses plan with_started;
   migrations = v.migrations ++ new_migration mig plan vm disks ∷ [];
 }
-after_record v (Chosen mig way at) = after_step_in v mig (Chosen mig way at)
-after_record v (SnapTaken mig snap mark) = after_step_in v mig (SnapTaken mig snap mark)
-after_record v (IdsStored mig ids) = after_step_in v mig (IdsStored mig ids)
-after_record v (VolumesMade mig) = after_step_in v mig (VolumesMade mig)
-after_record v (CheckpointAdded mig previous current last) =
-    after_step_in v mig (CheckpointAdded mig previous current last)
-after_record v (StageBegun mig disk) = after_step_in v mig (StageBegun mig disk)
-after_record v (StageDone mig disk written) = after_step_in v mig (StageDone mig disk written)
-after_record v (Paused mig at) = after_step_in v mig (Paused mig at)
-after_record v (SnapRemoved mig snap) = after_step_in v mig (SnapRemoved mig snap)
 after_record v (CutoverSet plan has at) =
     record v { courses = change_numbered v.courses plan (with_cutover (cutover_of has at)) }
-after_record v (PowerStored mig on) = after_step_in v mig (PowerStored mig on)
-after_record v (PoweredOff mig) = after_step_in v mig (PoweredOff mig)
-after_record v (OffSeen mig off) = after_step_in v mig (OffSeen mig off)
-after_record v (FinalSnapTaken mig snap mark place) =
-    after_step_in v mig (FinalSnapTaken mig snap mark place)
-after_record v (CancelAsked mig) = after_step_in v mig (CancelAsked mig)
 after_record v (Ended mig how place) = record (after_step_in v mig (Ended mig how place)) {
   courses = change_numbered v.courses (plan_of_migration v mig) with_ended;
 }
+after_record v r = option_map_or (λ mig. after_step_in v mig r) (migration_of r) v
 
 -- from a value on, with so many records before it
 abbrev pub after_from : (before : ℕ) → CtlValue → List Record → Result CtlValue ℕ
 after_from before v [] = Ok v
-after_from before v (r ∷ records) = if may_stand v r
+after_from before v (r ∷ records) = if record_may_stand v r
     then after_from (before + 1) (after_record v r) records else Err (before + 1)
 
 -- what all records come to, or the number, from 1 on, of the first that may not stand

@@ -5,7 +5,7 @@ use Rattle.record_codec.specs.declared.record.Record.{Record}
 use Rattle.record_codec.specs.declared.record.Record.TheVariants.{PlanMade, MigrationStarted, Chosen, SnapTaken, IdsStored, VolumesMade, CheckpointAdded, StageBegun, StageDone, Paused, SnapRemoved, CutoverSet, PowerStored, PoweredOff, OffSeen, FinalSnapTaken, CancelAsked, Ended}
 use Rattle.record_codec.specs.Record.{migration_of}
 use Rattle.ctl_state.specs.Value.{CtlValue, migration_in, plan_in, course_in}
-use Rattle.ctl_state.specs.MayStand.{may_stand}
+use Rattle.ctl_state.specs.MayStand.{record_may_stand}
 use Rattle.ctl_state.specs.Fold.{after_record, after_from, after, plan_of_migration}
 
 -- what came of a front, with the rest behind it
@@ -21,30 +21,17 @@ ListsJoin = (front rest : List Record)
 abbrev pub plan_changed : CtlValue → Record → Option ℕ
 plan_changed v (PlanMade plan name interval vms) = Some plan
 plan_changed v (MigrationStarted mig plan vm disks) = Some plan
-plan_changed v (Chosen mig way at) = None
-plan_changed v (SnapTaken mig snap mark) = None
-plan_changed v (IdsStored mig ids) = None
-plan_changed v (VolumesMade mig) = None
-plan_changed v (CheckpointAdded mig previous current last) = None
-plan_changed v (StageBegun mig disk) = None
-plan_changed v (StageDone mig disk written) = None
-plan_changed v (Paused mig at) = None
-plan_changed v (SnapRemoved mig snap) = None
 plan_changed v (CutoverSet plan has at) = Some plan
-plan_changed v (PowerStored mig on) = None
-plan_changed v (PoweredOff mig) = None
-plan_changed v (OffSeen mig off) = None
-plan_changed v (FinalSnapTaken mig snap mark place) = None
-plan_changed v (CancelAsked mig) = None
 plan_changed v (Ended mig how place) = Some (plan_of_migration v mig)
+plan_changed v r = None
 
 abbrev pub OtherMigrationsStay : Type 0
-OtherMigrationsStay = (v : CtlValue) (r : Record) (mig : ℕ) → may_stand v r ≡ true
+OtherMigrationsStay = (v : CtlValue) (r : Record) (mig : ℕ) → record_may_stand v r ≡ true
     → migration_of r ≢ Some mig → migration_in (after_record v r) mig ≡ migration_in v mig
 
 abbrev pub OtherPlansStay : Type 0
 OtherPlansStay = (v : CtlValue) (r : Record) (plan : ℕ)
-    → length v.courses ≡ length v.plans → may_stand v r ≡ true
+    → length v.courses ≡ length v.plans → record_may_stand v r ≡ true
     → plan_changed v r ≢ Some plan
     → (plan_in (after_record v r) plan ≡ plan_in v plan)
     × (course_in (after_record v r) plan ≡ course_in v plan)

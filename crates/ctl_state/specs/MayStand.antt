@@ -10,13 +10,20 @@ use Rattle.checkpoints.specs.DataVolume.{add_refusal}
 use Rattle.phase_table.specs.declared.phases.Phase.{Phase}
 use Rattle.phase_table.specs.declared.phases.Phase.TheVariants as Phases
 use Rattle.plan_model.specs.declared.plan.Plan.{Plan}
+use Rattle.plan_model.specs.Plans.{is_taken}
 use Rattle.record_codec.specs.declared.record.Record.{Record}
 use Rattle.record_codec.specs.declared.record.Record.TheVariants.{PlanMade, MigrationStarted, Chosen, SnapTaken, IdsStored, VolumesMade, CheckpointAdded, StageBegun, StageDone, Paused, SnapRemoved, CutoverSet, PowerStored, PoweredOff, OffSeen, FinalSnapTaken, CancelAsked, Ended}
+use Rattle.record_codec.specs.declared.record.Kind.TheVariants.{Ended as EndedKind}
+use Rattle.record_codec.specs.Record.{migration_of, kind_of, kind_byte}
 use Rattle.ctl_state.specs.declared.copies.TheConstants.{MAX_STAGE_SECTORS}
 use Rattle.ctl_state.specs.declared.migration.Migration.{Migration}
 use Rattle.ctl_state.specs.declared.plans.PlanCourse.{PlanCourse}
 use Rattle.ctl_state.specs.Migration.{same_phase, is_live, reached, current_snapshot, stored_place, is_left, is_being_copied, all_done}
-use Rattle.ctl_state.specs.Value.{CtlValue, numbered, migration_in, plan_in, course_in, plan_named, is_at_work}
+use Rattle.ctl_state.specs.Steps.{how_number}
+use Rattle.ctl_state.specs.declared.migration.How.TheVariants as Hows
+use Rattle.plan_model.specs.declared.way.Way.TheVariants as Ways
+use Rattle.plan_model.specs.Way.{way_number}
+use Rattle.ctl_state.specs.Value.{CtlValue, numbered, migration_in, plan_in, course_in, is_at_work, is_listed}
 
 -- the migration is in this phase, and no cancel stands
 abbrev pub goes_on_in : Migration → Phase → Bool
@@ -28,8 +35,9 @@ copies_disks m = same_phase m.phase Phases.CopyDisks || same_phase m.phase Phase
 
 -- the choice may be made: the first copy once, the others at each pause
 abbrev pub may_choose : Migration → (way : ℕ) → Bool
-may_choose m way = (goes_on_in m Phases.Started && way == 0)
-    || (goes_on_in m Phases.CopyingPaused && (way == 1 || way == 2))
+may_choose m way = (goes_on_in m Phases.Started && way == way_number Ways.Nothing)
+    || (goes_on_in m Phases.CopyingPaused
+    && (way == way_number Ways.Precopy || way == way_number Ways.Cutover))
 
 -- a later snapshot than that of the last checkpoint
 abbrev pub is_later : Migration → (snap : ℕ) → Bool
@@ -74,7 +82,7 @@ may_remove m snap =
     (goes_on_in m Phases.RemovePreviousSnapshot || goes_on_in m Phases.RemovePenultimateSnapshot)
     && snap == current_snapshot m
 
--- whether the machine is off is looked at once; that it is on is also seen at the final snapshot
+-- whether the machine is off is what its wait looks at; the final snapshot finds that it is on
 abbrev pub may_see : Migration → (off : Bool) → Bool
 may_see m off = goes_on_in m Phases.WaitForPowerOff
     || (not off && goes_on_in m Phases.CreateFinalSnapshot)
@@ -86,13 +94,18 @@ may_take_final m snap mark place =
 abbrev pub may_cancel : Migration → Bool
 may_cancel m = is_live m && not m.cancel
 
+-- the number of an end that is a failure
+abbrev pub is_failure : (how : ℕ) → Bool
+is_failure how = how == how_number Hows.FailedVolume || how == how_number Hows.FailedSpent
+
 -- completed with the stored place, after its last phase; cancelled where that was asked for; failed
 -- where it wasn't
 abbrev pub may_end : Migration → (how place : ℕ) → Bool
 may_end m how place =
-    if how == 0 then goes_on_in m Phases.RemoveFinalSnapshot && place == stored_place m
+    if how == how_number Hows.Completed
+    then goes_on_in m Phases.RemoveFinalSnapshot && place == stored_place m
     else is_live m && (place == 0
-    && (if how == 1 then m.cancel else (how == 2 || how == 3) && not m.cancel))
+    && (if how == how_number Hows.Cancelled then m.cancel else is_failure how && not m.cancel))
 
 -- the record of a migration may stand where the migration is so
 abbrev pub may_step : Migration → Record → Bool
@@ -117,24 +130,7 @@ may_step m (Ended mig how place) = may_end m how place
 
 -- the record ends a migration
 abbrev pub ends : Record → Bool
-ends (PlanMade plan name interval vms) = false
-ends (MigrationStarted mig plan vm disks) = false
-ends (Chosen mig way at) = false
-ends (SnapTaken mig snap mark) = false
-ends (IdsStored mig ids) = false
-ends (VolumesMade mig) = false
-ends (CheckpointAdded mig previous current last) = false
-ends (StageBegun mig disk) = false
-ends (StageDone mig disk written) = false
-ends (Paused mig at) = false
-ends (SnapRemoved mig snap) = false
-ends (CutoverSet plan has at) = false
-ends (PowerStored mig on) = false
-ends (PoweredOff mig) = false
-ends (OffSeen mig off) = false
-ends (FinalSnapTaken mig snap mark place) = false
-ends (CancelAsked mig) = false
-ends (Ended mig how place) = true
+ends r = kind_byte (kind_of r) == kind_byte EndedKind
 
 -- a migration of this number is there, and the record may stand for it
 abbrev pub may_step_at : List Migration → (mig : ℕ) → Record → Bool
@@ -147,11 +143,11 @@ may_step_in v mig r = may_step_at v.migrations mig r
 -- a machine stands again later in the list
 abbrev pub has_double : (vms : List ℕ) → Bool
 has_double [] = false
-has_double (vm ∷ vms) = list_any (λ other. other == vm) vms || has_double vms
+has_double (vm ∷ vms) = is_listed vms vm || has_double vms
 
 -- the number is the next one, and the name is new
 abbrev pub is_new_plan : CtlValue → (plan : ℕ) (name : List ℕ) → Bool
-is_new_plan v plan name = plan == length v.plans + 1 && is_none (plan_named v.plans name)
+is_new_plan v plan name = plan == length v.plans + 1 && not (is_taken name v.plans)
 
 -- there is a machine or more, and none is in some plan's unfinished work
 abbrev pub are_free : CtlValue → (vms : List ℕ) → Bool
@@ -180,24 +176,9 @@ abbrev pub may_cut_over : CtlValue → (plan : ℕ) (has : Bool) (at : ℕ) → 
 may_cut_over v plan has at =
     option_map_or (λ course. nat_lt 0 course.live) (course_in v plan) false && (has || at == 0)
 
-abbrev pub may_stand : CtlValue → Record → Bool
-may_stand v (PlanMade plan name interval vms) = may_plan v plan name vms
-may_stand v (MigrationStarted mig plan vm disks) = may_start v mig plan vm disks
-may_stand v (Chosen mig way at) = may_step_in v mig (Chosen mig way at)
-may_stand v (SnapTaken mig snap mark) = may_step_in v mig (SnapTaken mig snap mark)
-may_stand v (IdsStored mig ids) = may_step_in v mig (IdsStored mig ids)
-may_stand v (VolumesMade mig) = may_step_in v mig (VolumesMade mig)
-may_stand v (CheckpointAdded mig previous current last) =
-    may_step_in v mig (CheckpointAdded mig previous current last)
-may_stand v (StageBegun mig disk) = may_step_in v mig (StageBegun mig disk)
-may_stand v (StageDone mig disk written) = may_step_in v mig (StageDone mig disk written)
-may_stand v (Paused mig at) = may_step_in v mig (Paused mig at)
-may_stand v (SnapRemoved mig snap) = may_step_in v mig (SnapRemoved mig snap)
-may_stand v (CutoverSet plan has at) = may_cut_over v plan has at
-may_stand v (PowerStored mig on) = may_step_in v mig (PowerStored mig on)
-may_stand v (PoweredOff mig) = may_step_in v mig (PoweredOff mig)
-may_stand v (OffSeen mig off) = may_step_in v mig (OffSeen mig off)
-may_stand v (FinalSnapTaken mig snap mark place) =
-    may_step_in v mig (FinalSnapTaken mig snap mark place)
-may_stand v (CancelAsked mig) = may_step_in v mig (CancelAsked mig)
-may_stand v (Ended mig how place) = may_step_in v mig (Ended mig how place)
+-- what names no plan stands or falls with its migration
+abbrev pub record_may_stand : CtlValue → Record → Bool
+record_may_stand v (PlanMade plan name interval vms) = may_plan v plan name vms
+record_may_stand v (MigrationStarted mig plan vm disks) = may_start v mig plan vm disks
+record_may_stand v (CutoverSet plan has at) = may_cut_over v plan has at
+record_may_stand v r = option_map_or (λ mig. may_step_in v mig r) (migration_of r) false

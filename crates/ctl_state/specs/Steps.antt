@@ -6,6 +6,8 @@ use Rattle.std.specs.Option.{option_map_or}
 use Rattle.phase_table.specs.declared.phases.Phase.TheVariants as Phases
 use Rattle.phase_table.specs.declared.table.Fact.{Fact}
 use Rattle.phase_table.specs.declared.table.Fact.TheVariants as Facts
+use Rattle.plan_model.specs.declared.way.Way.TheVariants as Ways
+use Rattle.plan_model.specs.Way.{way_number}
 use Rattle.record_codec.specs.declared.record.Record.{Record}
 use Rattle.record_codec.specs.declared.record.Record.TheVariants.{PlanMade, MigrationStarted, Chosen, SnapTaken, IdsStored, VolumesMade, CheckpointAdded, StageBegun, StageDone, Paused, SnapRemoved, CutoverSet, PowerStored, PoweredOff, OffSeen, FinalSnapTaken, CancelAsked, Ended}
 use Rattle.ctl_state.specs.declared.migration.Migration.{Migration}
@@ -24,7 +26,8 @@ new_migration mig plan vm disks = record {
 
 -- the fact by which a choice leads on
 abbrev pub fact_of_way : (way : ℕ) → Fact
-fact_of_way way = if way == 1 then Facts.Precopy else if way == 2 then Facts.Cutover else Facts.Done
+fact_of_way way = if way == way_number Ways.Precopy then Facts.Precopy
+    else if way == way_number Ways.Cutover then Facts.Cutover else Facts.Done
 
 -- the fact by which an end is reached
 abbrev pub fact_of_end : How → Fact
@@ -33,11 +36,19 @@ fact_of_end Hows.Cancelled = Facts.Cancelled
 fact_of_end Hows.FailedVolume = Facts.Failed
 fact_of_end Hows.FailedSpent = Facts.Failed
 
--- the end of a number, 0 to 3
+-- the number under which records keep an end
+abbrev pub how_number : How → ℕ
+how_number Hows.Completed = 0
+how_number Hows.Cancelled = 1
+how_number Hows.FailedVolume = 2
+how_number Hows.FailedSpent = 3
+
+-- the end of a number
 abbrev pub how_of : ℕ → Option How
-how_of how = if how == 0 then Some Hows.Completed else if how == 1 then Some Hows.Cancelled
-    else if how == 2 then Some Hows.FailedVolume else if how == 3 then Some Hows.FailedSpent
-    else None
+how_of number = if number == how_number Hows.Completed then Some Hows.Completed
+    else if number == how_number Hows.Cancelled then Some Hows.Cancelled
+    else if number == how_number Hows.FailedVolume then Some Hows.FailedVolume
+    else if number == how_number Hows.FailedSpent then Some Hows.FailedSpent else None
 
 -- a snapshot is current from now on
 abbrev pub with_snapshot : (snap mark : ℕ) → Migration → Migration

@@ -4,12 +4,12 @@ ghost use Rattle.std.specs.Prelude.{◌≡◌, false, OnOk, OnErr};
 ghost use Rattle.basics.specs.Refusal.{IsRefusedOr};
 ghost use Rattle.record_codec.specs.declared.record.Record.{Record};
 ghost use Rattle.ctl_state.specs.Refusal.{strange_unless};
-ghost use Rattle.ctl_state.specs.MayStand.{may_stand, is_new_plan, are_free, may_plan, may_start, is_next, may_cut_over, may_step_in, ends};
+ghost use Rattle.ctl_state.specs.MayStand.{record_may_stand, is_new_plan, are_free, may_plan, may_start, is_next, may_cut_over, may_step_in, ends};
 ghost use Rattle.ctl_state.specs.Fold.{after_record, after_step_in};
 
 use crate::migration::{end_one, step_one};
 use crate::plans::{add_plan, cut_over, end_in, is_next_of, plan_of, start_one};
-use crate::work::{put_to_work, take_from_work};
+use crate::work::{begin_work, put_to_work, take_from_work};
 use crate::{CtlState, Migration, StateRefused};
 use basics::MAX_DISKS;
 use plan_model::{Cutover, Moment, Name, NumberList};
@@ -19,7 +19,7 @@ impl CtlState {
     /// The state behind one record more. [`StateRefused::Strange`] exactly where the record may not
     /// stand behind those before it. A refused record changes nothing.
     pub fn apply(&mut self, r: &Record) -> Result<(), StateRefused>
-        ensures refused { IsRefusedOr (strange_unless (may_stand self.old r.now))
+        ensures refused { IsRefusedOr (strange_unless (record_may_stand self.old r.now))
             StateRefused.NoMemory result }
         ensures applied { OnOk result (self.new ≡ after_record self.old r.now) }
         ensures kept { OnErr result (self.new ≡ self.old) }
@@ -100,6 +100,7 @@ impl CtlState {
         let migration = Migration::new(self.alloc, mig, plan, vm, disks)?;
         self.migrations.push(migration)?;
         start_one(&mut self.courses, plan);
+        begin_work(&mut self.work, vm, mig);
         Ok(())
     }
 
@@ -158,7 +159,7 @@ impl CtlState {
     fn are_free(&self, vms: &[u32]) -> bool
         ensures { result ≡ are_free self.now vms.now }
     {
-        !vms.is_empty() && !vms.iter().any(|vm| self.work.contains(vm))
+        !vms.is_empty() && !vms.iter().any(|vm| self.work.contains_key(vm))
     }
 
     fn may_start(&self, mig: u32, plan: u32, vm: u32, disks: u32) -> bool

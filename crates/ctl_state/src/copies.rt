@@ -5,13 +5,13 @@ ghost use Rattle.change_id.specs.declared.ChangeId.{ChangeId};
 ghost use Rattle.basics.specs.declared.limits.TheConstants.{MAX_DISKS};
 ghost use Rattle.ctl_state.specs.Migration.{new_copy, fresh_copy, begun_copy, done_copy, unnamed_copy, named_copies, change_at, all_done, sectors_written};
 
-use basics::{MAX_DISKS, NoMemory};
+use basics::{MAX_DISK_SECTORS, MAX_DISKS, NoMemory};
 use change_id::ChangeId;
 use std::alloc::{AllocError, Global};
 use std::marker::Model;
 
 /// The most sectors that a stage writes: a disk of the greatest size twice.
-pub const MAX_STAGE_SECTORS: u64 = 1 << 30;
+pub const MAX_STAGE_SECTORS: u64 = 2 * MAX_DISK_SECTORS;
 
 /// What the volume of a disk holds: the disk at the snapshot of this mark.
 #[derive(Clone, Copy, Debug, PartialEq, Eq)]

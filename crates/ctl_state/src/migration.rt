@@ -1,7 +1,7 @@
 //! One migration as its records left it, and what is read from that.
 ghost use Rattle.std.specs.Prelude.{◌≡◌, ◌≤◌, IfOk, OnOk, OnErr, length, option_map};
 ghost use Rattle.ctl_state.specs.Migration.{is_live, is_left, copy_of, since_base};
-ghost use Rattle.ctl_state.specs.Steps.{new_migration, how_of, end_by, after_step};
+ghost use Rattle.ctl_state.specs.Steps.{new_migration, how_number, how_of, end_by, after_step};
 ghost use Rattle.basics.specs.Refusal.{IsRefusedOr};
 ghost use Rattle.ctl_state.specs.Refusal.{strange_unless};
 ghost use Rattle.ctl_state.specs.Value.{change_numbered};
@@ -31,6 +31,18 @@ pub enum How {
 }
 
 impl How {
+    /// The number under which records keep it: 0, 1, 2, 3.
+    pub fn number(self) -> u8
+        ensures { result ≡ how_number self }
+    {
+        match self {
+            How::Completed => 0,
+            How::Cancelled => 1,
+            How::FailedVolume => 2,
+            How::FailedSpent => 3,
+        }
+    }
+
     /// The end of a number, 0 to 3. None for every other number.
     pub fn of(number: u8) -> Option<How>
         ensures { result ≡ how_of number }
@@ -72,7 +84,8 @@ pub struct Migration {
     pub last: Option<Moment>,
     /// How it ended. None while it is live.
     pub how: Option<How>,
-    /// The place of the power-off before its final snapshot, from that snapshot on.
+    /// The place of the power-off before its final snapshot, from that snapshot on, however it
+    /// ends.
     pub place: Option<u64>,
     pub(crate) mark: u64,
     pub(crate) volumes: bool,

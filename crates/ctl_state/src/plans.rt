@@ -16,9 +16,9 @@ use std::collections::BTreeMap;
 pub struct PlanCourse {
     /// Its cutover, once one is set.
     pub cutover: Option<Cutover>,
-    /// How many of its machines, from the first one on, have their migration.
+    /// How many of its machines, from the first one on, have their migration: up to all of them.
     pub started: usize,
-    /// How many of these migrations haven't ended.
+    /// How many of these migrations haven't ended: up to all of them.
     pub live: usize,
 }
 

@@ -10,20 +10,24 @@ use plan_model::{Moment, Way, due};
 use std::alloc::Global;
 use std::marker::Model;
 
-/// A piece of a migration's work, `mig` being its number.
+/// A piece of a migration's work.
 #[derive(Clone, Copy, Debug, PartialEq, Eq)]
 pub enum Job {
     /// What its phase does.
     Phase {
+        /// The number of the migration.
         mig: u32,
     },
     /// The copy of one disk.
     Copy {
+        /// The number of the migration.
         mig: u32,
+        /// The number of the disk.
         disk: u32,
     },
     /// The removal of what it left, before it ends cancelled or failed.
     Clean {
+        /// The number of the migration.
         mig: u32,
     },
 }

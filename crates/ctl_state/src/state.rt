@@ -1,14 +1,12 @@
 //! The state of the controller: plans, how far each is, and migrations, in order of their numbers.
-//! Beside them stand a map of the plans' names and the set of the machines at work, which say nothing
-//! more.
-ghost use Rattle.std.specs.Prelude.{◌≡◌, ℕ, ◌<◌, ◌≤◌, ◌-◌, length, option_copied};
-ghost use Rattle.std.specs.Option.{SomeIff};
-ghost use Rattle.ctl_state.specs.Value.{no_records, migration_in, plan_in, course_in, plan_named, is_at_work};
+//! Beside them stand maps of the plans' names and of the machines at work, which say nothing more.
+ghost use Rattle.std.specs.Prelude.{◌≡◌, option_copied};
+ghost use Rattle.ctl_state.specs.Value.{no_records, migration_in, plan_in, course_in, plan_named, is_at_work, live_on};
 
 use crate::{Migration, PlanCourse};
 use plan_model::{Name, Plan};
 use std::alloc::Global;
-use std::collections::{BTreeMap, BTreeSet};
+use std::collections::BTreeMap;
 use std::marker::Model;
 
 /// What the records so far come to.
@@ -18,7 +16,7 @@ pub struct CtlState {
     pub(crate) courses: Vec<PlanCourse>,
     pub(crate) migrations: Vec<Migration>,
     pub(crate) names: BTreeMap<Name, u32>,
-    pub(crate) work: BTreeSet<u32>,
+    pub(crate) work: BTreeMap<u32, Option<u32>>,
     pub(crate) alloc: Global,
 }
 
@@ -46,7 +44,7 @@ impl CtlState {
             courses: Vec::new(alloc),
             migrations: Vec::new(alloc),
             names: BTreeMap::new(alloc),
-            work: BTreeSet::new(alloc),
+            work: BTreeMap::new(alloc),
             alloc,
         }
     }
@@ -94,7 +92,17 @@ impl CtlState {
     pub fn is_at_work(&self, vm: u32) -> bool
         ensures { result ≡ is_at_work self.now vm }
     {
-        self.work.contains(&vm)
+        self.work.contains_key(&vm)
+    }
+
+    /// The number of the machine's live migration. None exactly where it has none.
+    pub fn live_on(&self, vm: u32) -> Option<u32>
+        ensures { result ≡ live_on self.now.migrations vm }
+    {
+        match self.work.get(&vm) {
+            Some(live) => *live,
+            None => None,
+        }
     }
 
     /// The migrations, in order of their numbers.

@@ -1,20 +1,17 @@
-//! The machines that are in some plan's unfinished work, as a set, so that a plan's machines are
-//! looked up one by one. A plan puts all of its machines in, or none.
-ghost use Rattle.std.specs.Prelude.{◌≡◌, ℕ, ◌==◌, ◌&&◌, ◌||◌, not, Bool, true, false, OnOk, OnErr};
-ghost use Rattle.std.specs.List.{list_any};
-ghost use Rattle.std.specs.BTreeSet.{contains};
-ghost use Rattle.std.specs.Ordering.{nat_cmp};
+//! The machines that are in some plan's unfinished work, each with its live migration, if it has one,
+//! so that machines are looked up one by one. A plan puts all of its machines in, or none.
+ghost use Rattle.std.specs.Prelude.{◌≡◌, not, OnOk, OnErr};
 ghost use Rattle.basics.specs.Refusal.{IsRefusedOr};
 ghost use Rattle.ctl_state.specs.Refusal.{strange_unless};
 ghost use Rattle.ctl_state.specs.MayStand.{has_double};
-ghost use Rattle.ctl_state.specs.Work.{HasNone, Joins, Leaves, HasSame, why_not};
+ghost use Rattle.ctl_state.specs.Work.{HasNone, Joins, Leaves, HasSame, Begins, why_not};
 
 use crate::StateRefused;
-use std::collections::BTreeSet;
+use std::collections::BTreeMap;
 
-/// Puts these machines, none of which is in the set, into it. Strange exactly where one stands twice;
-/// then, and for want of memory, the set stays.
-pub(crate) fn put_to_work(work: &mut BTreeSet<u32>, vms: &[u32]) -> Result<(), StateRefused>
+/// Puts these machines, none of which is in the map, into it, all waiting. Strange exactly where one
+/// stands twice; then, and for want of memory, the map stays.
+pub(crate) fn put_to_work(work: &mut BTreeMap<u32, Option<u32>>, vms: &[u32]) -> Result<(), StateRefused>
     requires { HasNone work.old vms.now }
     ensures refused { IsRefusedOr (strange_unless (not (has_double vms.now)))
         StateRefused.NoMemory result }
@@ -23,9 +20,9 @@ pub(crate) fn put_to_work(work: &mut BTreeSet<u32>, vms: &[u32]) -> Result<(), S
 {
     let mut left = vms.len();
     while left > 0 {
-        match work.insert(vms[left - 1]) {
-            Ok(true) => left -= 1,
-            Ok(false) => {
+        match work.insert(vms[left - 1], None) {
+            Ok(None) => left -= 1,
+            Ok(Some(_)) => {
                 take_from_work(work, &vms[left..]);
                 return Err(StateRefused::Strange);
             }
@@ -38,8 +35,17 @@ pub(crate) fn put_to_work(work: &mut BTreeSet<u32>, vms: &[u32]) -> Result<(), S
     Ok(())
 }
 
-/// Takes these machines out of the set.
-pub(crate) fn take_from_work(work: &mut BTreeSet<u32>, vms: &[u32])
+/// The machine, which waits, has its migration from now on.
+pub(crate) fn begin_work(work: &mut BTreeMap<u32, Option<u32>>, vm: u32, mig: u32)
+    ensures { Begins work.old work.new vm mig }
+{
+    if let Some(live) = work.get_mut(&vm) {
+        *live = Some(mig);
+    }
+}
+
+/// Takes these machines out of the map.
+pub(crate) fn take_from_work(work: &mut BTreeMap<u32, Option<u32>>, vms: &[u32])
     ensures { Leaves work.old work.new vms.now }
 {
     for vm in vms {
