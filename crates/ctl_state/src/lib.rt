@@ -5,12 +5,14 @@
 
 mod apply;
 mod copies;
+mod effect;
 mod laws;
 mod marks;
 mod migration;
 mod plans;
 mod ready;
 mod refusal;
+mod sound;
 mod state;
 mod steps;
 mod task;
@@ -20,11 +22,13 @@ mod work;
 
 pub use basics::NoMemory;
 pub use copies::{CopyBase, CopyList, DiskCopy, MAX_STAGE_SECTORS};
+pub use effect::{clean_ups_leave_none, effects_are_one, effects_may_stand, tasks_tell_jobs};
 pub use laws::{lists_join, records_change_their_own};
 pub use marks::MarkList;
 pub use migration::{How, Migration};
 pub use plans::PlanCourse;
 pub use ready::{Job, JobList};
 pub use refusal::StateRefused;
+pub use sound::{migrations_come_of_records, other_jobs_stay, values_are_sound};
 pub use state::CtlState;
 pub use task::{Controller, Did, PhaseTask};
