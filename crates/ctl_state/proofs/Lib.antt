@@ -1,2 +1,3 @@
-
+pub mod CopyFacts
+pub mod ListFacts
 pub mod Effects

@@ -48,10 +48,14 @@ may_take m snap =
     (goes_on_in m Phases.CreateInitialSnapshot || goes_on_in m Phases.CreateSnapshot)
     && is_later m snap
 
--- one identifier a disk, and each has a number from 1 on
+-- each identifier has a number from 1 on
+abbrev pub have_numbers : List ChangeId → Bool
+have_numbers ids = list_all (λ id. nat_lt 0 id.seq) ids
+
+-- one identifier a disk
 abbrev pub may_store : Migration → List ChangeId → Bool
 may_store m ids = (goes_on_in m Phases.StoreInitialIds || goes_on_in m Phases.StoreIds)
-    && (length ids == m.disks && list_all (λ id. nat_lt 0 id.seq) ids)
+    && (length ids == m.disks && have_numbers ids)
 
 -- the snapshot is the current one
 abbrev pub is_current : Migration → (snap : ℕ) → Bool

@@ -63,13 +63,17 @@ without_snapshot m = record m { snap = None; mark = 0 }
 abbrev pub finished_volume : DataVolumeState → DataVolumeState
 finished_volume dv = if is_none (done_refusal dv.checkpoints) then after_done dv else dv
 
--- the last checkpoint is finished; a final one leads on, another waits for its pause
+-- the volume has its checkpoint; a final one leads on, another waits for its pause
+abbrev pub with_volume_done : Migration → Migration
+with_volume_done m = let finished = record m { dv = finished_volume m.dv } in
+    if same_phase m.phase Phases.CopyFinal then moved finished Facts.Done else finished
+
+-- the last checkpoint is finished, and counts
 abbrev pub with_checkpoint_done : Migration → Migration
-with_checkpoint_done m = let finished = record m {
-    dv = finished_volume m.dv;
-    marks = m.marks ++ m.mark ∷ [];
-    written = m.written ++ sectors_written m.copies ∷ [];
-  } in if same_phase m.phase Phases.CopyFinal then moved finished Facts.Done else finished
+with_checkpoint_done m = with_volume_done (record m {
+  marks = m.marks ++ m.mark ∷ [];
+  written = m.written ++ sectors_written m.copies ∷ [];
+})
 
 -- with the stage of its last disk the checkpoint is finished
 abbrev pub with_stage_done : (disk written : ℕ) → Migration → Migration

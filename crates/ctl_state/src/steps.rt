@@ -3,8 +3,8 @@ ghost use Rattle.std.specs.Prelude.{◌≡◌, ◌≤◌, ◌==◌, ◌&&◌, So
 ghost use Rattle.record_codec.specs.declared.record.Record.{Record};
 ghost use Rattle.checkpoints.specs.DataVolume.{add_refusal, after_add};
 ghost use Rattle.ctl_state.specs.Migration.{same_phase, moved, is_live, reached, current_snapshot, stored_place, is_left, is_being_copied};
-ghost use Rattle.ctl_state.specs.Steps.{with_snapshot, without_snapshot, with_checkpoint_done, with_stage_done, with_end, end_by, finished_volume, fact_of_way, fact_of_end, after_step};
-ghost use Rattle.ctl_state.specs.MayStand.{goes_on_in, copies_disks, may_choose, is_later, may_take, may_store, is_current, adds_checkpoint, may_add, may_begin, may_finish, may_pause, may_remove, may_see, may_take_final, may_cancel, may_end, may_step};
+ghost use Rattle.ctl_state.specs.Steps.{with_snapshot, without_snapshot, with_volume_done, with_stage_done, with_end, end_by, finished_volume, fact_of_way, fact_of_end, after_step};
+ghost use Rattle.ctl_state.specs.MayStand.{have_numbers, goes_on_in, copies_disks, may_choose, is_later, may_take, may_store, is_current, adds_checkpoint, may_add, may_begin, may_finish, may_pause, may_remove, may_see, may_take_final, may_cancel, may_end, may_step};
 
 use crate::marks::push_both;
 use crate::{How, MAX_STAGE_SECTORS, Migration};
@@ -64,7 +64,7 @@ impl Migration {
     {
         (self.goes_on_in(Phase::StoreInitialIds) || self.goes_on_in(Phase::StoreIds))
             && ids.len() == self.disks as usize
-            && ids.iter().all(|id| 0 < id.seq)
+            && have_numbers(ids)
     }
 
     fn is_current(&self, snap: u32) -> bool
@@ -242,15 +242,15 @@ impl Migration {
             let sum = copies.written();
             push_both(&mut self.marks, self.mark, &mut self.written, sum)?;
             self.copies = copies;
-            self.finish_checkpoint();
+            self.have_checkpoint();
         } else {
             self.copies = copies;
         }
         Ok(())
     }
 
-    fn finish_checkpoint(&mut self)
-        ensures { self.new ≡ with_checkpoint_done self.old }
+    fn have_checkpoint(&mut self)
+        ensures { self.new ≡ with_volume_done self.old }
     {
         finish_volume(&mut self.dv);
         if self.is_at(Phase::CopyFinal) {
@@ -380,6 +380,13 @@ impl Migration {
             self.end(how);
         }
     }
+}
+
+/// Whether each identifier has a number from 1 on.
+fn have_numbers(ids: &[ChangeId]) -> bool
+    ensures { result ≡ have_numbers ids.now }
+{
+    ids.iter().all(|id| 0 < id.seq)
 }
 
 /// Whether a checkpoint between these snapshots may be added.
