@@ -1,3 +1,5 @@
 pub mod CopyFacts
 pub mod ListFacts
 pub mod Effects
+pub mod SoundCopies
+pub mod SoundMoves
