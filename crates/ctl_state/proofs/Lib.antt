@@ -3,3 +3,5 @@ pub mod ListFacts
 pub mod Effects
 pub mod SoundCopies
 pub mod SoundMoves
+pub mod SoundStages
+pub mod SoundSteps

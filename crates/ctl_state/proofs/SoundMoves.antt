@@ -306,7 +306,7 @@ power-stored m on s =
 
 -- ---- a snapshot goes
 
-unmarked-stand : (m : Migration) → is_open m ≡ false → AllByRecursion (λ copy. StandsBy (is_open m && copy.done) (is_final_done m) m.mark (last_mark m.marks) copy) m.copies
+pub unmarked-stand : (m : Migration) → is_open m ≡ false → AllByRecursion (λ copy. StandsBy (is_open m && copy.done) (is_final_done m) m.mark (last_mark m.marks) copy) m.copies
     → AllByRecursion (λ copy. StandsBy (is_open m && copy.done) (is_final_done m) 0 (last_mark m.marks) copy) m.copies
 unmarked-stand m shut stand =
     unbased (is_open m) (is_final_done m) 0 (last_mark m.marks) m.copies shut (based (is_open m) (is_final_done m) m.mark (last_mark m.marks) m.copies shut stand)
