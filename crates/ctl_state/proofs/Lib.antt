@@ -5,3 +5,4 @@ pub mod SoundCopies
 pub mod SoundMoves
 pub mod SoundStages
 pub mod SoundSteps
+pub mod EffectStands
