@@ -6,3 +6,4 @@ pub mod SoundMoves
 pub mod SoundStages
 pub mod SoundSteps
 pub mod EffectStands
+pub mod PhaseStands

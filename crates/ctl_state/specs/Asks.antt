@@ -147,7 +147,7 @@ base_at machine disk log base = option_map
     (in_force machine disk (take (base.mark + 1) log))
 
 abbrev pub base_of : (machine disk : ℕ) → List Entry → DiskCopy → Option Base
-base_of machine disk log copy = option_and_then copy.base (base_at machine disk log)
+base_of machine disk log copy = option_and_then (base_at machine disk log) copy.base
 
 -- the current snapshot, with the power-off place that the log has for it
 abbrev pub snapped_in : List Entry → Migration → Option Snapped
