@@ -7,3 +7,4 @@ pub mod SoundStages
 pub mod SoundSteps
 pub mod EffectStands
 pub mod PhaseStands
+pub mod Asked

@@ -15,7 +15,7 @@ use Rattle.log_model.specs.declared.link.Snapped.{Snapped}
 use Rattle.log_model.specs.Entry.{removes, resets}
 use Rattle.log_model.specs.Legal.{is_enabled, capacity_of}
 use Rattle.log_model.specs.Link.{Owns}
-use Rattle.log_model.specs.Marks.{id_at, in_force}
+use Rattle.log_model.specs.Marks.{mark, id_at, in_force}
 use Rattle.log_model.specs.Frozen.{off_place}
 use Rattle.log_model.specs.Touched.{touched}
 use Rattle.warm_core.specs.declared.disk_world.Base.{Base}
@@ -35,6 +35,7 @@ use Rattle.ctl_state.specs.declared.copies.CopyBase.{CopyBase}
 use Rattle.ctl_state.specs.Migration.{same_phase, is_live, current_snapshot, copy_of}
 use Rattle.ctl_state.specs.Value.{CtlValue, migration_in}
 use Rattle.ctl_state.specs.Fold.{after}
+use Rattle.ctl_state.specs.MayStand.{goes_on_in}
 use Rattle.ctl_state.specs.Sound.{last_mark}
 
 -- the machine of a migration: its number, the capacities of its disks, and its log
@@ -183,3 +184,22 @@ pub record AsksOf (mig : ℕ) (at : MachineFacts) (records : List Record) (m : M
   pub of_log : RecordsAsk mig at records
   pub of_snapshot : SnapshotAsks mig at.log m
   pub of_volumes : ForSome told (VolumesAsk mig at m)
+
+-- ---- laws
+
+-- the base that the log tells is the one that the records keep
+abbrev pub BasesAreStored : Type 0
+BasesAreStored = (machine disk snap : ℕ) (log : List Entry) (base : CopyBase) (id : ChangeId)
+    → base.id ≡ Some id → mark snap log ≡ base.mark → id_at machine disk snap log ≡ Some id
+    → base_at machine disk log base ≡ Some (record { mark = base.mark; id = id })
+
+-- it is in a phase that stores identifiers, and goes on
+abbrev pub is_naming : Migration → Bool
+is_naming m = goes_on_in m Phases.StoreInitialIds || goes_on_in m Phases.StoreIds
+
+-- where identifiers are to be stored, the snapshot is there
+abbrev pub NamedSnapshotsLive : Type 0
+NamedSnapshotsLive = (mig : ℕ) (at : MachineFacts) (records : List Record) (m : Migration)
+    (told : Option (List (VolumeName × StoredVolume))) (snap : ℕ)
+    → AsksOf mig at records m told → is_live m ≡ true → is_naming m ≡ true → m.snap ≡ Some snap
+    → Owns (OfMigration mig) snap at.log

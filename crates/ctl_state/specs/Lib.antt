@@ -13,6 +13,7 @@ pub mod Sound
 pub mod Effect
 pub mod CleanUp
 pub mod StatusLine
+pub mod SmallStatus
 pub mod Asks
 pub mod SoundLaws
 pub mod EffectLaws
