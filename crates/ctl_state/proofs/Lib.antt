@@ -8,3 +8,5 @@ pub mod SoundSteps
 pub mod EffectStands
 pub mod PhaseStands
 pub mod Asked
+pub mod KeptFacts
+pub mod StepFacts

@@ -1,12 +1,12 @@
 -- Lists: elements, tests and sums of them, and what an edit of one element leaves.
-use Rattle.std.proofs.Common.{◌≡◌, ℕ, zero, suc, ◌+◌, ◌<◌, ◌≤◌, List, [], ◌∷◌, ◌++◌, length, take, drop, set, get_or, refl, ap, sym, ◌∙◌, arith, append-nil}
-
--- an element is the same whatever stands past the end
-pub get_or-any : {X : Type 0} (xs : List X) (i : ℕ) (a b : X) → i < length xs
-    → get_or xs i a ≡ get_or xs i b
-get_or-any [] i a b h = absurd (omega (arith, h))
-get_or-any (x ∷ xs) zero a b h = refl
-get_or-any (x ∷ xs) (suc i) a b h = get_or-any xs i a b (omega (arith, h))
+use Rattle.std.proofs.Common.{◌≡◌, ◌≢◌, ℕ, zero, suc, ◌+◌, ◌-◌, ◌==◌, ◌<◌, ◌≤◌, Bool, true, false, cond, ◌||◌, nat_lt, List, [], ◌∷◌, ◌++◌, length, take, drop, set, get_or, Option, Some, None, option_map, refl, ap, subst, sym, ◌∙◌, arith}
+use Rattle.std.specs.Prelude.{slice_get}
+use Rattle.std.specs.List.{sum_by, count_by, find, zip, list_any, AllByRecursion}
+use Rattle.std.specs.Option.{option_map_or}
+use Rattle.std.proofs.lemmas.List.Sums.{sum_by-cons}
+use Rattle.std.proofs.lemmas.Bool.{lt-ltb}
+use Rattle.ctl_state.specs.Migration.{change_at}
+use Rattle.ctl_state.specs.Value.{numbered}
 
 -- what a vector holds after all of its elements were written
 pub all_written : {X : Type 0} (n : ℕ) (now old target : List X)
@@ -16,3 +16,186 @@ all_written n now old target h e = rw h (take_front now (drop (length now) old) 
     take_front : {X : Type 0} (xs ys : List X) → take (length xs) (xs ++ ys) ≡ xs
     take_front [] ys = refl
     take_front (x ∷ xs) ys = ap (λ rest. x ∷ rest) (take_front xs ys)
+
+-- an element that is found by number stands at its place
+pub numbered_at : {X : Type 0} (xs : List X) (number : ℕ) (x : X)
+    → numbered xs number ≡ Some x
+    → ((number == 0) ≡ false) × (slice_get xs (number - 1) ≡ Some x)
+numbered_at {X} xs number x = by_test (number == 0)
+  where
+    by_test : (b : Bool) → cond b None (slice_get xs (number - 1)) ≡ Some x
+        → (b ≡ false) × (slice_get xs (number - 1) ≡ Some x)
+    by_test true h = absurd (cc)
+    by_test false h = (refl, h)
+
+-- a change behind the first element leaves that
+pub change_at-suc : {X : Type 0} (x : X) (xs : List X) (i : ℕ) (f : X → X)
+    → change_at (x ∷ xs) (suc i) f ≡ x ∷ change_at xs i f
+change_at-suc {X} x xs i f = elim (slice_get xs i) as
+    (λ o. option_map_or (λ y. set (x ∷ xs) (suc i) (f y)) o (x ∷ xs)
+      ≡ x ∷ option_map_or (λ y. set xs i (f y)) o xs)
+    [ None ↦ refl | Some y ↦ refl ]
+
+pub length-change_at : {X : Type 0} (xs : List X) (i : ℕ) (f : X → X)
+    → length (change_at xs i f) ≡ length xs
+length-change_at [] i f = refl
+length-change_at (x ∷ xs) zero f = refl
+length-change_at (x ∷ xs) (suc i) f =
+    ap length (change_at-suc x xs i f) ∙ ap (λ n. suc n) (length-change_at xs i f)
+
+-- what a change keeps of an element it keeps of all
+pub all-change_at : {X : Type 0} (P : X → Type 0) (xs : List X) (i : ℕ) (f : X → X)
+    → AllByRecursion P xs → ((x : X) → P x → P (f x)) → AllByRecursion P (change_at xs i f)
+all-change_at P [] i f h keeps = tt
+all-change_at P (x ∷ xs) zero f h keeps = (keeps x h.0, h.1)
+all-change_at {X} P (x ∷ xs) (suc i) f h keeps =
+    let Q : List X → Type 0 = AllByRecursion P in
+    subst Q (sym (change_at-suc x xs i f)) (h.0, all-change_at P xs i f h.1 keeps)
+
+-- a sum moves by the element that is changed
+pub sum-change_at : {X : Type 0} (g : X → ℕ) (xs : List X) (i : ℕ) (f : X → X) (x : X)
+    → slice_get xs i ≡ Some x
+    → sum_by g (change_at xs i f) + g x ≡ sum_by g xs + g (f x)
+sum-change_at g [] i f x h = absurd (cc)
+sum-change_at g (y ∷ xs) zero f x h =
+    let same : y ≡ x = cc in
+    let a = sum_by-cons g (f y) xs in
+    let b = sum_by-cons g y xs in
+    let c : g y ≡ g x = ap g same in
+    let d : g (f y) ≡ g (f x) = ap (λ z. g (f z)) same in
+    omega (arith, a, b, c, d)
+sum-change_at g (y ∷ xs) (suc i) f x h =
+    let a = ap (sum_by g) (change_at-suc y xs i f) ∙ sum_by-cons g y (change_at xs i f) in
+    let b = sum_by-cons g y xs in
+    let c = sum-change_at g xs i f x h in
+    omega (arith, a, b, c)
+
+-- and stays where the element's part stays
+pub sum-change_same : {X : Type 0} (g : X → ℕ) (xs : List X) (i : ℕ) (f : X → X)
+    → ((x : X) → g (f x) ≡ g x) → sum_by g (change_at xs i f) ≡ sum_by g xs
+sum-change_same g [] i f same = refl
+sum-change_same g (y ∷ xs) zero f same =
+    sum_by-cons g (f y) xs ∙ ap (λ n. n + sum_by g xs) (same y) ∙ sym (sum_by-cons g y xs)
+sum-change_same g (y ∷ xs) (suc i) f same =
+    ap (sum_by g) (change_at-suc y xs i f) ∙ sum_by-cons g y (change_at xs i f)
+    ∙ ap (λ n. g y + n) (sum-change_same g xs i f same) ∙ sym (sum_by-cons g y xs)
+
+-- the same over pairs of which the second is changed
+pub sum-zip_change : {X Y : Type 0} (g : X × Y → ℕ) (xs : List X) (ys : List Y) (i : ℕ)
+    (f : Y → Y) (x : X) (y : Y) → slice_get xs i ≡ Some x → slice_get ys i ≡ Some y
+    → sum_by g (zip xs (change_at ys i f)) + g (x, y) ≡ sum_by g (zip xs ys) + g (x, f y)
+sum-zip_change g [] ys i f x y h k = absurd (cc)
+sum-zip_change g (z ∷ xs) [] i f x y h k = absurd (cc)
+sum-zip_change {X} {Y} g (z ∷ xs) (w ∷ ys) zero f x y h k =
+    let p : z ≡ x = cc in
+    let q : w ≡ y = cc in
+    let a = sum_by-cons g (z, f w) (zip xs ys) in
+    let b = sum_by-cons g (z, w) (zip xs ys) in
+    let c : g (z, w) ≡ g (x, y) = cc in
+    let d : g (z, f w) ≡ g (x, f y) = cc in
+    omega (arith, a, b, c, d)
+sum-zip_change {X} {Y} g (z ∷ xs) (w ∷ ys) (suc i) f x y h k =
+    let a = ap (λ (rest : List Y). sum_by g (zip (z ∷ xs) rest)) (change_at-suc w ys i f)
+      ∙ sum_by-cons g (z, w) (zip xs (change_at ys i f)) in
+    let b = sum_by-cons g (z, w) (zip xs ys) in
+    let c = sum-zip_change g xs ys i f x y h k in
+    omega (arith, a, b, c)
+
+pub sum-zip_same : {X Y : Type 0} (g : X × Y → ℕ) (xs : List X) (ys : List Y) (i : ℕ)
+    (f : Y → Y) → ((x : X) (y : Y) → g (x, f y) ≡ g (x, y))
+    → sum_by g (zip xs (change_at ys i f)) ≡ sum_by g (zip xs ys)
+sum-zip_same g [] ys i f same = refl
+sum-zip_same g (z ∷ xs) [] i f same = refl
+sum-zip_same g (z ∷ xs) (w ∷ ys) zero f same =
+    sum_by-cons g (z, f w) (zip xs ys) ∙ ap (λ n. n + sum_by g (zip xs ys)) (same z w)
+    ∙ sym (sum_by-cons g (z, w) (zip xs ys))
+sum-zip_same {X} {Y} g (z ∷ xs) (w ∷ ys) (suc i) f same =
+    ap (λ (rest : List Y). sum_by g (zip (z ∷ xs) rest)) (change_at-suc w ys i f)
+    ∙ sum_by-cons g (z, w) (zip xs (change_at ys i f))
+    ∙ ap (λ n. g (z, w) + n) (sum-zip_same g xs ys i f same)
+    ∙ sym (sum_by-cons g (z, w) (zip xs ys))
+
+-- lists of one length, each with one more
+pub zip-append_one : {X Y : Type 0} (xs : List X) (ys : List Y) (x : X) (y : Y)
+    → length ys ≡ length xs → zip (xs ++ x ∷ []) (ys ++ y ∷ []) ≡ zip xs ys ++ (x, y) ∷ []
+zip-append_one [] [] x y h = refl
+zip-append_one [] (w ∷ ys) x y h = absurd (omega (arith, h))
+zip-append_one (z ∷ xs) [] x y h = absurd (omega (arith, h))
+zip-append_one (z ∷ xs) (w ∷ ys) x y h =
+    ap (λ rest. (z, w) ∷ rest) (zip-append_one xs ys x y (omega (arith, h)))
+
+-- a search whose test tells the same of the changed element finds one that shows the same
+pub find-change_same : {X Y : Type 0} (p : X → Bool) (show : X → Y) (xs : List X) (i : ℕ)
+    (f : X → X) → ((x : X) → p (f x) ≡ p x) → ((x : X) → show (f x) ≡ show x)
+    → option_map show (find p (change_at xs i f)) ≡ option_map show (find p xs)
+find-change_same p show [] i f same shown = refl
+find-change_same {X} {Y} p show (x ∷ xs) zero f same shown =
+    ap (λ b. option_map show (cond b (Some (f x)) (find p xs))) (same x)
+    ∙ (elim (p x) as (λ b. option_map show (cond b (Some (f x)) (find p xs))
+        ≡ option_map show (cond b (Some x) (find p xs)))
+      [ true ↦ ap (λ y. Some y) (shown x) | false ↦ refl ])
+find-change_same {X} {Y} p show (x ∷ xs) (suc i) f same shown =
+    ap (λ (ys : List X). option_map show (find p ys)) (change_at-suc x xs i f)
+    ∙ (elim (p x) as (λ b. option_map show (cond b (Some x) (find p (change_at xs i f)))
+        ≡ option_map show (cond b (Some x) (find p xs)))
+      [ true ↦ refl | false ↦ find-change_same p show xs i f same shown ])
+
+-- a search that passes over an element passes over it however it is changed
+pub find-change_passed : {X : Type 0} (p : X → Bool) (xs : List X) (i : ℕ) (f : X → X) (x : X)
+    → slice_get xs i ≡ Some x → p x ≡ false → p (f x) ≡ false
+    → find p (change_at xs i f) ≡ find p xs
+find-change_passed p [] i f x h old new = absurd (cc)
+find-change_passed {X} p (y ∷ xs) zero f x h old new =
+    let same : y ≡ x = cc in
+    let a : p (f y) ≡ false = ap (λ (z : X). p (f z)) same ∙ new in
+    let b : p y ≡ false = ap p same ∙ old in
+    ap (λ t. cond t (Some (f y)) (find p xs)) a ∙ sym (ap (λ t. cond t (Some y) (find p xs)) b)
+find-change_passed {X} p (y ∷ xs) (suc i) f x h old new =
+    ap (find p) (change_at-suc y xs i f)
+    ∙ ap (λ (o : Option X). cond (p y) (Some y) o) (find-change_passed p xs i f x h old new)
+
+-- what isn't counted isn't found
+find_by : {X : Type 0} (b : Bool) (p : X → Bool) (x : X) (xs : List X) → p x ≡ b
+    → count_by p (x ∷ xs) ≡ 0 → (count_by p xs ≡ 0 → find p xs ≡ None)
+    → find p (x ∷ xs) ≡ None
+find_by {X} true p x xs e h rest =
+    let a = sum_by-cons (λ (y : X). cond (p y) 1 0) x xs in
+    let one : ◌≡◌ {A = ℕ} (cond (p x) 1 0) 1 = ap (λ b. cond b 1 0) e in
+    absurd (omega (arith, a, one, h))
+find_by {X} false p x xs e h rest =
+    let a = sum_by-cons (λ (y : X). cond (p y) 1 0) x xs in
+    let none : ◌≡◌ {A = ℕ} (cond (p x) 1 0) 0 = ap (λ b. cond b 1 0) e in
+    let left : count_by p xs ≡ 0 = omega (arith, a, none, h) in
+    ap (λ b. cond b (Some x) (find p xs)) e ∙ rest left
+
+pub find-uncounted : {X : Type 0} (p : X → Bool) (xs : List X) → count_by p xs ≡ 0
+    → find p xs ≡ None
+find-uncounted p [] h = refl
+find-uncounted p (x ∷ xs) h = find_by (p x) p x xs refl h (find-uncounted p xs)
+
+-- a test passes for some element exactly where one is counted
+any_by : {X : Type 0} (b : Bool) (p : X → Bool) (x : X) (xs : List X) → p x ≡ b
+    → list_any p xs ≡ nat_lt 0 (count_by p xs)
+    → list_any p (x ∷ xs) ≡ nat_lt 0 (count_by p (x ∷ xs))
+any_by {X} true p x xs e rest =
+    let a = sum_by-cons (λ (y : X). cond (p y) 1 0) x xs in
+    let one : ◌≡◌ {A = ℕ} (cond (p x) 1 0) 1 = ap (λ b. cond b 1 0) e in
+    let some : 0 < count_by p (x ∷ xs) = omega (arith, a, one) in
+    ap (λ b. b || list_any p xs) e ∙ sym (lt-ltb 0 (count_by p (x ∷ xs)) some)
+any_by {X} false p x xs e rest =
+    let a = sum_by-cons (λ (y : X). cond (p y) 1 0) x xs in
+    let none : ◌≡◌ {A = ℕ} (cond (p x) 1 0) 0 = ap (λ b. cond b 1 0) e in
+    let same : count_by p (x ∷ xs) ≡ count_by p xs = omega (arith, a, none) in
+    ap (λ b. b || list_any p xs) e ∙ rest ∙ ap (λ n. nat_lt 0 n) (sym same)
+
+pub any-counted : {X : Type 0} (p : X → Bool) (xs : List X)
+    → list_any p xs ≡ nat_lt 0 (count_by p xs)
+any-counted p [] = refl
+any-counted p (x ∷ xs) = any_by (p x) p x xs refl (any-counted p xs)
+
+-- tests that tell the same of every element find the same
+pub any-same : {X : Type 0} (p q : X → Bool) (xs : List X) → ((x : X) → p x ≡ q x)
+    → list_any p xs ≡ list_any q xs
+any-same p q [] h = refl
+any-same p q (x ∷ xs) h =
+    ap (λ b. b || list_any p xs) (h x) ∙ ap (λ b. q x || b) (any-same p q xs h)

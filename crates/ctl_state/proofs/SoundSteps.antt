@@ -307,15 +307,19 @@ ends-otherwise m how false e live h s =
 
 abbrev ends_by_test : (how place : ℕ) (zeroth : Bool) (m : Migration) → Bool
 ends_by_test how place zeroth m = cond zeroth (goes_on_in m RemoveFinalSnapshot && place == stored_place m)
-    (is_live m && (place == 0 && other_end how (how == 1) m))
+    (place == 0 && other_end how (how == 1) m)
 
-ends-by : (m : Migration) (how place : ℕ) (zeroth : Bool) → (how == 0) ≡ zeroth → ends_by_test how place zeroth m ≡ true → IsSound m → IsSound (end_by how m)
-ends-by m how place true e h s =
+ends-by : (m : Migration) (how place : ℕ) (zeroth : Bool) → (how == 0) ≡ zeroth → is_live m ≡ true → ends_by_test how place zeroth m ≡ true → IsSound m → IsSound (end_by how m)
+ends-by m how place true e live h s =
     let on = goes-on m RemoveFinalSnapshot (both (goes_on_in m RemoveFinalSnapshot) (place == stored_place m) h).0 in
     end-is m how 0 e (by-phase m RemoveFinalSnapshot (with_end Hows.Completed) refl s on.phase (completes m on.not_cancelled))
-ends-by m how place false e h s =
-    let parts = both (is_live m) (place == 0 && other_end how (how == 1) m) h in
-    ends-otherwise m how (how == 1) refl parts.0 (both (place == 0) (other_end how (how == 1) m) parts.1).1 s
+ends-by m how place false e live h s =
+    ends-otherwise m how (how == 1) refl live (both (place == 0) (other_end how (how == 1) m) h).1 s
+
+ended : (m : Migration) (how place : ℕ) → IsSound m → may_end m how place ≡ true → IsSound (end_by how m)
+ended m how place s h =
+    let parts = both (is_live m) (ends_by_test how place (how == 0) m) h in
+    ends-by m how place (how == 0) refl parts.0 parts.1 s
 
 -- ---- all of them
 
@@ -337,4 +341,4 @@ steps_keep_sound m (PoweredOff mig) s h = powered-off m s h
 steps_keep_sound m (OffSeen mig off) s h = seen m off s h
 steps_keep_sound m (FinalSnapTaken mig snap mark place) s h = final-taken m snap mark place s h
 steps_keep_sound m (CancelAsked mig) s h = cancel-asked m s h
-steps_keep_sound m (Ended mig how place) s h = ends-by m how place (how == 0) refl h s
+steps_keep_sound m (Ended mig how place) s h = ended m how place s h

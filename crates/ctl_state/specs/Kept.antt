@@ -1,6 +1,7 @@
 -- What the state keeps beside plans and migrations, so that names and machines are looked up and not
 -- looked for: each is what plans and migrations say.
-use Rattle.std.specs.Prelude.{◌≡◌, ℕ, ◌≤◌, ◌==◌, List, length, Option, Some, None, slice_get, if◌then◌else◌}
+use Rattle.std.specs.Prelude.{◌≡◌, ℕ, ◌≤◌, ◌==◌, List, length, Option, Some, None, if◌then◌else◌}
+use Rattle.std.specs.List.{AllByRecursion}
 use Rattle.std.specs.BTreeMap.{BTreeMap, get}
 use Rattle.std.specs.Cmp.Lexicographic.{slice_cmp}
 use Rattle.std.specs.Ordering.{nat_cmp}
@@ -12,8 +13,7 @@ use Rattle.ctl_state.specs.Work.{Work}
 
 -- no plan has more live migrations than it started
 abbrev pub AreCourses : List PlanCourse → Type 0
-AreCourses courses = (i : ℕ) (course : PlanCourse)
-    → slice_get courses i ≡ Some course → course.live ≤ course.started
+AreCourses courses = AllByRecursion (λ course. course.live ≤ course.started) courses
 
 -- of a machine that isn't at work nothing is kept, of any other its live migration, if it has one
 abbrev pub work_kept : (count : ℕ) → (live : Option ℕ) → Option (Option ℕ)

@@ -105,10 +105,10 @@ is_failure how = how == how_number Hows.FailedVolume || how == how_number Hows.F
 -- completed with the stored place, after its last phase; cancelled where that was asked for; failed
 -- where it wasn't
 abbrev pub may_end : Migration → (how place : ℕ) → Bool
-may_end m how place =
-    if how == how_number Hows.Completed
+may_end m how place = is_live m
+    && (if how == how_number Hows.Completed
     then goes_on_in m Phases.RemoveFinalSnapshot && place == stored_place m
-    else is_live m && (place == 0
+    else place == 0
     && (if how == how_number Hows.Cancelled then m.cancel else is_failure how && not m.cancel))
 
 -- the record of a migration may stand where the migration is so

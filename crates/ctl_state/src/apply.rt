@@ -8,11 +8,11 @@ ghost use Rattle.ctl_state.specs.MayStand.{record_may_stand, is_new_plan, are_fr
 ghost use Rattle.ctl_state.specs.Fold.{after_record, after_step_in};
 
 use crate::migration::{end_one, step_one};
-use crate::plans::{add_plan, cut_over, end_in, is_next_of, plan_of, start_one};
+use crate::plans::{add_plan, cut_over, cutover_of, end_in, is_next_of, plan_of, start_one};
 use crate::work::{begin_work, put_to_work, take_from_work};
 use crate::{CtlState, Migration, StateRefused};
 use basics::MAX_DISKS;
-use plan_model::{Cutover, Moment, Name, NumberList};
+use plan_model::{Name, NumberList};
 use record_codec::Record;
 
 impl CtlState {
@@ -114,8 +114,7 @@ impl CtlState {
         if !self.may_cut_over(plan, has, at) {
             return Err(StateRefused::Strange);
         }
-        let at = if has { Some(Moment(at)) } else { None };
-        cut_over(&mut self.courses, plan, Cutover { at });
+        cut_over(&mut self.courses, plan, cutover_of(has, at));
         Ok(())
     }
 }

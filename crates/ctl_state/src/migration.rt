@@ -194,15 +194,15 @@ fn since_base(base: Option<CopyBase>) -> Since
 /// One record of a migration: strange where there is no such migration, or the record may not stand
 /// for it.
 pub(crate) fn step_one(
-    migrations: &mut [Migration],
+    migrations: &mut Vec<Migration>,
     mig: u32,
     r: &Record,
 ) -> Result<(), StateRefused>
-    ensures refused { IsRefusedOr (strange_unless (may_step_at migrations.old mig r.now))
+    ensures refused { IsRefusedOr (strange_unless (may_step_at migrations.old.items mig r.now))
         StateRefused.NoMemory result }
-    ensures applied { OnOk result (migrations.new
-        ≡ change_numbered migrations.old mig (λ m. after_step m r.now)) }
-    ensures kept { OnErr result (migrations.new ≡ migrations.old) }
+    ensures applied { OnOk result (migrations.new.items
+        ≡ change_numbered migrations.old.items mig (λ m. after_step m r.now)) }
+    ensures kept { OnErr result (migrations.new.items ≡ migrations.old.items) }
 {
     if mig == 0 || migrations.len() <= mig as usize - 1 {
         return Err(StateRefused::Strange);
@@ -216,8 +216,8 @@ pub(crate) fn step_one(
 }
 
 /// The migration ends.
-pub(crate) fn end_one(migrations: &mut [Migration], mig: u32, how: u8)
-    ensures { migrations.new ≡ change_numbered migrations.old mig (end_by how) }
+pub(crate) fn end_one(migrations: &mut Vec<Migration>, mig: u32, how: u8)
+    ensures { migrations.new.items ≡ change_numbered migrations.old.items mig (end_by how) }
 {
     if mig != 0 && (mig as usize - 1) < migrations.len() {
         migrations[mig as usize - 1].end_by(how);

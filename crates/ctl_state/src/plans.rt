@@ -4,11 +4,11 @@ ghost use Rattle.std.specs.BTreeMap.{get};
 ghost use Rattle.ctl_state.specs.declared.plans.PlanCourse.{PlanCourse};
 ghost use Rattle.ctl_state.specs.Value.{numbered, change_numbered, new_course, plan_named};
 ghost use Rattle.ctl_state.specs.MayStand.{is_next_of};
-ghost use Rattle.ctl_state.specs.Fold.{plan_of, with_started, with_ended, with_cutover};
+ghost use Rattle.ctl_state.specs.Fold.{plan_of, with_started, with_ended, with_cutover, cutover_of};
 ghost use Rattle.ctl_state.specs.Kept.{AreNames};
 
 use basics::NoMemory;
-use plan_model::{Cutover, Name, NumberList, Plan};
+use plan_model::{Cutover, Moment, Name, NumberList, Plan};
 use std::collections::BTreeMap;
 
 /// How far a plan is.
@@ -82,12 +82,12 @@ pub(crate) fn is_next_of(vm: u32, plan: &Plan, course: &PlanCourse) -> bool
 }
 
 /// One more machine of the plan has its migration.
-pub(crate) fn start_one(courses: &mut [PlanCourse], plan: u32)
-    requires started { (course : PlanCourse) → numbered courses.old plan ≡ Some course
+pub(crate) fn start_one(courses: &mut Vec<PlanCourse>, plan: u32)
+    requires started { (course : PlanCourse) → numbered courses.old.items plan ≡ Some course
         → course.started + 1 < 2 ^ 64 }
-    requires live { (course : PlanCourse) → numbered courses.old plan ≡ Some course
+    requires live { (course : PlanCourse) → numbered courses.old.items plan ≡ Some course
         → course.live + 1 < 2 ^ 64 }
-    ensures { courses.new ≡ change_numbered courses.old plan with_started }
+    ensures { courses.new.items ≡ change_numbered courses.old.items plan with_started }
 {
     if plan != 0 && plan as usize - 1 < courses.len() {
         let course = &mut courses[plan as usize - 1];
@@ -97,8 +97,8 @@ pub(crate) fn start_one(courses: &mut [PlanCourse], plan: u32)
 }
 
 /// One migration of the plan ended.
-pub(crate) fn end_in(courses: &mut [PlanCourse], plan: u32)
-    ensures { courses.new ≡ change_numbered courses.old plan with_ended }
+pub(crate) fn end_in(courses: &mut Vec<PlanCourse>, plan: u32)
+    ensures { courses.new.items ≡ change_numbered courses.old.items plan with_ended }
 {
     if plan != 0 && plan as usize - 1 < courses.len() {
         let course = &mut courses[plan as usize - 1];
@@ -107,10 +107,19 @@ pub(crate) fn end_in(courses: &mut [PlanCourse], plan: u32)
 }
 
 /// The cutover of the plan is set.
-pub(crate) fn cut_over(courses: &mut [PlanCourse], plan: u32, cutover: Cutover)
-    ensures { courses.new ≡ change_numbered courses.old plan (with_cutover cutover) }
+pub(crate) fn cut_over(courses: &mut Vec<PlanCourse>, plan: u32, cutover: Cutover)
+    ensures { courses.new.items ≡ change_numbered courses.old.items plan (with_cutover cutover) }
 {
     if plan != 0 && plan as usize - 1 < courses.len() {
         courses[plan as usize - 1].cutover = Some(cutover);
+    }
+}
+
+/// The cutover that a record sets.
+pub(crate) fn cutover_of(has: bool, at: u64) -> Cutover
+    ensures { result ≡ cutover_of has at }
+{
+    Cutover {
+        at: if has { Some(Moment(at)) } else { None },
     }
 }

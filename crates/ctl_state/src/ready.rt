@@ -101,6 +101,7 @@ impl CtlState {
         m.is_at(Phase::CopyingPaused) && self.way_due(now, m).number() == 0
     }
 
+    #[tactic(auto, unfolding(crate::specs::Ready::due_between))]
     /// What is due for the migration at `now`: nothing before its first pause.
     pub fn way_due(&self, now: Moment, m: &Migration) -> Way
         ensures { result ≡ way_due self.now now m.now }

@@ -151,12 +151,13 @@ impl Migration {
     pub(crate) fn may_end(&self, how: u8, place: u64) -> bool
         ensures { result ≡ may_end self.now how place }
     {
+        if !self.is_live() {
+            return false;
+        }
         match how {
-            0 => {
-                self.goes_on_in(Phase::RemoveFinalSnapshot) && place == self.place.unwrap_or(0)
-            }
-            1 => self.how.is_none() && place == 0 && self.cancel,
-            2 | 3 => self.how.is_none() && place == 0 && !self.cancel,
+            0 => self.goes_on_in(Phase::RemoveFinalSnapshot) && place == self.place.unwrap_or(0),
+            1 => place == 0 && self.cancel,
+            2 | 3 => place == 0 && !self.cancel,
             _ => false,
         }
     }

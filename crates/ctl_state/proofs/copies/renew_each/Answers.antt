@@ -1,7 +1,7 @@
 use Rattle.std.proofs.Common.{◌<◌, length, get_or, arith}
 use Rattle.std.proofs.lemmas.List.Edits.{map_over_more}
 use Rattle.ctl_state.specs.Migration.{fresh_copy, new_copy}
-use Rattle.ctl_state.proofs.ListFacts.{get_or-any}
+use Rattle.std.proofs.lemmas.List.{get_or_default}
 use Rattle.ctl_state.proofs.copies.renew_each.Goals as goal
 
 pub loop-copy-preserved : goal.loop-copy-preserved
@@ -11,4 +11,4 @@ loop-copy-preserved c =
     let copy = get_or copies i new_copy in
     let within : i < length copies = omega arith in
     map_over_more fresh_copy c.args.copies.now copies i copy c.loop-copy-test.true c.loop-copy.invariant
-      (get_or-any copies i new_copy copy within)
+      (get_or_default copies i new_copy copy within)
