@@ -10,3 +10,5 @@ pub mod PhaseStands
 pub mod Asked
 pub mod KeptFacts
 pub mod StepFacts
+pub mod Came
+pub mod SoundValues
