@@ -12,3 +12,4 @@ pub mod KeptFacts
 pub mod StepFacts
 pub mod Came
 pub mod SoundValues
+pub mod OtherJobs

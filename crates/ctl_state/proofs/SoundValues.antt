@@ -135,7 +135,7 @@ past-end : {X : Type 0} (xs : List X) → slice_get xs (length xs) ≡ None
 past-end [] = refl
 past-end (x ∷ xs) = past-end xs
 
-numbered-past : {X : Type 0} (xs : List X) → numbered xs (length xs + 1) ≡ None
+pub numbered-past : {X : Type 0} (xs : List X) → numbered xs (length xs + 1) ≡ None
 numbered-past {X} xs = test (length xs + 1 == 0)
   where
     test : (b : Bool) → cond b None (slice_get xs (length xs + 1 - 1)) ≡ None
