@@ -13,3 +13,4 @@ pub mod StepFacts
 pub mod Came
 pub mod SoundValues
 pub mod OtherJobs
+pub mod Cancels

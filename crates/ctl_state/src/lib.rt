@@ -31,6 +31,6 @@ pub use migration::{How, Migration};
 pub use plans::PlanCourse;
 pub use ready::{Job, JobList};
 pub use refusal::StateRefused;
-pub use sound::{migrations_come_of_records, other_jobs_stay, values_are_sound};
+pub use sound::{ends_are_as_asked, other_jobs_stay, values_are_sound};
 pub use state::CtlState;
 pub use task::{Controller, Did, PhaseTask};

@@ -1,6 +1,6 @@
 //! Laws of what every value of records is. Each function's contract is the law, and its body does
 //! nothing.
-ghost use Rattle.ctl_state.specs.Completion.{MigrationsComeOfRecords, CompletedIsWhole, CancelledWhereAsked};
+ghost use Rattle.ctl_state.specs.Completion.{CancelsAreAsked, CompletedIsWhole, CancelledWhereAsked};
 ghost use Rattle.ctl_state.specs.SoundLaws.{StepsKeepSound, RecordsKeepSound, ValuesAreSound, CutoversStay, OtherJobsStay, CancelLeavesTask};
 
 /// Whatever records come to is sound, and each record that may stand keeps that.
@@ -18,11 +18,11 @@ pub fn other_jobs_stay()
     ensures cancel { CancelLeavesTask }
 {}
 
-/// A migration has its cancel, its place and its stages from records of its own. It is complete
-/// only with a stage of each disk that is done in its final checkpoint and with no cancel, and
-/// cancelled exactly where a cancel stands as it ends.
-pub fn migrations_come_of_records()
-    ensures records { MigrationsComeOfRecords }
+/// A cancel stands exactly where a record asks for it. A migration is complete only with each disk
+/// copied in its final checkpoint, with a place and with no cancel, and of those that have ended it
+/// is cancelled exactly where a cancel stands.
+pub fn ends_are_as_asked()
+    ensures cancels { CancelsAreAsked }
     ensures complete { CompletedIsWhole }
     ensures cancelled { CancelledWhereAsked }
 {}
