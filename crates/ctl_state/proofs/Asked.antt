@@ -35,6 +35,6 @@ next-lacks-none snap log m = refl
 pub named_snapshots_live : NamedSnapshotsLive
 named_snapshots_live mig at records m told snap asks live naming there =
     elim (either (goes_on_in m StoreInitialIds) (goes_on_in m StoreIds) naming) [
-      inl e ↦ (let on = goes-on m StoreInitialIds e in asks.of_snapshot live snap there (lacks-none snap at.log m StoreInitialIds on.not_cancelled on.phase (first-lacks-none snap at.log m)))
-    | inr e ↦ (let on = goes-on m StoreIds e in asks.of_snapshot live snap there (lacks-none snap at.log m StoreIds on.not_cancelled on.phase (next-lacks-none snap at.log m)))
+      | inl e ↦ (let on = goes-on m StoreInitialIds e in asks.of_snapshot live snap there (lacks-none snap at.log m StoreInitialIds on.not_cancelled on.phase (first-lacks-none snap at.log m)))
+      | inr e ↦ (let on = goes-on m StoreIds e in asks.of_snapshot live snap there (lacks-none snap at.log m StoreIds on.not_cancelled on.phase (next-lacks-none snap at.log m)))
     ]

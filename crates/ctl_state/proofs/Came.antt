@@ -99,6 +99,7 @@ own-step v r k mig n of may there = by_number (k == mig) refl
     stands : (k : ℕ) (found : Option Migration) → numbered v.migrations k ≡ found → migration_of r ≡ Some k → option_map_or (λ m. may_step m r) found false ≡ true → option_map (λ m. after_step m r) found ≡ Some n → Came v r k n
     stands k None e of may there = absurd (false≢true may)
     stands k (Some m) e of may there = stepped m e may (sym (some-same (after_step m r) n there)) of
+
     by_number : (b : Bool) → (k == mig) ≡ b → Came v r mig n
     by_number true e =
         let same = eqb-true k mig e in
@@ -113,6 +114,7 @@ newly-made v k plan vm disks mig n may there = by_number (k == mig) refl
   where
     next : k ≡ length v.migrations + 1
     next = eqb-true k (length v.migrations + 1) (both (k == length v.migrations + 1) _ may).0
+
     by_number : (b : Bool) → (k == mig) ≡ b → Came v (MigrationStarted k plan vm disks) mig n
     by_number true e =
         let same = eqb-true k mig e in

@@ -110,12 +110,13 @@ Asked records v = (mig : ℕ) → (flag v.migrations mig ≡ true) ↔ Contains 
 other-record : (front : List Record) (v : CtlValue) (r : Record) → is_cancel r ≡ false → Asked front v → Asked (front ++ r ∷ []) (after_record v r)
 unfolding is_cancel
 other-record front v r none h mig =
-    let same = others-leave v r mig none in
-    (λ e. Contains-append_left front (r ∷ []) (CancelAsked mig) ((h mig).0 (sym same ∙ e)),
-    λ c. elim (Contains-push_cases front r (CancelAsked mig) c) [
-      inl there ↦ same ∙ (h mig).1 there
-    | inr is ↦ absurd (false≢true (sym none ∙ ap is_cancel is))
-    ])
+    let same = others-leave v r mig none in (
+      λ e. Contains-append_left front (r ∷ []) (CancelAsked mig) ((h mig).0 (sym same ∙ e)),
+      λ c. elim (Contains-push_cases front r (CancelAsked mig) c) [
+        | inl there ↦ same ∙ (h mig).1 there
+        | inr is ↦ absurd (false≢true (sym none ∙ ap is_cancel is))
+      ],
+    )
 
 number-in : Record → ℕ
 number-in (CancelAsked mig) = mig
@@ -127,18 +128,20 @@ cancel-record front v k may h mig = test (k == mig) refl
   where
     test : (b : Bool) → (k == mig) ≡ b → (flag (change_numbered v.migrations k asked_of) mig ≡ true) ↔ Contains (front ++ CancelAsked k ∷ []) (CancelAsked mig)
     test true e =
-        let at = eqb-true k mig e in
-        (λ _. subst (λ (i : ℕ). Contains (front ++ CancelAsked i ∷ []) (CancelAsked mig)) (sym at) (Contains-push front (CancelAsked mig)),
-        λ _. ap (λ (i : ℕ). flag (change_numbered v.migrations k asked_of) i) (sym at) ∙ asked-for v k may)
+        let at = eqb-true k mig e in (
+          λ _. subst (λ (i : ℕ). Contains (front ++ CancelAsked i ∷ []) (CancelAsked mig)) (sym at) (Contains-push front (CancelAsked mig)),
+          λ _. ap (λ (i : ℕ). flag (change_numbered v.migrations k asked_of) i) (sym at) ∙ asked-for v k may,
+        )
     test false e =
         let other : k ≡ mig → ⊥ = λ at. false≢true (sym e ∙ eq-eqb k mig at) in
         let same : flag (change_numbered v.migrations k asked_of) mig ≡ flag v.migrations mig =
-          ap (λ (o : Option Migration). option_map_or (λ m. m.cancel) o false) (numbered-other v.migrations k mig asked_of other) in
-        (λ on. Contains-append_left front (CancelAsked k ∷ []) (CancelAsked mig) ((h mig).0 (sym same ∙ on)),
-        λ c. elim (Contains-push_cases front (CancelAsked k) (CancelAsked mig) c) [
-          inl there ↦ same ∙ (h mig).1 there
-        | inr is ↦ absurd (other (ap number-in is))
-        ])
+        ap (λ (o : Option Migration). option_map_or (λ m. m.cancel) o false) (numbered-other v.migrations k mig asked_of other) in (
+          λ on. Contains-append_left front (CancelAsked k ∷ []) (CancelAsked mig) ((h mig).0 (sym same ∙ on)),
+          λ c. elim (Contains-push_cases front (CancelAsked k) (CancelAsked mig) c) [
+            | inl there ↦ same ∙ (h mig).1 there
+            | inr is ↦ absurd (other (ap number-in is))
+          ],
+        )
 
 one-record : (front : List Record) (v : CtlValue) (r : Record) → Asked front v → record_may_stand v r ≡ true → Asked (front ++ r ∷ []) (after_record v r)
 unfolding is_cancel

@@ -147,11 +147,17 @@ jobs_by m w = cond (not (is_live m)) [] (cond m.cancel (Clean m.number ∷ []) (
 
 abbrev task_by : (now : Moment) (m : Migration) → Way → PhaseTask
 task_by now m w = record {
-  mig = m.number; phase = m.phase;
-  snap = current_snapshot m; previous = reached m;
+  mig = m.number;
+  phase = m.phase;
+  snap = current_snapshot m;
+  previous = reached m;
   last = same_phase m.phase Phases.AddFinalCheckpoint;
-  disks = m.disks; way = cond (same_phase m.phase Phases.CopyingPaused) w Ways.Nothing; now = now;
-  restore = unwrap_or m.power false; how = end_of m; place = stored_place m;
+  disks = m.disks;
+  way = cond (same_phase m.phase Phases.CopyingPaused) w Ways.Nothing;
+  now = now;
+  restore = unwrap_or m.power false;
+  how = end_of m;
+  place = stored_place m;
 }
 
 known : (vm : ℕ) (found : Option Plan) → IsSomeAnd found (λ plan. Contains plan.vms vm) → found ≢ None

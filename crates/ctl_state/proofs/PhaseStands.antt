@@ -232,9 +232,9 @@ phases_may_stand v now m machine log effect r s jobs has at said =
     let job = phase-job v now m jobs in
     let same = is-ready m job.live job.not_cancelled in
     let all : Fine m (said_of m.number (phase_at machine (task_of v now m) log)) =
-      subst (λ (x : Migration). Fine x (said_of x.number (phase_at machine (task_of v now x) log))) (sym same)
-      (phase-fine m.phase v now m machine log (subst IsSound same s) (subst (λ (x : Migration). is_copying x ≡ false) same job.not_copying)
-      (subst (λ (x : Migration). is_waiting v now x ≡ false) same job.not_waiting) (subst (λ (x : Migration). HasForJob machine x log) same has)) in
+    subst (λ (x : Migration). Fine x (said_of x.number (phase_at machine (task_of v now x) log))) (sym same)
+    (phase-fine m.phase v now m machine log (subst IsSound same s) (subst (λ (x : Migration). is_copying x ≡ false) same job.not_copying)
+    (subst (λ (x : Migration). is_waiting v now x ≡ false) same job.not_waiting) (subst (λ (x : Migration). HasForJob machine x log) same has)) in
     all r (ap (said_of m.number) at ∙ said)
 
 -- ---- a clean-up

@@ -87,7 +87,7 @@ opens m previous current last some may =
     let now_open : is_unfinished (last_checkpoint (m.dv.checkpoints ++ x ∷ [])) ≡ true = ap is_unfinished added in
     let ended : is_final_done m ≡ false = ap (λ (b : Bool). b && not (is_open m)) may.not_final in
     let base : Based false (last_mark m.marks) m.copies =
-      subst (λ (b : Bool). Based b (last_mark m.marks) m.copies) ended (based (is_open m) (is_final_done m) m.mark (last_mark m.marks) m.copies may.shut may.stand) in
+    subst (λ (b : Bool). Based b (last_mark m.marks) m.copies) ended (based (is_open m) (is_final_done m) m.mark (last_mark m.marks) m.copies may.shut may.stand) in
     record {
       reached = ap (reached_from 0) added;
       added = some-added m.dv.checkpoints x;
@@ -346,7 +346,7 @@ finishes-copying m disk written now_open done s =
     let e : IsFinished k (finished k) = finishes k in
     let named = each-change _ _ (done_copy m.mark written) (λ c h. h) (λ c h. h) m.copies disk f.named in
     let on = all-on-current (is_open m) (is_final_done m) m.mark (last_mark m.marks) k.copies now_open done
-      (done-stand (is_open m) (is_final_done m) m.mark written (last_mark m.marks) m.copies disk now_open f.stand) in
+    (done-stand (is_open m) (is_final_done m) m.mark written (last_mark m.marks) m.copies disk now_open f.stand) in
     let ended : is_final_done (finished k) ≡ false = ap (λ (b : Bool). b && not (is_open (finished k))) f.final in
     finished-sound (at CopyDisks m) k (finished k) s now_open refl (length-change (done_copy m.mark written) m.copies disk) refl refl refl refl refl refl refl refl refl (record {
       live = refl;
@@ -375,7 +375,7 @@ finishes-final m disk written now_open done s =
     let e : IsFinished k (finished k) = finishes k in
     let named = each-change _ _ (done_copy m.mark written) (λ c h. h) (λ c h. h) m.copies disk f.named in
     let on = all-on-current (is_open m) (is_final_done m) m.mark (last_mark m.marks) k.copies now_open done
-      (done-stand (is_open m) (is_final_done m) m.mark written (last_mark m.marks) m.copies disk now_open f.stand) in
+    (done-stand (is_open m) (is_final_done m) m.mark written (last_mark m.marks) m.copies disk now_open f.stand) in
     let ended : is_final_done (finished k) ≡ true = ap (λ (b : Bool). b && not (is_open (finished k))) f.final ∙ ap not e.shut in
     finished-sound (at CopyFinal m) k (at RemoveFinalSnapshot (finished k)) s now_open refl (length-change (done_copy m.mark written) m.copies disk) refl refl refl refl refl refl refl refl refl (record {
       live = refl;

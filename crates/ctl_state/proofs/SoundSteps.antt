@@ -82,14 +82,14 @@ way-is m way k e s = subst (λ (w : ℕ). IsSound (moved m (fact_of_way w))) (sy
 chosen : (m : Migration) (way : ℕ) → IsSound m → may_choose m way ≡ true → IsSound (moved m (fact_of_way way))
 chosen m way s h =
     elim (either (goes_on_in m Started && way == 0) (goes_on_in m CopyingPaused && (way == 1 || way == 2)) h) [
-      inl first ↦ (let parts = both (goes_on_in m Started) (way == 0) first in way-is m way 0 parts.1 (chosen-first m s (goes-on m Started parts.0).phase))
-    | inr later ↦ (
-        let parts = both (goes_on_in m CopyingPaused) (way == 1 || way == 2) later in
-        let e = (goes-on m CopyingPaused parts.0).phase in
-        elim (either (way == 1) (way == 2) parts.1) [
-          inl one ↦ way-is m way 1 one (chosen-copy m s e)
-        | inr two ↦ way-is m way 2 two (chosen-cutover m s e)
-        ])
+      | inl first ↦ (let parts = both (goes_on_in m Started) (way == 0) first in way-is m way 0 parts.1 (chosen-first m s (goes-on m Started parts.0).phase))
+      | inr later ↦ (
+          let parts = both (goes_on_in m CopyingPaused) (way == 1 || way == 2) later in
+          let e = (goes-on m CopyingPaused parts.0).phase in
+          elim (either (way == 1) (way == 2) parts.1) [
+            | inl one ↦ way-is m way 1 one (chosen-copy m s e)
+            | inr two ↦ way-is m way 2 two (chosen-cutover m s e)
+          ])
     ]
 
 taken : (m : Migration) (snap mark : ℕ) → IsSound m → may_take m snap ≡ true → IsSound (moved (with_snapshot snap mark m) Facts.Done)
@@ -97,8 +97,8 @@ taken m snap mark s h =
     let parts = both (goes_on_in m CreateInitialSnapshot || goes_on_in m CreateSnapshot) (is_later m snap) h in
     let later = above (reached m) snap parts.1 in
     elim (either (goes_on_in m CreateInitialSnapshot) (goes_on_in m CreateSnapshot) parts.0) [
-      inl e ↦ by-phase m CreateInitialSnapshot (λ x. moved (with_snapshot snap mark x) Facts.Done) refl s (goes-on m CreateInitialSnapshot e).phase (first-snapshot m snap mark later)
-    | inr e ↦ by-phase m CreateSnapshot (λ x. moved (with_snapshot snap mark x) Facts.Done) refl s (goes-on m CreateSnapshot e).phase (next-snapshot m snap mark later)
+      | inl e ↦ by-phase m CreateInitialSnapshot (λ x. moved (with_snapshot snap mark x) Facts.Done) refl s (goes-on m CreateInitialSnapshot e).phase (first-snapshot m snap mark later)
+      | inr e ↦ by-phase m CreateSnapshot (λ x. moved (with_snapshot snap mark x) Facts.Done) refl s (goes-on m CreateSnapshot e).phase (next-snapshot m snap mark later)
     ]
 
 stored : (m : Migration) (ids : List ChangeId) → IsSound m → may_store m ids ≡ true → IsSound (moved (record m { copies = named_copies m.copies ids }) Facts.Done)
@@ -106,8 +106,8 @@ stored m ids s h =
     let parts = both (goes_on_in m StoreInitialIds || goes_on_in m StoreIds) (length ids == m.disks && list_all (λ id. nat_lt 0 id.seq) ids) h in
     let e = eqb-true (length ids) m.disks (both (length ids == m.disks) (list_all (λ id. nat_lt 0 id.seq) ids) parts.1).0 in
     elim (either (goes_on_in m StoreInitialIds) (goes_on_in m StoreIds) parts.0) [
-      inl p ↦ by-phase m StoreInitialIds (λ x. moved (record x { copies = named_copies x.copies ids }) Facts.Done) refl s (goes-on m StoreInitialIds p).phase (first-ids m ids e)
-    | inr p ↦ by-phase m StoreIds (λ x. moved (record x { copies = named_copies x.copies ids }) Facts.Done) refl s (goes-on m StoreIds p).phase (next-ids m ids e)
+      | inl p ↦ by-phase m StoreInitialIds (λ x. moved (record x { copies = named_copies x.copies ids }) Facts.Done) refl s (goes-on m StoreInitialIds p).phase (first-ids m ids e)
+      | inr p ↦ by-phase m StoreIds (λ x. moved (record x { copies = named_copies x.copies ids }) Facts.Done) refl s (goes-on m StoreIds p).phase (next-ids m ids e)
     ]
 
 made : (m : Migration) → IsSound m → goes_on_in m CreateVolumes ≡ true → IsSound (moved (record m { volumes = true }) Facts.Done)
@@ -132,17 +132,17 @@ added m previous current last s h =
         by-phase m AddFinalCheckpoint (λ x. moved (opened x previous current true) Facts.Done) refl s (goes-on m AddFinalCheckpoint p).phase (checkpoint-final m previous current snap may)
     by-last m previous current false s p snap may =
         elim (either (goes_on_in m AddFirstCheckpoint) (goes_on_in m AddCheckpoint) p) [
-          inl e ↦ by-phase m AddFirstCheckpoint (λ x. moved (opened x previous current false) Facts.Done) refl s (goes-on m AddFirstCheckpoint e).phase (checkpoint-first m previous current snap may)
-        | inr e ↦ by-phase m AddCheckpoint (λ x. moved (opened x previous current false) Facts.Done) refl s (goes-on m AddCheckpoint e).phase (checkpoint-next m previous current snap may)
+          | inl e ↦ by-phase m AddFirstCheckpoint (λ x. moved (opened x previous current false) Facts.Done) refl s (goes-on m AddFirstCheckpoint e).phase (checkpoint-first m previous current snap may)
+          | inr e ↦ by-phase m AddCheckpoint (λ x. moved (opened x previous current false) Facts.Done) refl s (goes-on m AddCheckpoint e).phase (checkpoint-next m previous current snap may)
         ]
 
 begun-keeps : (m : Migration) (disk : ℕ) → IsSound m → may_begin m disk ≡ true → IsSound (record m { copies = change_at m.copies disk begun_copy })
 begun-keeps m disk s h =
     let parts = both (copies_disks m) (is_left m disk) (both (not m.cancel) (copies_disks m && is_left m disk) h).1 in
     elim (either (same_phase m.phase CopyDisks) (same_phase m.phase CopyFinal) parts.0) [
-      inl e ↦ by-phase m CopyDisks (λ x. record x { copies = change_at x.copies disk begun_copy }) refl s (phase_is m.phase CopyDisks e) (begins CopyDisks m disk refl (λ k. k))
-    | inr e ↦ by-phase m CopyFinal (λ x. record x { copies = change_at x.copies disk begun_copy }) refl s (phase_is m.phase CopyFinal e)
-        (begins CopyFinal m disk refl (λ k. done-change begun_copy (λ c. refl) m.copies disk ∙ k))
+      | inl e ↦ by-phase m CopyDisks (λ x. record x { copies = change_at x.copies disk begun_copy }) refl s (phase_is m.phase CopyDisks e) (begins CopyDisks m disk refl (λ k. k))
+      | inr e ↦ by-phase m CopyFinal (λ x. record x { copies = change_at x.copies disk begun_copy }) refl s (phase_is m.phase CopyFinal e)
+          (begins CopyFinal m disk refl (λ k. done-change begun_copy (λ c. refl) m.copies disk ∙ k))
     ]
 
 -- the last stage of a checkpoint, or one before it
@@ -173,10 +173,10 @@ stage-keeps m disk written s h =
     let parts = both (copies_disks m) (is_being_copied m disk && nat_le written MAX_STAGE_SECTORS) h in
     let left = left-there m.copies disk (both (is_being_copied m disk) (nat_le written MAX_STAGE_SECTORS) parts.1).0 in
     elim (either (same_phase m.phase CopyDisks) (same_phase m.phase CopyFinal) parts.0) [
-      inl e ↦ by-phase m CopyDisks (with_stage_done disk written) refl s (phase_is m.phase CopyDisks e)
-        (λ t. done-copying m disk written (all_done (change_at m.copies disk (done_copy m.mark written))) refl (t.now.unfinished ∙ ap not left) t)
-    | inr e ↦ by-phase m CopyFinal (with_stage_done disk written) refl s (phase_is m.phase CopyFinal e)
-        (λ t. done-final m disk written (all_done (change_at m.copies disk (done_copy m.mark written))) refl (t.now.unfinished ∙ ap not left) t)
+      | inl e ↦ by-phase m CopyDisks (with_stage_done disk written) refl s (phase_is m.phase CopyDisks e)
+          (λ t. done-copying m disk written (all_done (change_at m.copies disk (done_copy m.mark written))) refl (t.now.unfinished ∙ ap not left) t)
+      | inr e ↦ by-phase m CopyFinal (with_stage_done disk written) refl s (phase_is m.phase CopyFinal e)
+          (λ t. done-final m disk written (all_done (change_at m.copies disk (done_copy m.mark written))) refl (t.now.unfinished ∙ ap not left) t)
     ]
 
 pauses : (m : Migration) (last : Option Moment) → IsSome last → IsSound m → may_pause m ≡ true → IsSound (moved (record m { last = last }) Facts.Done)
@@ -188,8 +188,8 @@ removed : (m : Migration) (snap : ℕ) → IsSound m → may_remove m snap ≡ t
 removed m snap s h =
     let parts = both (goes_on_in m RemovePreviousSnapshot || goes_on_in m RemovePenultimateSnapshot) (snap == current_snapshot m) h in
     elim (either (goes_on_in m RemovePreviousSnapshot) (goes_on_in m RemovePenultimateSnapshot) parts.0) [
-      inl e ↦ by-phase m RemovePreviousSnapshot (λ x. moved (without_snapshot x) Facts.Done) refl s (goes-on m RemovePreviousSnapshot e).phase (previous-removed m)
-    | inr e ↦ by-phase m RemovePenultimateSnapshot (λ x. moved (without_snapshot x) Facts.Done) refl s (goes-on m RemovePenultimateSnapshot e).phase (penultimate-removed m)
+      | inl e ↦ by-phase m RemovePreviousSnapshot (λ x. moved (without_snapshot x) Facts.Done) refl s (goes-on m RemovePreviousSnapshot e).phase (previous-removed m)
+      | inr e ↦ by-phase m RemovePenultimateSnapshot (λ x. moved (without_snapshot x) Facts.Done) refl s (goes-on m RemovePenultimateSnapshot e).phase (penultimate-removed m)
     ]
 
 power : (m : Migration) (on : Bool) → IsSound m → goes_on_in m StorePowerState ≡ true → IsSound (moved (record m { power = Some on }) Facts.Done)
@@ -214,13 +214,13 @@ on-seen-late m s e = by-phase m CreateFinalSnapshot (λ x. moved x Facts.Running
 
 seen : (m : Migration) (off : Bool) → IsSound m → may_see m off ≡ true → IsSound (moved m (cond off Facts.Done Facts.Running))
 seen m true s h = elim (either (goes_on_in m WaitForPowerOff) false h) [
-      inl e ↦ off-seen m s (goes-on m WaitForPowerOff e).phase
-    | inr e ↦ absurd (false≢true e)
-    ]
+  | inl e ↦ off-seen m s (goes-on m WaitForPowerOff e).phase
+  | inr e ↦ absurd (false≢true e)
+]
 seen m false s h = elim (either (goes_on_in m WaitForPowerOff) (goes_on_in m CreateFinalSnapshot) h) [
-      inl e ↦ on-seen m s (goes-on m WaitForPowerOff e).phase
-    | inr e ↦ on-seen-late m s (goes-on m CreateFinalSnapshot e).phase
-    ]
+  | inl e ↦ on-seen m s (goes-on m WaitForPowerOff e).phase
+  | inr e ↦ on-seen-late m s (goes-on m CreateFinalSnapshot e).phase
+]
 
 final-taken : (m : Migration) (snap mark place : ℕ) → IsSound m → may_take_final m snap mark place ≡ true → IsSound (moved (record (with_snapshot snap mark m) { place = Some place }) Facts.Done)
 final-taken m snap mark place s h =
@@ -301,8 +301,8 @@ ends-otherwise m how false e live h s =
     let parts = both (is_failure how) (not m.cancel) h in
     let not_cancelled = not-true m.cancel parts.1 in
     elim (either (how == 2) (how == 3) parts.0) [
-      inl two ↦ end-is m how 2 two (ends-with Hows.FailedVolume m s (failed-phase m.phase f.live) not_cancelled)
-    | inr three ↦ end-is m how 3 three (ends-with Hows.FailedSpent m s (failed-phase m.phase f.live) not_cancelled)
+      | inl two ↦ end-is m how 2 two (ends-with Hows.FailedVolume m s (failed-phase m.phase f.live) not_cancelled)
+      | inr three ↦ end-is m how 3 three (ends-with Hows.FailedSpent m s (failed-phase m.phase f.live) not_cancelled)
     ]
 
 abbrev ends_by_test : (how place : ℕ) (zeroth : Bool) (m : Migration) → Bool

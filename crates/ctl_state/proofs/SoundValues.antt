@@ -212,6 +212,7 @@ new-plan v number name interval vms p plan s may there = by_number (p == length 
   where
     next : number ≡ length v.plans + 1
     next = eqb-true number (length v.plans + 1) (both (number == length v.plans + 1) _ (both (is_new_plan v number name) _ may).0).0
+
     by_number : (b : Bool) → (p == length v.plans + 1) ≡ b → plan.number ≡ p
     by_number true e =
         let at = eqb-true p (length v.plans + 1) e in

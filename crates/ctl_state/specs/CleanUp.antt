@@ -21,7 +21,8 @@ use Rattle.ctl_state.specs.declared.task.PhaseTask.{PhaseTask}
 use Rattle.ctl_state.specs.Steps.{how_number}
 use Rattle.ctl_state.specs.Effect.{PhaseWork, no_job, says, by_call, Effect, phase_work, entries_by, HasWorked}
 
--- a task tells by its end whether it is a phase's or a clean-up's: only a phase goes on to completion
+-- a task tells by its end whether it is a phase's or a clean-up's: only a phase's goes on to
+-- completion
 abbrev pub is_clean_up : PhaseTask → Bool
 is_clean_up task = nat_lt (how_number Hows.Completed) (how_number task.how)
 

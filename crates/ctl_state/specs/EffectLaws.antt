@@ -1,14 +1,11 @@
 -- What holds of phases and clean-ups together. Where nobody shares the machine a job leaves one
 -- thing and says one thing. Calls only go on. And what a job says may stand in the state that its
 -- task was made from, so whoever does jobs in turn never meets a strange record of its own.
-use Rattle.std.specs.Prelude.{◌≡◌, ℕ, ◌<◌, ◌≤◌, ◌⊎◌, ◌||◌, Bool, true, false, List, [], ◌∷◌, Option, Some, None, IsSome}
-use Rattle.log_model.specs.declared.entry.Owner.TheVariants.{Migration as OfMigration}
+use Rattle.std.specs.Prelude.{◌≡◌, ℕ, ◌<◌, ◌≤◌, ◌||◌, Bool, true, false, List, [], ◌∷◌, Option, Some, None, IsSome}
 use Rattle.log_model.specs.declared.entry.Entry.{Entry}
-use Rattle.log_model.specs.declared.entry.TheConstants.{MIGRATION_CALLER}
-use Rattle.log_model.specs.Legal.{Legal, all_of, taken}
+use Rattle.log_model.specs.Legal.{taken}
 use Rattle.log_model.specs.Marks.{id_at}
-use Rattle.log_model.specs.Refusals.{is_spent}
-use Rattle.log_model.specs.Link.{LinkState, FollowsFrom, Owns}
+use Rattle.log_model.specs.Link.{LinkState, FollowsFrom}
 use Rattle.phase_table.specs.declared.phases.Phase.TheVariants as Phases
 use Rattle.plan_model.specs.declared.moment.Moment.{Moment}
 use Rattle.record_codec.specs.declared.record.Record.{Record}
@@ -108,12 +105,3 @@ MayCleanUp Hows.FailedSpent m = m.cancel ≡ false
 abbrev pub CleanUpsMayStand : Type 0
 CleanUpsMayStand = (m : Migration) (how : How) → is_live m ≡ true → MayCleanUp how m
     → may_step m (Ended m.number (how_number how) 0) ≡ true
-
--- ---- a clean-up leaves nothing
-
--- no snapshot of the migration is live behind it, but where the log is full
-abbrev pub CleanUpsLeaveNone : Type 0
-CleanUpsLeaveNone = (task : PhaseTask) (old new : LinkState) (did : Did) (snap : ℕ)
-    → old.caller ≡ MIGRATION_CALLER → Legal (all_of old.capacities) old.seen
-    → is_clean_up task ≡ true → HasEffect task old new did
-    → (¬ (Owns (OfMigration task.mig) snap new.seen)) ⊎ (is_spent new.seen ≡ true)

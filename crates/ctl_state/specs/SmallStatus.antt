@@ -47,27 +47,60 @@ whole_volume = record {
 -- as it is paused, and as it is complete
 abbrev paused_one : List DiskCopy → Migration
 paused_one copies = record {
-  number = 1; plan = 1; vm = 1; disks = 1;
-  phase = Phases.CopyingPaused; cancel = false; snap = Some 2; marks = 4 ∷ []; written = 256 ∷ [];
-  dv = paused_volume; last = Some (record { 0 = 1714557600 }); how = None; place = None;
-  mark = 4; volumes = true; power = None; copies = copies;
+  number = 1;
+  plan = 1;
+  vm = 1;
+  disks = 1;
+  phase = Phases.CopyingPaused;
+  cancel = false;
+  snap = Some 2;
+  marks = 4 ∷ [];
+  written = 256 ∷ [];
+  dv = paused_volume;
+  last = Some (record { 0 = 1714557600 });
+  how = None;
+  place = None;
+  mark = 4;
+  volumes = true;
+  power = None;
+  copies = copies;
 }
 
 abbrev complete_one : List DiskCopy → Migration
 complete_one copies = record {
-  number = 1; plan = 1; vm = 1; disks = 1;
-  phase = Phases.Completed; cancel = false; snap = None;
-  marks = 4 ∷ 7 ∷ 11 ∷ []; written = 256 ∷ 128 ∷ 128 ∷ [];
-  dv = whole_volume; last = Some (record { 0 = 1714561200 });
-  how = Some Hows.Completed; place = Some 9;
-  mark = 0; volumes = true; power = Some true; copies = copies;
+  number = 1;
+  plan = 1;
+  vm = 1;
+  disks = 1;
+  phase = Phases.Completed;
+  cancel = false;
+  snap = None;
+  marks = 4 ∷ 7 ∷ 11 ∷ [];
+  written = 256 ∷ 128 ∷ 128 ∷ [];
+  dv = whole_volume;
+  last = Some (record { 0 = 1714561200 });
+  how = Some Hows.Completed;
+  place = Some 9;
+  mark = 0;
+  volumes = true;
+  power = Some true;
+  copies = copies;
 }
 
 abbrev paused_line : StatusLine
 paused_line = record {
-  cause = None; checkpoints = record { previous = 0; current = 2 } ∷ [];
-  dv = codes "Paused"; marks = 4 ∷ []; mig = 1; phase = codes "CopyingPaused"; place = None;
-  plan = codes "p"; state = codes "paused"; vm = codes "a"; writes = None; written = 256 ∷ [];
+  cause = None;
+  checkpoints = record { previous = 0; current = 2 } ∷ [];
+  dv = codes "Paused";
+  marks = 4 ∷ [];
+  mig = 1;
+  phase = codes "CopyingPaused";
+  place = None;
+  plan = codes "p";
+  state = codes "paused";
+  vm = codes "a";
+  writes = None;
+  written = 256 ∷ [];
 }
 
 abbrev complete_line : StatusLine
@@ -75,9 +108,16 @@ complete_line = record {
   cause = None;
   checkpoints = record { previous = 0; current = 2 } ∷ record { previous = 2; current = 3 }
       ∷ record { previous = 3; current = 4 } ∷ [];
-  dv = codes "Succeeded"; marks = 4 ∷ 7 ∷ 11 ∷ []; mig = 1; phase = codes "Completed";
-  place = Some 9; plan = codes "p"; state = codes "complete"; vm = codes "a";
-  writes = Some 3; written = 256 ∷ 128 ∷ 128 ∷ [];
+  dv = codes "Succeeded";
+  marks = 4 ∷ 7 ∷ 11 ∷ [];
+  mig = 1;
+  phase = codes "Completed";
+  place = Some 9;
+  plan = codes "p";
+  state = codes "complete";
+  vm = codes "a";
+  writes = Some 3;
+  written = 256 ∷ 128 ∷ 128 ∷ [];
 }
 
 -- one whose cancel stands, and one that failed behind its final snapshot
@@ -90,7 +130,10 @@ failed_one copies =
 
 abbrev failed_line : StatusLine
 failed_line = record complete_line {
-  cause = Some (codes "volume"); phase = codes "Failed"; place = None; state = codes "failed";
+  cause = Some (codes "volume");
+  phase = codes "Failed";
+  place = None;
+  state = codes "failed";
   writes = None;
 }
 

@@ -1,6 +1,26 @@
-//! Laws of what phases and clean-ups do. Each function's contract is the law, and its body does
-//! nothing.
-ghost use Rattle.ctl_state.specs.EffectLaws.{EffectsAreOne, EffectsGoOn, BegunGoOn, TasksTellJobs, PhasesMayStand, CleanUpsMayStand, CleanUpsLeaveNone};
+//! Whether a task is a phase's or a clean-up's, and laws of what these do. Each law is the contract
+//! of a function whose body does nothing.
+ghost use Rattle.std.specs.Prelude.{◌≡◌};
+ghost use Rattle.ctl_state.specs.CleanUp.{is_clean_up, failing_task};
+ghost use Rattle.ctl_state.specs.EffectLaws.{EffectsAreOne, EffectsGoOn, BegunGoOn, TasksTellJobs, PhasesMayStand, CleanUpsMayStand};
+
+use crate::{How, PhaseTask};
+
+impl PhaseTask {
+    /// Whether it is a clean-up's, and not a phase's.
+    pub fn is_clean_up(self) -> bool
+        ensures { result ≡ is_clean_up self }
+    {
+        self.how.number() > 0
+    }
+
+    /// The task of the clean-up of a failure, in place of this one.
+    pub fn failing(self, how: How) -> PhaseTask
+        ensures { result ≡ failing_task how self }
+    {
+        PhaseTask { how, ..self }
+    }
+}
 
 /// Where nobody shares the machine a job leaves one thing and says one thing. What it does is calls
 /// in a row, also where it was cut off.
@@ -19,9 +39,4 @@ pub fn tasks_tell_jobs()
 pub fn effects_may_stand()
     ensures phases { PhasesMayStand }
     ensures clean_ups { CleanUpsMayStand }
-{}
-
-/// A clean-up leaves no snapshot of its migration live, but where the log is full.
-pub fn clean_ups_leave_none()
-    ensures { CleanUpsLeaveNone }
 {}

@@ -21,10 +21,10 @@ mod task;
 mod tests;
 mod work;
 
-pub use basics::NoMemory;
 pub use asks::{asked_is_there, small_lines};
+pub use basics::NoMemory;
 pub use copies::{CopyBase, CopyList, DiskCopy, MAX_STAGE_SECTORS};
-pub use effect::{clean_ups_leave_none, effects_are_one, effects_may_stand, tasks_tell_jobs};
+pub use effect::{effects_are_one, effects_may_stand, tasks_tell_jobs};
 pub use laws::{lists_join, records_change_their_own};
 pub use marks::MarkList;
 pub use migration::{How, Migration};
