@@ -9,3 +9,12 @@ pub mod Refusal
 pub mod Laws
 pub mod Work
 pub mod Kept
+pub mod Sound
+pub mod Effect
+pub mod CleanUp
+pub mod StatusLine
+pub mod SmallStatus
+pub mod Asks
+pub mod SoundLaws
+pub mod EffectLaws
+pub mod Completion
