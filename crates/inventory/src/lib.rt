@@ -1,0 +1,2 @@
+//! The hosts and the machines of a fleet as rows, and the number of a machine by its name.
+#![tactic(auto)]
