@@ -1,10 +1,10 @@
 //! A fleet: its hosts and its machines, how they are added and found, and how a machine is taken
 //! out to be changed and put back.
-ghost use Rattle.std.specs.Prelude.{◌≡◌, ◌+◌, ◌≤◌, length, option_copied, option_map, slice_get, IfOk, OnErr, OnOk};
+ghost use Rattle.std.specs.Prelude.{◌≡◌, ℕ, ◌+◌, ◌≤◌, List, length, option_copied, option_map, slice_get, IfOk, OnErr, OnOk};
 ghost use Rattle.basics.specs.Refusal.{IsRefusedOr};
 ghost use Rattle.basics.specs.Spelled.{IsName};
 ghost use Rattle.basics.specs.declared.limits.TheConstants.{MAX_HOST_LIMIT};
-ghost use Rattle.fleet.specs.Fleet.{empty_fleet, vm_number, machine_of, with_host, with_vm_under};
+ghost use Rattle.fleet.specs.Fleet.{HostState, empty_fleet, vm_number, machine_of, with_host, with_vm_under};
 ghost use Rattle.fleet.specs.Sound.{IsFleet, may_be_disks, is_capacity};
 ghost use Rattle.fleet.specs.Refusals.{add_host_refusal, add_vm_refusal};
 ghost use Rattle.fleet.specs.Lending.{lifted, after_lift, MayGoBack, after_lower};
@@ -140,8 +140,8 @@ impl Fleet {
 
     /// The name and the limit of a host, if there is one at this place, from 0 on.
     pub fn host_at(&self, place: u32) -> Option<(&str, u32)>
-        ensures { option_map (λ p. (p.0.now, p.1)) result
-            ≡ option_map (λ host. (host.name, host.limit)) (slice_get self.now.hosts place) }
+        ensures { option_map {U = HostState} (λ p. record { name = p.0.now; limit = p.1 }) result
+            ≡ slice_get self.now.hosts place }
     {
         let name = self.hosts.name_at(place as usize)?;
         let host = self.hosts.at(place as usize)?;
@@ -151,7 +151,7 @@ impl Fleet {
     /// The name of a machine and the place of its host, if there is one at this place, from 0 on:
     /// that of the number 1 is at place 0.
     pub fn vm_at(&self, place: u32) -> Option<(&str, u32)>
-        ensures { option_map (λ p. (p.0.now, p.1)) result
+        ensures { option_map {U = List ℕ × ℕ} (λ p. (p.0.now, p.1)) result
             ≡ option_map (λ vm. (vm.name, vm.host)) (slice_get self.now.vms place) }
     {
         let name = self.vms.name_at(place as usize)?;
@@ -180,9 +180,8 @@ impl Fleet {
     {
         let machine = link.into_machine();
         let place = machine.number() as usize - 1;
-        if let Some(vm) = self.vms.at(place) {
-            let _ = self.vms.replace(place, Vm::new(vm.host, machine));
-        }
+        let host = self.vms.at(place).unwrap().host;
+        let _ = self.vms.replace(place, Vm::new(host, machine));
     }
 }
 
