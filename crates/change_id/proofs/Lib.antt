@@ -2,3 +2,9 @@ pub mod UuidBytes
 pub mod SpellingLemmas
 pub mod NumberLemmas
 pub mod AnswerLemmas
+pub mod Ends
+pub mod Counts
+pub mod Numbers
+pub mod IdMarks
+pub mod IdPlaces
+pub mod Filtered

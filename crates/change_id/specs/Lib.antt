@@ -1,3 +1,5 @@
 pub mod ChangeId
 pub mod History
+pub mod HistoryLaws
 pub mod Laws
+pub mod Filtered

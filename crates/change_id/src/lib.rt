@@ -8,6 +8,8 @@ ghost use Rattle.std.specs.Prelude.{◌≡◌, ◌≤◌, ◌<◌, ◌↔◌, �
 ghost use Rattle.std.specs.Str.{IsAscii};
 ghost use Rattle.change_id.specs.declared.ChangeId.{ChangeId};
 ghost use Rattle.change_id.specs.ChangeId.{refusal_number, packed, spelling, uuid_text, uuid_part, number_part, IsUuidText, IsNumberText, IsAnswer, Spells, LacksSlash, LacksUuid, LacksNumber, slash};
+ghost use Rattle.change_id.specs.Filtered.{TellingsAreRead, FilteredListsReadTheSame, FilteredListsAnswerTheSame};
+ghost use Rattle.change_id.specs.HistoryLaws.{NumbersHaveNoGap, NumbersDiffer, IdsHaveOneMark, LaterEntriesKeep, SnapshotsKeepTheEpoch};
 ghost use Rattle.change_id.specs.Laws.{OneAnswer, WrittenParses, SpellingsDiffer, PackingsFit, PackingsDiffer};
 
 use std::error::Error;
@@ -214,6 +216,41 @@ pub fn packings_fit()
 /// No two triples of machine, disk and resets share a packing.
 pub fn packings_differ()
     ensures { PackingsDiffer }
+{}
+
+/// The sequence numbers of one epoch are 1, 2 and so on, without a gap, and none is given twice.
+pub fn numbers_have_no_gap<E>()
+    ensures each { NumbersHaveNoGap E }
+    ensures once { NumbersDiffer E }
+{}
+
+/// An identifier leads to the mark of the one snapshot that has it, and later entries leave that.
+pub fn ids_have_one_mark<E>()
+    ensures { IdsHaveOneMark E }
+{}
+
+/// Later entries leave the mark and the identifier of a snapshot that was taken, and its own entry
+/// leaves the epoch.
+pub fn snapshots_stay<E>()
+    ensures later { LaterEntriesKeep E }
+    ensures epoch { SnapshotsKeepTheEpoch E }
+{}
+
+/// Whatever is told on of entries, a reading of what was told gives one of the entries.
+pub fn tellings_are_read<E, F>()
+    ensures { TellingsAreRead E F }
+{}
+
+/// Where of each entry of a list that which it is to the tracking was told on, and of the others
+/// nothing, what was told says the same as the list: the epoch, the numbers, the identifiers and
+/// which of them is accepted, and, at places of its own, the marks.
+pub fn filtered_lists_read_the_same<E, F>()
+    ensures { FilteredListsReadTheSame E F }
+{}
+
+/// And a query of either has the same answer, where the same changed between the same places.
+pub fn filtered_lists_answer_the_same<E, F, A>()
+    ensures { FilteredListsAnswerTheSame E F A }
 {}
 
 #[cfg(test)]

@@ -14,10 +14,12 @@ use Rattle.basics.proofs.ItemAt.{slice_get-front}
 use Rattle.change_id.specs.ChangeId.{packed}
 use Rattle.change_id.specs.History as history
 use Rattle.change_id.specs.declared.ChangeId.{ChangeId}
+use Rattle.change_id.proofs.Counts.{epoch-append, counted-last}
+use Rattle.change_id.proofs.IdMarks.{in_force-parts, same-epochs, mark-stays, later_entries_keep}
 use Rattle.change_tracker.specs.Tracker.{TrackerState, Snapshot, snapshot_of, fresh, next_id, with_met, after_marking, after_freezing, after_enabling, after_reset, without_changes}
 use Rattle.change_tracker.specs.History.{TrackStep, Marked, Frozen, Enabled, Reset, reading, freezes, is_reset, run_in, runs_between, mark, id_at, is_met, IsFrozenAs, IsOfEpoch, changed_in, TellsChanges, AreNumbered, StandsFor, Takes}
 use Rattle.change_tracker.proofs.Blocks.{among, same_blocks, met_more}
-use Rattle.change_tracker.proofs.Steps.{place-le, place_stays, place_known, place_new, epoch_of, counted_of, number_of, epoch-push, counted-push, counts_mark, counts_freeze, counts_enable, counts_reset, runs_stay, runs_push, runs_none, force, force_some, force_parts, id_stays, same_epochs}
+use Rattle.change_tracker.proofs.Steps.{place-le, place_known, place_new, drop-front, epoch_of, counted_of, number_of, counts_mark, counts_freeze, counts_enable, counts_reset, runs_stay, runs_push, runs_none, force, force_some}
 
 -- ---- parts of a list
 
@@ -33,11 +35,6 @@ pushed_at [] y zero x is = inr (refl, same_Some y x is)
 pushed_at [] y (suc i) x is = absurd (none-some x is)
 pushed_at (z ∷ xs) y zero x is = inl is
 pushed_at (z ∷ xs) y (suc i) x is = elim (pushed_at xs y i x is) [ inl early ↦ inl early | inr last ↦ inr (omega (arith, last.0), last.1) ]
-
-drop-front : {X : Type 0} (n : ℕ) (xs ys : List X) → n ≤ length xs → drop n (xs ++ ys) ≡ drop n xs ++ ys
-drop-front zero xs ys le = refl
-drop-front (suc n) [] ys le = absurd (omega arith)
-drop-front (suc n) (x ∷ xs) ys le = drop-front n xs ys (omega (arith, le))
 
 range-front : {X : Type 0} (xs ys : List X) (a b : ℕ) → b ≤ length xs → slice_range (xs ++ ys) a b ≡ slice_range xs a b
 range-front {X = X} xs ys a b le = elim (cases_lt (length xs) a) [
@@ -81,10 +78,10 @@ pub facts_stay : (machine disk capacity id : ℕ) (change_id : Option ChangeId) 
     → Facts machine disk capacity id change_id blocks (h ++ more)
 facts_stay machine disk capacity id change_id blocks h more is =
     let inside = is.within in
-    let same : mark id (h ++ more) ≡ mark id h = place_stays id h more inside in
+    let same : mark id (h ++ more) ≡ mark id h = mark-stays freezes id h more inside in
     record {
       within = omega (arith, same, inside, length-append h more);
-      told = is.told ∙ sym (id_stays machine disk id h more inside);
+      told = is.told ∙ sym ((later_entries_keep reading id h more inside).id_stays machine disk);
       touched = is.touched ∙ ap (met_blocks capacity) (sym (ap (λ n. runs_between 0 n (h ++ more)) same ∙ runs_stay 0 (mark id h) h more (omega (arith, inside))));
       epoch = ap (λ n. epoch_of (take (n + 1) (h ++ more))) same ∙ ap epoch_of (take-append-le (mark id h + 1) h more (omega (arith, inside))) ∙ is.epoch
           ∙ sym (ap (λ n. epoch_of (take n (h ++ more))) same ∙ ap epoch_of (take-append-le (mark id h) h more (omega (arith, inside))));
@@ -104,23 +101,23 @@ free_stays t h x stands none id =
     same s = list_any-append (freezes s) h (x ∷ []) ∙ ap (λ b. list_any (freezes s) h || (b || false)) (none s) ∙ or-false (list_any (freezes s) h)
 
 epoch_same : (h : List TrackStep) (x : TrackStep) → epoch_of (x ∷ []) ≡ 0 → epoch_of (h ++ x ∷ []) ≡ epoch_of h
-epoch_same h x none = epoch-push h x ∙ omega (arith, none)
+epoch_same h x none = epoch-append reading h (x ∷ []) ∙ omega (arith, none)
 
 -- the runs between the marks of snapshots stay
 marks_stay : (h more : List TrackStep) (a b : ℕ) → mark a h < length h → mark b h < length h → runs_between (mark a (h ++ more)) (mark b (h ++ more)) (h ++ more) ≡ runs_between (mark a h) (mark b h) h
 marks_stay h more a b first last =
-    (λ i. runs_between (place_stays a h more first i) (place_stays b h more last i) (h ++ more)) ∙ runs_stay (mark a h) (mark b h) h more (omega (arith, last))
+    (λ i. runs_between (mark-stays freezes a h more first i) (mark-stays freezes b h more last i) (h ++ more)) ∙ runs_stay (mark a h) (mark b h) h more (omega (arith, last))
 
 now_is : (h : List TrackStep) (x : TrackStep) (a : ℕ) → mark a h < length h
     → runs_between (mark a (h ++ x ∷ [])) (length (h ++ x ∷ [])) (h ++ x ∷ []) ≡ runs_between (mark a h) (length h) h ++ filter_map run_in (x ∷ [])
-now_is h x a within = ap (λ n. runs_between n (length (h ++ x ∷ [])) (h ++ x ∷ [])) (place_stays a h (x ∷ []) within) ∙ runs_push (mark a h) h x (omega (arith, within))
+now_is h x a within = ap (λ n. runs_between n (length (h ++ x ∷ [])) (h ++ x ∷ [])) (mark-stays freezes a h (x ∷ []) within) ∙ runs_push (mark a h) h x (omega (arith, within))
 
 -- ---- a run is marked
 
 pub stands_marked : (r : Run) (old : TrackerState) → Takes (Marked r) old (after_marking r old)
 stands_marked r old h stands = record {
   epoch = stands.epoch ∙ sym (epoch_same h (Marked r) refl);
-  counted = stands.counted ∙ sym (counted-push h (Marked r) ∙ counts_mark (counted_of h) r);
+  counted = stands.counted ∙ sym (counted-last reading h (Marked r) ∙ counts_mark (counted_of h) r);
   blocks = ap (with_met old.capacity r) stands.blocks ∙ met_push old.capacity (runs_between 0 (length h) h) r ∙ ap (met_blocks old.capacity) (sym (runs_push 0 h (Marked r) (omega arith)));
   known = λ s. known_stays old h (Marked r) s stands refl;
   frozen = λ place k at. frozen_by (after_marking r old) (h ++ Marked r ∷ []) k (facts_stay old.machine old.disk old.capacity k.id k.change_id k.blocks h (Marked r ∷ []) (facts_of old h k (stands.frozen place k at)));
@@ -150,7 +147,7 @@ stands_marked r old h stands = record {
 pub stands_enabled : (old : TrackerState) → Takes Enabled old (after_enabling old)
 stands_enabled old h stands = record {
   epoch = stands.epoch ∙ sym (epoch_same h Enabled refl);
-  counted = ap (λ (o : Option ℕ). Some (unwrap_or o 0)) stands.counted ∙ sym (counted-push h Enabled ∙ counts_enable (counted_of h));
+  counted = ap (λ (o : Option ℕ). Some (unwrap_or o 0)) stands.counted ∙ sym (counted-last reading h Enabled ∙ counts_enable (counted_of h));
   blocks = stands.blocks ∙ ap (met_blocks old.capacity) (sym (runs_push 0 h Enabled (omega arith) ∙ append-nil (runs_between 0 (length h) h)));
   known = λ s. known_stays old h Enabled s stands refl;
   frozen = λ place k at. frozen_by (after_enabling old) (h ++ Enabled ∷ []) k (facts_stay old.machine old.disk old.capacity k.id k.change_id k.blocks h (Enabled ∷ []) (facts_of old h k (stands.frozen place k at)));
@@ -191,8 +188,8 @@ epoch-take-le n h = sum_by-take-le (λ e. cond (is_reset e) 1 0) h n
 
 pub stands_reset : (old : TrackerState) → Takes Reset old (after_reset old)
 stands_reset old h stands = record {
-  epoch = ap (λ n. n + 1) stands.epoch ∙ sym (epoch-push h Reset);
-  counted = ap (λ (o : Option ℕ). option_map (λ n. 0) o) stands.counted ∙ sym (counted-push h Reset ∙ counts_reset (counted_of h));
+  epoch = ap (λ n. n + 1) stands.epoch ∙ sym (epoch-append reading h (Reset ∷ []));
+  counted = ap (λ (o : Option ℕ). option_map (λ n. 0) o) stands.counted ∙ sym (counted-last reading h Reset ∙ counts_reset (counted_of h));
   blocks = stands.blocks ∙ ap (met_blocks old.capacity) (sym (runs_push 0 h Reset (omega arith) ∙ append-nil (runs_between 0 (length h) h)));
   known = λ s. find_mapped old.snapshots s ∙ known_stays old h Reset s stands refl;
   frozen = λ place k at.
@@ -213,8 +210,8 @@ stands_reset old h stands = record {
   changes = λ place k at of.
       let was = mapped_at old.snapshots place k at in
       let facts = stands.frozen place was.0 was.1 in
-      let parts = force_parts old.machine old.disk of.0 (take (mark (was.0).id h + 1) h) (sym facts.change_id ∙ ap (λ (x : Snapshot). x.change_id) was.2 ∙ of.1) in
-      let same = same_epochs old.machine old.disk (epoch_of (take (mark (was.0).id h + 1) h)) (old.epoch + 1) (sym parts.uuid ∙ of.2) in
+      let parts = in_force-parts reading old.machine old.disk of.0 (take (mark (was.0).id h + 1) h) (sym facts.change_id ∙ ap (λ (x : Snapshot). x.change_id) was.2 ∙ of.1) in
+      let same = same-epochs old.machine old.disk (epoch_of (take (mark (was.0).id h + 1) h)) (old.epoch + 1) (sym parts.uuid ∙ of.2) in
       absurd (omega (arith, same, stands.epoch, epoch-take-le (mark (was.0).id h + 1) h));
   free = free_stays old h Reset stands (λ s. refl);
 }
@@ -244,7 +241,7 @@ next_is id old h stands = by (counted_of h) refl
     same_epoch = epoch_same h (Frozen id) refl
 
     counts : counted_of (h ++ Frozen id ∷ []) ≡ option_map (λ n. n + 1) (counted_of h)
-    counts = counted-push h (Frozen id) ∙ counts_freeze (counted_of h) id
+    counts = counted-last reading h (Frozen id) ∙ counts_freeze (counted_of h) id
 
     by : (o : Option ℕ) → counted_of h ≡ o → next_id old ≡ force old.machine old.disk (h ++ Frozen id ∷ [])
     by None is =
@@ -383,7 +380,7 @@ old_changes id old h place k le stands was of =
         | inr last ↦
             ap (λ n. changed_in (after_freezing id old) (place + 1) (n + 1) b) last.0
             ∙ changed_upto id old place b less ∙ tells.now b in_disk
-            ∙ ap (is_met b) (sym ((λ i. runs_between (place_stays k.id h (Frozen id ∷ []) inside i) ((ap (λ (x : Snapshot). mark x.id (h ++ Frozen id ∷ [])) (sym last.1) ∙ at) i) (h ++ Frozen id ∷ []))
+            ∙ ap (is_met b) (sym ((λ i. runs_between (mark-stays freezes k.id h (Frozen id ∷ []) inside i) ((ap (λ (x : Snapshot). mark x.id (h ++ Frozen id ∷ [])) (sym last.1) ∙ at) i) (h ++ Frozen id ∷ []))
             ∙ runs_stay (mark k.id h) (length h) h (Frozen id ∷ []) (omega arith)))
       ];
       now = λ b in_disk.
@@ -427,7 +424,7 @@ below id old h le stands n above s is = by (list_any (freezes s) h) refl
 pub stands_frozen : (id : ℕ) (old : TrackerState) → old.free_from ≤ id → Takes (Frozen id) old (after_freezing id old)
 stands_frozen id old le h stands = record {
   epoch = stands.epoch ∙ sym (epoch_same h (Frozen id) refl);
-  counted = ap (λ (o : Option ℕ). option_map (λ n. n + 1) o) stands.counted ∙ sym (counted-push h (Frozen id) ∙ counts_freeze (counted_of h) id);
+  counted = ap (λ (o : Option ℕ). option_map (λ n. n + 1) o) stands.counted ∙ sym (counted-last reading h (Frozen id) ∙ counts_freeze (counted_of h) id);
   blocks = stands.blocks ∙ ap (met_blocks old.capacity) (sym (runs_push 0 h (Frozen id) (omega arith) ∙ append-nil (runs_between 0 (length h) h)));
   known = λ s. ap is_some (find-append (λ x. x.id == s) old.snapshots (frozen_snapshot id old ∷ [])) ∙ either (snapshot_of s old) (frozen_snapshot id old) (eqb id s) ∙ ap (λ b. b || eqb id s) (stands.known s)
       ∙ sym (list_any-append (freezes s) h (Frozen id ∷ []) ∙ ap (λ b. list_any (freezes s) h || b) (or-false (eqb id s)));

@@ -14,6 +14,7 @@ use Rattle.change_id.specs.History as history
 use Rattle.change_id.specs.declared.ChangeId.{ChangeId}
 use Rattle.change_id.specs.declared.Since.{Since}
 use Rattle.change_id.specs.declared.Since.TheVariants.{All, From}
+use Rattle.change_id.proofs.IdMarks.{in_force-parts, same-epochs, marks_of_ids}
 use Rattle.change_tracker.specs.declared.kept.Kept.{Kept}
 use Rattle.change_tracker.specs.declared.maps.Maps.{Maps}
 use Rattle.change_tracker.specs.declared.refusals.TrackRefused.{TrackRefused}
@@ -24,7 +25,7 @@ use Rattle.change_tracker.specs.Maps.{window}
 use Rattle.change_tracker.specs.Kept.{AreIds, IsAt, is_accepted, window_from, in_force_of, snapshot_at}
 use Rattle.change_tracker.specs.History.{TrackStep, reading, freezes, runs_between, areas_between, answered, mark, id_at, is_met, changed_in, IsFrozenAs, AreNumbered, StandsFor, snapshot_refusal, query_refusal}
 use Rattle.change_tracker.proofs.Blocks.{same_blocks}
-use Rattle.change_tracker.proofs.Steps.{epoch_of, number_of, force, force_parts, same_epochs, leads, place_of_id}
+use Rattle.change_tracker.proofs.Steps.{epoch_of, number_of, force, place_of_id, apart}
 use Rattle.change_tracker.proofs.States.{view, in_changes}
 
 -- ---- the place of an id
@@ -113,7 +114,7 @@ no_number (suc q) n a b none = ap (λ x. (a && b && leb 1 (suc q)) && x) (lt-leb
 same_uuid : (machine disk a b : ℕ) → eqb a b ≡ eqb (packed machine disk a) (packed machine disk b)
 same_uuid machine disk a b = elim (cases_eq a b) [
   | inl same ↦ eq-eqb a b same ∙ sym (eq-eqb (packed machine disk a) (packed machine disk b) (ap (packed machine disk) same))
-  | inr other ↦ ne_eqb a b other ∙ sym (ne_eqb (packed machine disk a) (packed machine disk b) (λ e. other (same_epochs machine disk a b e)))
+  | inr other ↦ ne_eqb a b other ∙ sym (ne_eqb (packed machine disk a) (packed machine disk b) (λ e. other (same-epochs machine disk a b e)))
 ]
 
 no_force : (machine disk : ℕ) (h : List TrackStep) → force machine disk h ≡ None → number_of h ≡ 0
@@ -133,7 +134,7 @@ accepts_same t h k from stands frozen = by k.change_id refl
         (no_force t.machine t.disk (take (mark k.id h + 1) h) (sym frozen.change_id ∙ is))
         ∙ sym (ap (λ (o : Option ChangeId). is_accepted (packed t.machine t.disk t.epoch) o from) is)
     by (Some x) is =
-        let parts = force_parts t.machine t.disk x (take (mark k.id h + 1) h) (sym frozen.change_id ∙ is) in
+        let parts = in_force-parts reading t.machine t.disk x (take (mark k.id h + 1) h) (sym frozen.change_id ∙ is) in
         let now : epoch_of h ≡ t.epoch = sym stands.epoch in
         let uuid : packed t.machine t.disk (epoch_of (take (mark k.id h) h)) ≡ x.uuid = sym (parts.uuid ∙ ap (packed t.machine t.disk) frozen.epoch) in
         (λ i. eqb from.uuid (packed t.machine t.disk (now i)) && same_uuid t.machine t.disk (epoch_of (take (mark k.id h) h)) (now i) i && leb 1 from.seq && leb from.seq (sym parts.seq i))
@@ -185,7 +186,7 @@ since_told t h place k x from stands at told accepted =
     let same : numbered x.uuid from.seq ≡ from = ap (λ u. numbered u from.seq) (parts.at_is ∙ sym parts.from_is) in
     let before = stands.frozen p earlier.0 earlier.1 in
     let its_id : id_at t.machine t.disk (earlier.0).id h ≡ Some from = sym before.change_id ∙ earlier.2 ∙ ap Some same in
-    let found : place_of_id t.machine t.disk from h ≡ Some (mark (earlier.0).id h) = leads t.machine t.disk (earlier.0).id from h before.within its_id in
+    let found : place_of_id t.machine t.disk from h ≡ Some (mark (earlier.0).id h) = (marks_of_ids reading t.machine t.disk from h apart).of_snapshot (earlier.0).id before.within its_id in
     let tells = stands.changes p earlier.0 earlier.1 (numbered x.uuid from.seq, earlier.2, parts.at_is) in
     let accepts : history.accepts reading t.machine t.disk k.id from h ≡ true = accepts_same t h k from stands frozen ∙ ap (λ (o : Option ChangeId). is_accepted (packed t.machine t.disk t.epoch) o from) told ∙ accepted in
     ap (λ b. cond b (Ok (areas_between t.capacity (unwrap_or (place_of_id t.machine t.disk from h) 0) (mark k.id h) h)) (Err (force t.machine t.disk h))) accepts

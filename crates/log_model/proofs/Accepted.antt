@@ -25,7 +25,7 @@ use Rattle.log_model.specs.Refusals.{spent_refusal, snap_refusal, remove_refusal
 use Rattle.basics.specs.Refusal.{IsRefusedOr}
 use Rattle.log_model.specs.Link.{LinkState, IsCall, OnlyReads, AddsAct, log_met, is_by}
 use Rattle.log_model.specs.PlainMachine.{Appends, plain_state}
-use Rattle.log_model.proofs.Last.{by_last}
+use Rattle.change_id.proofs.Ends.{by_last}
 use Rattle.log_model.proofs.LegalLogs.{legal_grows, legal_last, legal_front}
 
 -- ---- what isn't refused may stand

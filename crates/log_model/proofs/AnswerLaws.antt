@@ -9,17 +9,17 @@ use Rattle.change_id.specs.declared.ChangeId.{ChangeId}
 use Rattle.change_id.specs.declared.Since.TheVariants.{All as Everything, From}
 use Rattle.log_model.specs.declared.entry.Entry.{Entry}
 use Rattle.log_model.specs.Entry.{writes_of}
-use Rattle.log_model.specs.Marks.{mark, before, through, epoch, number, in_force, mark_of_id, HasId}
+use Rattle.log_model.specs.Marks.{reading_of, takes_in, mark, before, through, epoch, number, in_force, mark_of_id, HasId}
 use Rattle.log_model.specs.Touched.{touched_areas}
 use Rattle.log_model.specs.Query.{changed_areas, accepts}
 use Rattle.log_model.specs.PlainMachine.{numbered_place}
 use Rattle.log_model.specs.Laws.{AnswersStay, IdsAnswerBetween, NumberedPlaceIsMark}
-use Rattle.log_model.proofs.Last.{at_place}
-use Rattle.log_model.proofs.NumberLaws.{epoch-append, epoch-last}
+use Rattle.change_id.proofs.Ends.{at_place}
+use Rattle.change_id.proofs.Counts.{epoch-append, epoch-between, number-take-le, number-le}
 use Rattle.log_model.proofs.Later.{later_entries_keep, numbered_place_gives}
 use Rattle.log_model.proofs.AnswerPages.{ok_part}
-use Rattle.log_model.proofs.Epochs.{epoch-between, number-take-le, number-le, snap-resets_none, in_force-parts, in_force-made, same-epochs}
-use Rattle.log_model.proofs.IdMarks.{found-has, marks_of_ids}
+use Rattle.change_id.proofs.IdMarks.{found-has, epoch-there, in_force-parts, in_force-made, same-epochs}
+use Rattle.log_model.proofs.Readings.{apart, marks_of_ids}
 
 -- ---- a test of four parts
 
@@ -57,8 +57,8 @@ touched-same c d i s log more less =
 -- a snapshot's number is one of those given, while its epoch lasts
 number-within : (d s q : ℕ) (log : List Entry) → epoch d (before s log) ≡ epoch d log → q ≤ number d (through s log) → q ≤ number d log
 number-within d s q log same le =
-    let upto : epoch d (through s log) ≡ epoch d log = epoch-between d (mark s log) (mark s log + 1) log (omega arith) same in
-    let grown = number-le d (mark s log + 1) log upto in
+    let upto : epoch d (through s log) ≡ epoch d log = epoch-between (reading_of d) (mark s log) (mark s log + 1) log (omega arith) same in
+    let grown = number-le (reading_of d) (mark s log + 1) log upto in
     omega (arith, grown, le)
 
 -- an accepted identifier is had by the snapshot whose number it has
@@ -70,9 +70,9 @@ numbered_place_is_mark machine d s id log accepted =
     let place : ℕ = numbered_place d id.seq log in
     let given = numbered_place_gives d id.seq log low high in
     let numbered = given.numbered in
-    found-has machine d id log place (record {
+    found-has (reading_of d) machine d id log place (record {
       snapshot = given.snapshot;
-      identified = in_force-made machine d id (take (place + 1) log) (record {
+      identified = in_force-made (reading_of d) machine d id (take (place + 1) log) (record {
         counted = omega (arith, low, numbered);
         uuid = eqb-true id.uuid (packed machine d (epoch d log)) parts.one ∙ ap (packed machine d) (sym given.same_epoch);
         seq = sym numbered;
@@ -90,7 +90,7 @@ from-stays machine c d s id log more areas less accepted told =
     let next : mark s log + 1 ≤ length log = omega arith in
     let front : before s (log ++ more) ≡ before s log = ap (λ n. take n (log ++ more)) keep.mark_stays ∙ take-append-le (mark s log) log more short in
     let upto : through s (log ++ more) ≡ through s log = ap (λ n. take (n + 1) (log ++ more)) keep.mark_stays ∙ take-append-le (mark s log + 1) log more next in
-    let longer = epoch-append d log more in
+    let longer = epoch-append (reading_of d) log more in
     elim (cases_eq (epoch d more) 0) [
       | inl none ↦
           let stays : epoch d (log ++ more) ≡ epoch d log = omega (arith, longer, none) in
@@ -125,21 +125,13 @@ answers_stay machine c d s (From id) log more areas less found =
 
 -- ---- the identifier of the snapshot at a place
 
--- the entry there resets nothing
-pub epoch-there : (machine d : ℕ) (id : ChangeId) (log : List Entry) (place : ℕ) → HasId machine d id log place → epoch d (take (place + 1) log) ≡ epoch d (take place log)
-epoch-there machine d id log place has =
-    let here = at_place log place has.snapshot.within in
-    let e : Entry = here.0 in
-    let upto : take (place + 1) log ≡ take place log ++ e ∷ [] = ap (λ m. take m log) (add-one place) ∙ here.2 in
-    ap (epoch d) upto ∙ epoch-last d (take place log) e (snap-resets_none d e.act (has.snapshot.by_snap e here.1))
-
 accepted-between : (machine c d place s : ℕ) (id : ChangeId) (log : List Entry) → HasId machine d id log place → place ≤ mark s log → mark s log < length log
     → epoch d (take place log) ≡ epoch d log → changed_areas machine c d s (From id) log ≡ Ok (touched_areas c d place (mark s log) log)
 accepted-between machine c d place s id log has le within front =
-    let own = in_force-parts machine d id (take (place + 1) log) has.identified in
-    let upto : epoch d (take (place + 1) log) ≡ epoch d log = epoch-between d place (place + 1) log (omega arith) front in
-    let here : epoch d (before s log) ≡ epoch d log = epoch-between d place (mark s log) log le front in
-    let grown = number-take-le d (place + 1) (mark s log + 1) log (omega arith) upto in
+    let own = in_force-parts (reading_of d) machine d id (take (place + 1) log) has.identified in
+    let upto : epoch d (take (place + 1) log) ≡ epoch d log = epoch-between (reading_of d) place (place + 1) log (omega arith) front in
+    let here : epoch d (before s log) ≡ epoch d log = epoch-between (reading_of d) place (mark s log) log le front in
+    let grown = number-take-le (reading_of d) (place + 1) (mark s log + 1) log (omega arith) upto in
     let low : 1 ≤ id.seq = let l = own.counted in let q = own.seq in omega (arith, l, q) in
     let all : accepts machine d s id log ≡ true = four-made (id.uuid == packed machine d (epoch d log)) (epoch d (before s log) == epoch d log) (nat_le 1 id.seq) (nat_le id.seq (number d (through s log)))
     (record {
@@ -149,14 +141,14 @@ accepted-between machine c d place s id log has le within front =
       four = le-leb id.seq (number d (through s log)) (let q = own.seq in omega (arith, grown, q));
     }) in
     ap (λ x. cond x (Ok (touched_areas c d (unwrap_or (mark_of_id machine d id log) 0) (mark s log) log)) (Err (in_force machine d log))) all
-    ∙ ap Ok (ap (λ (o : Option ℕ). touched_areas c d (unwrap_or o 0) (mark s log) log) (found-has machine d id log place has))
+    ∙ ap Ok (ap (λ (o : Option ℕ). touched_areas c d (unwrap_or o 0) (mark s log) log) (found-has (reading_of d) machine d id log place has))
 
 strange-between : (machine c d place s : ℕ) (id : ChangeId) (log : List Entry) → HasId machine d id log place → (epoch d (take place log) ≡ epoch d log → ⊥)
     → changed_areas machine c d s (From id) log ≡ Err (in_force machine d log)
 strange-between machine c d place s id log has reset =
-    let own = in_force-parts machine d id (take (place + 1) log) has.identified in
+    let own = in_force-parts (reading_of d) machine d id (take (place + 1) log) has.identified in
     let apart : id.uuid ≡ packed machine d (epoch d log) → ⊥ = λ same.
-    reset (sym (epoch-there machine d id log place has) ∙ same-epochs machine d (epoch d (take (place + 1) log)) (epoch d log) (sym own.uuid ∙ same)) in
+    reset (sym (epoch-there (reading_of d) log place (apart d) has.snapshot) ∙ same-epochs machine d (epoch d (take (place + 1) log)) (epoch d log) (sym own.uuid ∙ same)) in
     ap (λ x. cond x (Ok (touched_areas c d (unwrap_or (mark_of_id machine d id log) 0) (mark s log) log)) (Err (in_force machine d log)))
     (first-fails (id.uuid == packed machine d (epoch d log)) (epoch d (before s log) == epoch d log) (nat_le 1 id.seq) (nat_le id.seq (number d (through s log)))
     (ne_eqb id.uuid (packed machine d (epoch d log)) apart))

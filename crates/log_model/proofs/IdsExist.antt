@@ -11,11 +11,12 @@ use Rattle.log_model.specs.declared.folds.Tracking.{Tracking}
 use Rattle.log_model.specs.declared.folds.Tracking.TheVariants.{Never, Enabled, Active}
 use Rattle.log_model.specs.Entry.{is_snap, is_enable, is_on, resets}
 use Rattle.log_model.specs.Legal.{is_enabled, enabled_after}
-use Rattle.log_model.specs.Marks.{mark, before, through, epoch, counted, counted_after, number, tracking, tracking_after, in_force}
+use Rattle.log_model.specs.Marks.{reading_of, takes_in, mark, before, through, epoch, counted, counted_after, number, tracking, tracking_after, in_force}
 use Rattle.log_model.specs.Laws.{SnapshotsHaveIds, NextHasId, ActiveIsEnabled}
-use Rattle.log_model.proofs.Last.{by_last, at_place}
-use Rattle.log_model.proofs.NumberLaws.{counted-last}
-use Rattle.log_model.proofs.Epochs.{takes-at_mark, snap-takes, snap-resets_none, in_force-made}
+use Rattle.change_id.proofs.Ends.{by_last, at_place}
+use Rattle.change_id.proofs.Counts.{counted-last}
+use Rattle.change_id.proofs.IdMarks.{takes-at_mark, in_force-made}
+use Rattle.log_model.proofs.Readings.{snap-takes, snap-resets_none}
 
 enabled-last : (log : List Entry) (e : Entry) → is_enabled (log ++ e ∷ []) ≡ enabled_after (is_enabled log) e
 enabled-last log e = fold-append enabled_after false log (e ∷ [])
@@ -42,7 +43,7 @@ counted-step d e (Some n) = goes_on (resets d e.act) (is_snap e.act) n ∙ sym (
 counted-enabled : (d : ℕ) (log : List Entry) → is_some (counted d log) ≡ is_enabled log
 counted-enabled d =
     by_last (λ log. is_some (counted d log) ≡ is_enabled log) refl
-    (λ log e h. ap (λ (o : Option ℕ). is_some o) (counted-last d log e) ∙ counted-step d e (counted d log) ∙ ap (λ b. enabled_after b e) h ∙ sym (enabled-last log e))
+    (λ log e h. ap (λ (o : Option ℕ). is_some o) (counted-last (reading_of d) log e) ∙ counted-step d e (counted d log) ∙ ap (λ b. enabled_after b e) h ∙ sym (enabled-last log e))
 
 -- ---- a snapshot that is taken next
 
@@ -57,8 +58,8 @@ pub next_has_id : NextHasId
 next_has_id machine d log e enabled snap =
     let whole : List Entry = log ++ e ∷ [] in
     let id : ChangeId = record { uuid = packed machine d (epoch d whole); seq = number d whole } in
-    let low : 1 ≤ number d whole = subst (λ (o : Option ℕ). 1 ≤ unwrap_or o 0) (sym (counted-last d log e)) (next-number d e (counted d log) (counted-enabled d log ∙ enabled) snap) in
-    (id, in_force-made machine d id whole (record { counted = low; uuid = refl; seq = refl }))
+    let low : 1 ≤ number d whole = subst (λ (o : Option ℕ). 1 ≤ unwrap_or o 0) (sym (counted-last (reading_of d) log e)) (next-number d e (counted d log) (counted-enabled d log ∙ enabled) snap) in
+    (id, in_force-made (reading_of d) machine d id whole (record { counted = low; uuid = refl; seq = refl }))
 
 snap-enables_none : (act : Act) → is_snap act ≡ true → is_enable act ≡ false
 snap-enables_none (Write disk first sectors) h = refl
@@ -79,7 +80,7 @@ made u n = record { uuid = u; seq = n }
 never-id : (machine d : ℕ) (log : List Entry) (e : Entry) → is_enabled log ≡ false → is_snap e.act ≡ true → in_force machine d (log ++ e ∷ []) ≡ None
 never-id machine d log e never snap =
     let whole : List Entry = log ++ e ∷ [] in
-    let zero : number d whole ≡ 0 = ap (λ (o : Option ℕ). unwrap_or o 0) (counted-last d log e) ∙ never-number d e (counted d log) (counted-enabled d log ∙ never) snap in
+    let zero : number d whole ≡ 0 = ap (λ (o : Option ℕ). unwrap_or o 0) (counted-last (reading_of d) log e) ∙ never-number d e (counted d log) (counted-enabled d log ∙ never) snap in
     ap (λ n. cond (eqb n 0) None (Some (made (packed machine d (epoch d whole)) (number d whole)))) zero
 
 pub snapshots_have_ids : SnapshotsHaveIds
@@ -87,7 +88,7 @@ snapshots_have_ids s log within =
     let here = at_place log (mark s log) within in
     let e : Entry = here.0 in
     let upto : through s log ≡ before s log ++ e ∷ [] = ap (λ m. take m log) (add-one (mark s log)) ∙ here.2 in
-    let snap : is_snap e.act ≡ true = snap-takes s e.act (takes-at_mark s log e here.1) in
+    let snap : is_snap e.act ≡ true = snap-takes s e.act (takes-at_mark takes_in s log e here.1) in
     record {
       enabled = λ machine d is. let found = next_has_id machine d (before s log) e is snap in (found.0, ap (in_force machine d) upto ∙ found.1);
       never = λ machine d is. ap (in_force machine d) upto ∙ never-id machine d (before s log) e is snap;

@@ -6,36 +6,24 @@ use Rattle.std.proofs.lemmas.List.{take-append-le}
 use Rattle.std.proofs.lemmas.Option.{same_Some}
 use Rattle.log_model.specs.declared.entry.Entry.{Entry}
 use Rattle.log_model.specs.Entry.{takes, is_snap, is_enable, resets, contents}
-use Rattle.log_model.specs.Marks.{mark, before, through, epoch, counted, number, in_force}
+use Rattle.log_model.specs.Marks.{reading_of, takes_in, mark, before, through, epoch, counted, number, in_force}
 use Rattle.log_model.specs.Frozen.{last_off}
 use Rattle.log_model.specs.PlainMachine.{numbered_place}
 use Rattle.log_model.specs.Laws.{GivesNumber, NumberedPlaceGives, LaterEntriesKeep}
-use Rattle.log_model.proofs.Last.{at_place}
-use Rattle.log_model.proofs.NumberLaws.{numbers_have_no_gap, epoch-last, number-last, not_started}
-
-prefix_step : {X : Type 0} (p : X → Bool) (x : X) (xs ys : List X) (b : Bool) → p x ≡ b → (prefix_len p xs < length xs → prefix_len p (xs ++ ys) ≡ prefix_len p xs)
-    → cond (p x) (1 + prefix_len p xs) 0 < suc (length xs) → cond (p x) (1 + prefix_len p (xs ++ ys)) 0 ≡ cond (p x) (1 + prefix_len p xs) 0
-prefix_step p x xs ys true is more less =
-    let long : cond (p x) (1 + prefix_len p xs) 0 ≡ 1 + prefix_len p xs = ap (λ c. cond c (1 + prefix_len p xs) 0) is in
-    ap (λ n. cond (p x) (1 + n) 0) (more (omega arith))
-prefix_step p x xs ys false is more less = ap (λ c. cond c (1 + prefix_len p (xs ++ ys)) 0) is ∙ sym (ap (λ c. cond c (1 + prefix_len p xs) 0) is)
-
-pub prefix_len-append : {X : Type 0} (p : X → Bool) (xs ys : List X) → prefix_len p xs < length xs → prefix_len p (xs ++ ys) ≡ prefix_len p xs
-prefix_len-append p [] ys less = absurd (omega arith)
-prefix_len-append p (x ∷ xs) ys less = prefix_step p x xs ys (p x) refl (prefix_len-append p xs ys) less
+use Rattle.change_id.proofs.Ends.{at_place}
+use Rattle.change_id.proofs.Counts.{epoch-last, not_started}
+use Rattle.change_id.proofs.Numbers.{numbers_have_no_gap, no_new_number}
+use Rattle.change_id.proofs.IdMarks as any
+use Rattle.change_id.specs.HistoryLaws.{LaterKeep}
 
 pub later_entries_keep : LaterEntriesKeep
 later_entries_keep s log more less =
-    let same : mark s (log ++ more) ≡ mark s log = prefix_len-append (λ e. not (takes s e.act)) log more less in
-    let short : mark s log ≤ length log = omega arith in
-    let next : mark s log + 1 ≤ length log = omega arith in
-    let front : before s (log ++ more) ≡ before s log = ap (λ n. take n (log ++ more)) same ∙ take-append-le (mark s log) log more short in
-    let upto : through s (log ++ more) ≡ through s log = ap (λ n. take (n + 1) (log ++ more)) same ∙ take-append-le (mark s log + 1) log more next in
+    let keep : (d : ℕ) → LaterKeep (reading_of d) s log more = λ d. any.later_entries_keep (reading_of d) s log more less in
     record {
-      mark_stays = same;
-      contents_stay = λ c d. ap (contents c d) front;
-      id_stays = λ machine d. ap (in_force machine d) upto;
-      off_place_stays = ap last_off front;
+      mark_stays = (keep 0).mark_stays;
+      contents_stay = λ c d. ap (contents c d) (keep 0).before_stays;
+      id_stays = λ machine d. (keep d).id_stays machine d;
+      off_place_stays = ap last_off (keep 0).before_stays;
     }
 
 -- ---- the first place that passes a test
@@ -81,18 +69,6 @@ first_passing test a (suc n) i less here = first_at test a n i (test a) refl les
 
 -- ---- the first place with the number is that of a Snap entry
 
--- an entry that takes no snapshot gives no new number
-pub no_new_number : (d n : ℕ) (log : List Entry) (e : Entry) (o : Option ℕ) (r : Bool) → counted d log ≡ o → resets d e.act ≡ r → is_snap e.act ≡ false → 1 ≤ n → number d (log ++ e ∷ []) ≡ n
-    → (number d log ≡ n) × (resets d e.act ≡ false)
-no_new_number d n log e None r same is_r none low now =
-    let zero_now : number d (log ++ e ∷ []) ≡ 0 = number-last d log e None same ∙ not_started (is_enable e.act) in absurd (omega arith)
-no_new_number d n log e (Some m) true same is_r none low now =
-    let zero_now : number d (log ++ e ∷ []) ≡ 0 = number-last d log e (Some m) same ∙ ap (λ b. unwrap_or (cond b (Some 0) (cond (is_snap e.act) (Some (m + 1)) (Some m))) 0) is_r in absurd (omega arith)
-no_new_number d n log e (Some m) false same is_r none low now =
-    let stays : number d (log ++ e ∷ []) ≡ m = number-last d log e (Some m) same ∙ ap (λ b. unwrap_or (cond b (Some 0) (cond (is_snap e.act) (Some (m + 1)) (Some m))) 0) is_r ∙ ap (λ b. unwrap_or (cond b (Some (m + 1)) (Some m)) 0) none in
-    let was : number d log ≡ m = ap (λ (x : Option ℕ). unwrap_or x 0) same in
-    (was ∙ sym stays ∙ now, is_r)
-
 abbrev gives : ℕ → ℕ → List Entry → ℕ → Bool
 gives d n log k = epoch d (take (k + 1) log) == epoch d log && number d (take (k + 1) log) == n
 
@@ -103,9 +79,9 @@ no_snap d n zero log e low upto none epochs numbered first =
     let zero_now : number d (take 1 log) ≡ 0 = ap (number d) upto ∙ not_started (is_enable e.act) in omega arith
 no_snap d n (suc j) log e low upto none epochs numbered first =
     let short : List Entry = take (suc j) log in
-    let old = no_new_number d n short e (counted d short) (resets d e.act) refl refl none low (ap (number d) (sym upto) ∙ numbered) in
+    let old = no_new_number (reading_of d) n short e (counted d short) (resets d e.act) refl refl none low (ap (number d) (sym upto) ∙ numbered) in
     let same_place : take (j + 1) log ≡ short = ap (λ m. take m log) (add-one j) in
-    let epoch_here : epoch d (take (j + 1) log) ≡ epoch d log = ap (epoch d) same_place ∙ sym (ap (epoch d) upto ∙ epoch-last d short e old.1) ∙ epochs in
+    let epoch_here : epoch d (take (j + 1) log) ≡ epoch d log = ap (epoch d) same_place ∙ sym (ap (epoch d) upto ∙ epoch-last (reading_of d) short e old.1) ∙ epochs in
     let number_here : number d (take (j + 1) log) ≡ n = ap (number d) same_place ∙ old.0 in
     false≢true (sym (first j (omega arith)) ∙ and_from (epoch d (take (j + 1) log) == epoch d log) (number d (take (j + 1) log) == n)
     (eq-eqb (epoch d (take (j + 1) log)) (epoch d log) epoch_here) (eq-eqb (number d (take (j + 1) log)) n number_here))
@@ -117,7 +93,7 @@ is_taken d n k log e false low upto is epochs numbered first = absurd (no_snap d
 
 pub numbered_place_gives : NumberedPlaceGives
 numbered_place_gives d n log low high =
-    let some = numbers_have_no_gap d n log low high in
+    let some = numbers_have_no_gap (reading_of d) n log low high in
     let place : ℕ = some.0 in
     let at : 0 + place ≡ place = omega arith in
     let passes : gives d n log (0 + place) ≡ true =

@@ -4,16 +4,15 @@ use Rattle.std.proofs.lemmas.List.{take-append-le}
 use Rattle.sector_model.specs.Run.{touched_blocks}
 use Rattle.log_model.specs.declared.entry.Entry.{Entry}
 use Rattle.log_model.specs.Entry.{writes_of, contents}
-use Rattle.log_model.specs.Marks.{epoch}
+use Rattle.log_model.specs.Marks.{reading_of, takes_in, epoch}
 use Rattle.log_model.specs.Laws.{LaterEntriesKeepPlaces}
-use Rattle.log_model.proofs.NumberLaws.{epoch-append}
-use Rattle.log_model.proofs.Epochs.{epoch-le}
+use Rattle.change_id.proofs.Counts.{epoch-append, epoch-le}
 
 still-reset : (d place : ℕ) (log more : List Entry) → take place (log ++ more) ≡ take place log → (epoch d (take place log) ≡ epoch d log → ⊥)
     → epoch d (take place (log ++ more)) ≡ epoch d (log ++ more) → ⊥
 still-reset d place log more front reset same =
-    let low = epoch-le d place log in
-    let longer = epoch-append d log more in
+    let low = epoch-le (reading_of d) place log in
+    let longer = epoch-append (reading_of d) log more in
     let e : epoch d (take place (log ++ more)) ≡ epoch d (take place log) = ap (epoch d) front in
     reset (omega (arith, low, longer, e, same))
 

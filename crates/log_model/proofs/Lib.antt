@@ -1,7 +1,7 @@
 pub mod Last
 pub mod LegalLogs
 pub mod OffLaws
-pub mod NumberLaws
+pub mod Readings
 pub mod TouchedLaws
 pub mod AnswerPages
 pub mod FoldLemmas
@@ -10,9 +10,7 @@ pub mod Accepted
 pub mod OwnedLaws
 pub mod SectorAt
 pub mod Later
-pub mod Epochs
 pub mod LaterPlaces
-pub mod IdMarks
 pub mod IdsExist
 pub mod AnswerLaws
 pub mod Live

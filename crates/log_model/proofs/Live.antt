@@ -17,7 +17,7 @@ use Rattle.log_model.specs.Legal.{Disks, Legal, ActMayStand, ActsFor, OwnerLets,
 use Rattle.log_model.specs.Marks.{mark}
 use Rattle.log_model.specs.Link.{is_by}
 use Rattle.log_model.specs.Laws.{MigrationsKeepTheirs, MigrationsGetNone, OthersLeaveMigrations}
-use Rattle.log_model.proofs.Last.{by_last}
+use Rattle.change_id.proofs.Ends.{by_last}
 use Rattle.log_model.proofs.LegalLogs.{legal_last, legal_front}
 use Rattle.log_model.proofs.OwnedLaws.{owner_of-last, owned_taken}
 

@@ -15,7 +15,8 @@ use Rattle.log_model.specs.Legal.{Disks, Legal, ActMayStand, machine_on, on_afte
 use Rattle.log_model.specs.Marks.{mark, before}
 use Rattle.log_model.specs.Frozen.{last_off, off_after, off_place}
 use Rattle.log_model.specs.Laws.{NoWriteWhileOff, OffIsFrozen}
-use Rattle.log_model.proofs.Last.{by_last, enumerate_from-append}
+use Rattle.change_id.proofs.Ends.{by_last}
+use Rattle.log_model.proofs.Last.{enumerate_from-append}
 use Rattle.log_model.proofs.LegalLogs.{legal_last, legal_front, prefixes_are_legal}
 
 -- where the machine is off, since which place, and that no write stands behind it

@@ -10,7 +10,7 @@ use Rattle.log_model.specs.Entry.{is_off}
 use Rattle.log_model.specs.Legal.{machine_on, on_after}
 use Rattle.log_model.specs.Frozen.{last_off, off_after}
 use Rattle.log_model.specs.Laws.{HasOffPlace, OffHasPlace}
-use Rattle.log_model.proofs.Last.{by_last}
+use Rattle.change_id.proofs.Ends.{by_last}
 use Rattle.basics.proofs.ItemAt.{slice_get-last}
 use Rattle.log_model.proofs.OffLaws.{last_off-last, machine_on-last}
 

@@ -10,7 +10,7 @@ use Rattle.log_model.specs.declared.entry.Entry.{Entry}
 use Rattle.log_model.specs.Entry.{is_snap}
 use Rattle.log_model.specs.Legal.{Disks, Legal, ActMayStand, taken, owner_of, owner_after}
 use Rattle.log_model.specs.Link.{IsLeastOwned}
-use Rattle.log_model.proofs.Last.{by_last}
+use Rattle.change_id.proofs.Ends.{by_last}
 use Rattle.log_model.proofs.LegalLogs.{legal_last, legal_front}
 
 pub taken-append : (xs ys : List Entry) → taken (xs ++ ys) ≡ taken xs + taken ys

@@ -10,12 +10,13 @@ use Rattle.log_model.specs.declared.entry.Act.TheVariants.{Write, Snap, Remove, 
 use Rattle.log_model.specs.declared.entry.Entry.{Entry}
 use Rattle.log_model.specs.Entry.{is_snap, takes}
 use Rattle.log_model.specs.Legal.{Disks, Legal, ActMayStand, taken}
-use Rattle.log_model.specs.Marks.{mark}
+use Rattle.log_model.specs.Marks.{reading_of, takes_in, mark}
 use Rattle.log_model.specs.Laws.{SnapsHaveTheirMarks, EachWasTaken, MarksAscend, LiveWasTaken}
-use Rattle.log_model.proofs.Last.{by_last, at_place}
+use Rattle.change_id.proofs.Ends.{by_last, at_place}
 use Rattle.log_model.proofs.LegalLogs.{legal_last, legal_front}
 use Rattle.log_model.proofs.OwnedLaws.{taken-append, owned_taken}
-use Rattle.log_model.proofs.Epochs.{takes-at_mark, snap-takes}
+use Rattle.change_id.proofs.IdMarks.{takes-at_mark}
+use Rattle.log_model.proofs.Readings.{snap-takes}
 use Rattle.log_model.proofs.Live.{mark-pushed, mark-kept, live_taken}
 
 taken-take-le : (m k : ℕ) (log : List Entry) → m ≤ k → taken (take m log) ≤ taken (take k log)
@@ -100,7 +101,7 @@ each_was_taken disks log s legal low high =
 number-of_mark : (disks : Disks) (log : List Entry) (s : ℕ) → Legal disks log → mark s log < length log → s ≡ taken (take (mark s log) log) + 1
 number-of_mark disks log s legal within =
     let here = at_place log (mark s log) within in
-    number-at disks log s (mark s log) here.0 legal here.1 (takes-at_mark s log here.0 here.1)
+    number-at disks log s (mark s log) here.0 legal here.1 (takes-at_mark takes_in s log here.0 here.1)
 
 pub marks_ascend : MarksAscend
 marks_ascend disks log s t legal low less high =

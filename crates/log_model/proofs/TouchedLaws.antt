@@ -20,7 +20,7 @@ use Rattle.log_model.specs.Touched.{between}
 use Rattle.log_model.specs.Laws.{TouchedJoins, UntouchedStays, ContentsAreSized}
 use Rattle.sector_model.proofs.WritesKept.{untouched, length-after_writes}
 use Rattle.sector_model.proofs.Touched.{in_touched, not_touched, fits-push, fits-back}
-use Rattle.log_model.proofs.Last.{by_last}
+use Rattle.change_id.proofs.Ends.{by_last}
 use Rattle.log_model.proofs.LegalLogs.{legal_last, legal_front, prefixes_are_legal}
 
 pub writes-append : (d : ℕ) (xs ys : List Entry) → writes_of d (xs ++ ys) ≡ writes_of d xs ++ writes_of d ys

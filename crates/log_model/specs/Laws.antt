@@ -6,6 +6,8 @@ use Rattle.sector_model.specs.Run.{in_blocks, end_of, AreSpaced}
 use Rattle.sector_model.specs.Page.{PageContents, areas_from, page_from, ArePages, LiesWithin}
 use Rattle.sector_model.specs.declared.run.Run.{Run}
 use Rattle.sector_model.specs.declared.sector.Sector.{Sector}
+use Rattle.change_id.specs.History as history
+use Rattle.change_id.specs.HistoryLaws as laws
 use Rattle.change_id.specs.declared.ChangeId.{ChangeId}
 use Rattle.change_id.specs.declared.Since.{Since}
 use Rattle.change_id.specs.declared.Since.TheVariants.{From}
@@ -18,7 +20,7 @@ use Rattle.log_model.specs.declared.entry.Entry.{Entry}
 use Rattle.log_model.specs.declared.folds.Tracking.TheVariants.{Active}
 use Rattle.log_model.specs.Entry.{writes_of, contents, is_snap, is_off, takes, removes}
 use Rattle.log_model.specs.Legal.{Disks, all_of, only, HasDisk, Legal, MayStand, ActsFor, machine_on, is_enabled, taken, owner_of}
-use Rattle.log_model.specs.Marks.{mark, before, epoch, number, tracking, in_force, id_at, mark_of_id, TakesSnapshot, HasId}
+use Rattle.log_model.specs.Marks.{reading_of, mark, before, epoch, number, tracking, in_force, id_at, mark_of_id, TakesSnapshot, HasId}
 use Rattle.log_model.specs.Frozen.{frozen, last_off, off_place}
 use Rattle.log_model.specs.Touched.{between, touched, touched_areas}
 use Rattle.log_model.specs.Query.{changed_areas, accepts}
@@ -81,10 +83,8 @@ OffIsFrozen = (disks : Disks) (log : List Entry) (c d s place : ℕ)
     → contents c d (take place log) ≡ frozen c d s log
 
 -- the number n has been given in the epoch that disk d has now, at this place, by a Snap entry
-pub record GivesNumber (d n : ℕ) (log : List Entry) (place : ℕ) : Type 0 where
-  pub snapshot : TakesSnapshot log place
-  pub same_epoch : epoch d (take (place + 1) log) ≡ epoch d log
-  pub numbered : number d (take (place + 1) log) ≡ n
+abbrev pub GivesNumber : (d n : ℕ) (log : List Entry) (place : ℕ) → Type 0
+GivesNumber d n log place = history.GivesNumber (reading_of d) n log place
 
 -- the numbers of one epoch are 1, 2 and so on: each of them up to the last is given, and none twice
 abbrev pub NumbersHaveNoGap : Type 0
@@ -235,18 +235,9 @@ NumberedPlaceIsMark = (machine d s : ℕ) (id : ChangeId) (log : List Entry)
     → accepts machine d s id log ≡ true
     → mark_of_id machine d id log ≡ Some (numbered_place d id.seq log)
 
--- the mark of an identifier is the one place of the snapshot that has it
-pub record MarksOfIds (machine d : ℕ) (id : ChangeId) (log : List Entry) : Type 0 where
-  pub found : (place : ℕ) → HasId machine d id log place
-      → mark_of_id machine d id log ≡ Some place
-  pub has : (place : ℕ) → mark_of_id machine d id log ≡ Some place
-      → HasId machine d id log place
-  -- that of a snapshot's identifier is the snapshot's mark
-  pub of_snapshot : (s : ℕ) → mark s log < length log → id_at machine d s log ≡ Some id
-      → mark_of_id machine d id log ≡ Some (mark s log)
-  -- and later entries leave it
-  pub stays : (place : ℕ) (more : List Entry) → mark_of_id machine d id log ≡ Some place
-      → mark_of_id machine d id (log ++ more) ≡ Some place
+-- the mark of an identifier is the one place of the snapshot that has it, and later entries leave it
+abbrev pub MarksOfIds : (machine d : ℕ) (id : ChangeId) (log : List Entry) → Type 0
+MarksOfIds machine d id log = laws.MarksOfIds (reading_of d) machine d id log
 
 -- the touched blocks between i and k are those between i and j and those between j and k
 abbrev pub TouchedJoins : Type 0

@@ -75,11 +75,9 @@ abbrev pub mark_of_id : (machine disk : ℕ) → ChangeId → List Entry → Opt
 mark_of_id machine disk id log = history.mark_of_id (reading_of disk) machine disk id log
 
 -- the entry at this place takes a snapshot
-pub record TakesSnapshot (log : List Entry) (place : ℕ) : Type 0 where
-  pub within : place < length log
-  pub by_snap : (e : Entry) → slice_get log place ≡ Some e → is_snap e.act ≡ true
+abbrev pub TakesSnapshot : (log : List Entry) (place : ℕ) → Type 0
+TakesSnapshot log place = history.TakesSnapshot (λ e. is_snap e.act) log place
 
 -- the entry at this place takes a snapshot, which has the identifier for the disk
-pub record HasId (machine disk : ℕ) (id : ChangeId) (log : List Entry) (place : ℕ) : Type 0 where
-  pub snapshot : TakesSnapshot log place
-  pub identified : in_force machine disk (take (place + 1) log) ≡ Some id
+abbrev pub HasId : (machine disk : ℕ) (id : ChangeId) (log : List Entry) (place : ℕ) → Type 0
+HasId machine disk id log place = history.HasId (reading_of disk) machine disk id log place

@@ -18,7 +18,7 @@ use Rattle.log_model.specs.Frozen.{last_off, off_place}
 use Rattle.log_model.specs.Laws.{HasOffPlace}
 use Rattle.log_model.proofs.Later.{later_entries_keep}
 use Rattle.log_model.proofs.LegalLogs.{length-take-le}
-use Rattle.log_model.proofs.IdMarks.{marks_of_ids}
+use Rattle.log_model.proofs.Readings.{marks_of_ids}
 use Rattle.log_model.proofs.OffPlace.{off_has_place}
 use Rattle.warm_core.specs.declared.disk_world.Base.{Base}
 use Rattle.warm_core.specs.declared.stage_state.StageState.{StageState}

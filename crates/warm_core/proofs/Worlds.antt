@@ -17,10 +17,11 @@ use Rattle.log_model.specs.declared.entry.Owner.{Owner}
 use Rattle.log_model.specs.declared.link.Snapped.{Snapped}
 use Rattle.log_model.specs.Entry.{removes, takes, is_snap}
 use Rattle.log_model.specs.Legal.{Legal, only, owner_of, machine_on}
-use Rattle.log_model.specs.Marks.{mark, before, in_force, id_at, HasId}
+use Rattle.log_model.specs.Marks.{takes_in, mark, before, in_force, id_at, HasId}
 use Rattle.log_model.specs.Frozen.{last_off, off_place}
 use Rattle.log_model.specs.Touched.{touched}
-use Rattle.log_model.proofs.Epochs.{takes-at_mark, snap-takes}
+use Rattle.change_id.proofs.IdMarks.{takes-at_mark}
+use Rattle.log_model.proofs.Readings.{snap-takes}
 use Rattle.log_model.proofs.SnapMarks.{live_was_taken}
 use Rattle.log_model.proofs.TouchedLaws.{touched_joins}
 use Rattle.warm_core.specs.declared.disk_world.Base.{Base}
@@ -193,7 +194,7 @@ has-id machine d log s id snap is =
     record {
       snapshot = record {
         within = snap.within;
-        by_snap = λ e read. snap-takes s.id e.act (takes-at_mark s.id log e (ap (slice_get log) at ∙ read));
+        by_snap = λ e read. snap-takes s.id e.act (takes-at_mark takes_in s.id log e (ap (slice_get log) at ∙ read));
       };
       identified = ap (λ n. in_force machine d (take (n + 1) log)) (sym at) ∙ is;
     }

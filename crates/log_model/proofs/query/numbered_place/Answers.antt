@@ -2,7 +2,7 @@ use Rattle.std.proofs.Common.{◌≡◌, ℕ, ◌+◌, List, Bool, true, ◌==�
 use Rattle.std.proofs.lemmas.Bool.{and_from, eq-eqb}
 use Rattle.log_model.specs.declared.entry.Entry.{Entry}
 use Rattle.log_model.specs.Marks.{epoch, number}
-use Rattle.log_model.proofs.FoldLemmas.{find-range_at, find-range_none}
+use Rattle.change_id.proofs.Ends.{find-range_at, find-range_none}
 use Rattle.log_model.proofs.query.numbered_place.Goals as goal
 
 abbrev gives : ℕ → ℕ → List Entry → ℕ → ℕ → Bool
