@@ -5,14 +5,13 @@ use Rattle.std.specs.Prelude.{◌≡◌, ℕ, length, take, Bool, true, false, O
 use Rattle.std.specs.Option.{option_map_or}
 use Rattle.log_model.specs.declared.entry.TheConstants.{MIGRATION_CALLER}
 use Rattle.log_model.specs.Link.{LinkState}
-use Rattle.log_model.specs.PlainMachine.{plain_state}
-use Rattle.fleet.specs.Fleet.{VmState, FleetState, vm_of, vm_in, with_vm_at}
+use Rattle.source_vm.specs.Machine.{link_of}
+use Rattle.fleet.specs.Fleet.{VmState, FleetState, vm_of, vm_in, machine_of, with_vm_at}
 
 -- the link over the machine with this number, where it isn't out: it is the only one, and has the
 -- number under which migrations are carried out
 abbrev pub lifted : (number : ℕ) → FleetState → Option LinkState
-lifted number fleet =
-    option_map (λ vm. plain_state number vm.capacities MIGRATION_CALLER vm.log) (vm_in number fleet)
+lifted number fleet = option_map (link_of MIGRATION_CALLER) (machine_of number fleet)
 
 abbrev pub after_lift : (number : ℕ) → FleetState → FleetState
 after_lift number fleet = option_map_or

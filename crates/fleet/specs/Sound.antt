@@ -1,20 +1,12 @@
 -- What is true of every fleet: its hosts and machines have names that are told apart, hosts have
 -- limits, and each machine has a host and a log that may be.
-use Rattle.std.specs.Prelude.{◌≡◌, ◌≢◌, ℕ, ◌<◌, ◌≤◌, List, length, All, AllPairs, Bool, true, false, ◌&&◌, nat_le}
-use Rattle.std.specs.List.{list_all}
+use Rattle.std.specs.Prelude.{◌≡◌, ◌≢◌, ℕ, ◌<◌, ◌≤◌, length, All, AllPairs, false}
 use Rattle.basics.specs.Spelled.{IsName}
-use Rattle.basics.specs.declared.limits.TheConstants.{MAX_DISKS, MAX_DISK_SECTORS, MAX_HOST_LIMIT}
+use Rattle.basics.specs.declared.limits.TheConstants.{MAX_HOST_LIMIT}
 use Rattle.log_model.specs.Legal.{Legal, all_of}
+use Rattle.source_vm.specs.Machine.{MayHaveDisks}
 use Rattle.fleet.specs.declared.limits.TheConstants.{MAX_HOSTS, MAX_VMS}
 use Rattle.fleet.specs.Fleet.{HostState, VmState, FleetState}
-
-abbrev pub is_capacity : ℕ → Bool
-is_capacity capacity = nat_le 1 capacity && nat_le capacity MAX_DISK_SECTORS
-
--- a machine may have disks of these capacities
-abbrev pub may_be_disks : (capacities : List ℕ) → Bool
-may_be_disks capacities = nat_le 1 (length capacities) && nat_le (length capacities) MAX_DISKS
-    && list_all is_capacity capacities
 
 pub record IsHost (host : HostState) : Type 0 where
   pub named : IsName host.name
@@ -25,7 +17,7 @@ pub record IsHost (host : HostState) : Type 0 where
 pub record IsVm (hosts : ℕ) (vm : VmState) : Type 0 where
   pub named : IsName vm.name
   pub hosted : vm.host < hosts
-  pub disks : may_be_disks vm.capacities ≡ true
+  pub disks : MayHaveDisks vm.capacities
   pub legal : Legal (all_of vm.capacities) vm.log
 
 pub record IsFleet (fleet : FleetState) : Type 0 where

@@ -5,8 +5,8 @@ ghost use Rattle.basics.specs.Refusal.{IsRefusedOr};
 ghost use Rattle.basics.specs.Spelled.{IsName};
 ghost use Rattle.basics.specs.declared.limits.TheConstants.{MAX_HOST_LIMIT};
 ghost use Rattle.fleet.specs.Fleet.{HostState, empty_fleet, vm_number, machine_of, with_host, with_vm_under};
-ghost use Rattle.fleet.specs.Sound.{IsFleet, may_be_disks, is_capacity};
-ghost use Rattle.fleet.specs.Refusals.{add_host_refusal, add_vm_refusal};
+ghost use Rattle.fleet.specs.Sound.{IsFleet};
+ghost use Rattle.fleet.specs.Refusals.{add_host_refusal, add_vm_refusal, may_be_disks, is_capacity};
 ghost use Rattle.fleet.specs.Lending.{lifted, after_lift, MayGoBack, after_lower};
 
 use crate::name_map::NameMap;
