@@ -54,7 +54,7 @@ place_of-keys name entries =
     position-map (λ k. bytes_eq name (string_bytes k)) (λ e. e.0) entries
     ∙ sym (position-map (λ e. bytes_eq name e.0) (λ e. (string_bytes e.0, e.1)) entries)
 
-none_is : {X : Type 0} (o : Option X) → is_some o ≡ false → o ≡ None
+pub none_is : {X : Type 0} (o : Option X) → is_some o ≡ false → o ≡ None
 none_is None h = refl
 none_is (Some x) h = absurd (true≢false h)
 

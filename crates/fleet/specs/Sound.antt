@@ -1,6 +1,6 @@
 -- What is true of every fleet: its hosts and machines have names that are told apart, hosts have
 -- limits, and each machine has a host and a log that may be.
-use Rattle.std.specs.Prelude.{◌≡◌, ◌≢◌, ℕ, ◌<◌, ◌≤◌, length, All, AllPairs, false}
+use Rattle.std.specs.Prelude.{◌≡◌, ◌≢◌, ℕ, ◌<◌, ◌≤◌, length, map, All, AllPairs, false}
 use Rattle.basics.specs.Spelled.{IsName}
 use Rattle.basics.specs.declared.limits.TheConstants.{MAX_HOST_LIMIT}
 use Rattle.log_model.specs.Legal.{Legal, all_of}
@@ -23,8 +23,8 @@ pub record IsVm (hosts : ℕ) (vm : VmState) : Type 0 where
 pub record IsFleet (fleet : FleetState) : Type 0 where
   pub hosts : All IsHost fleet.hosts
   pub vms : All (IsVm (length fleet.hosts)) fleet.vms
-  pub host_names : AllPairs (λ host later. host.name ≢ later.name) fleet.hosts
-  pub vm_names : AllPairs (λ vm later. vm.name ≢ later.name) fleet.vms
+  pub host_names : AllPairs (λ name later. name ≢ later) (map (λ host. host.name) fleet.hosts)
+  pub vm_names : AllPairs (λ name later. name ≢ later) (map (λ vm. vm.name) fleet.vms)
   pub few_hosts : length fleet.hosts ≤ MAX_HOSTS
   pub few_vms : length fleet.vms ≤ MAX_VMS
 
