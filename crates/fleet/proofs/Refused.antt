@@ -53,3 +53,42 @@ module _ (hosts : List (List ℕ × Host)) (vms : List (List ℕ × Vm)) (fleet 
       → add_host_refusal name fleet ≡ None
   host_fits new room =
       rw (ap is_some host_is ∙ new, host_count, lt_told MAX_HOSTS (length hosts) room) refl
+
+  pub vm_is : vm_number name fleet ≡ option_map (λ place. place + 1) (place_of name vms)
+  vm_is = ap (vm_number name) (sym shown)
+      ∙ ap (option_map (λ place. place + 1)) (vm_place-kept hosts vms name)
+
+  vm_count : length fleet.vms ≡ length vms
+  vm_count = ap (λ (f : FleetState). length f.vms) (sym shown) ∙ length-map vms vm_state
+
+  is_vm : (b : Bool) → is_some (place_of name vms) ≡ b → is_some (vm_number name fleet) ≡ b
+  is_vm b h = ap is_some vm_is ∙ is_some-map _ (place_of name vms) ∙ h
+
+  module _ (host capacities : List ℕ) where
+    pub vm_taken : is_some (place_of name vms) ≡ true
+        → add_vm_refusal name host capacities fleet ≡ Some NameTaken
+    vm_taken there = rw (is_vm true there) refl
+
+    pub no_host : is_some (place_of name vms) ≡ false → place_of host hosts ≡ None
+        → add_vm_refusal name host capacities fleet ≡ Some UnknownHost
+    no_host new unknown = rw (is_vm false new, host_at ∙ unknown) refl
+      where
+        host_at : host_place host fleet ≡ place_of host hosts
+        host_at = ap (host_place host) (sym shown) ∙ host_place-kept hosts vms host
+
+    module _ (place : ℕ) (new : is_some (place_of name vms) ≡ false)
+        (known : place_of host hosts ≡ Some place) where
+      at : host_place host fleet ≡ Some place
+      at = ap (host_place host) (sym shown) ∙ host_place-kept hosts vms host ∙ known
+
+      pub bad_size : may_be_disks capacities ≡ false
+          → add_vm_refusal name host capacities fleet ≡ Some BadSize
+      bad_size bad = rw (is_vm false new, at, bad) refl
+
+      pub vms_full : may_be_disks capacities ≡ true → MAX_VMS ≤ length vms
+          → add_vm_refusal name host capacities fleet ≡ Some TooMany
+      vms_full good full = rw (is_vm false new, at, good, vm_count, le_told MAX_VMS (length vms) full) refl
+
+      pub vm_fits : may_be_disks capacities ≡ true → length vms < MAX_VMS
+          → add_vm_refusal name host capacities fleet ≡ None
+      vm_fits good room = rw (is_vm false new, at, good, vm_count, lt_told MAX_VMS (length vms) room) refl

@@ -75,6 +75,13 @@ IsFleet-with_vm name place capacities fleet is named hosted disks new room =
       few_vms = omega (arith, longer, room);
     }
 
+-- each machine of a fleet is one
+pub IsVm-at : (place : ℕ) (vm : VmState) (fleet : FleetState) → IsFleet fleet
+    → slice_get fleet.vms place ≡ Some vm → IsVm (length fleet.hosts) vm
+IsVm-at place vm fleet is at =
+    subst (IsVm (length fleet.hosts)) (get_or_from_slice_get fleet.vms place vm vm at)
+    (is.vms place vm (slice_get_within fleet.vms place vm at))
+
 -- where one machine changes, and keeps its name
 pub IsFleet-set : (place : ℕ) (old vm : VmState) (fleet : FleetState) → IsFleet fleet
     → slice_get fleet.vms place ≡ Some old → vm.name ≡ old.name → IsVm (length fleet.hosts) vm

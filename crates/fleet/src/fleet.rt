@@ -6,13 +6,13 @@ ghost use Rattle.basics.specs.Spelled.{IsName};
 ghost use Rattle.basics.specs.declared.limits.TheConstants.{MAX_HOST_LIMIT};
 ghost use Rattle.fleet.specs.Fleet.{HostState, empty_fleet, vm_number, machine_of, with_host, with_vm_under};
 ghost use Rattle.fleet.specs.Sound.{IsFleet};
-ghost use Rattle.fleet.specs.Refusals.{add_host_refusal, add_vm_refusal, may_be_disks, is_capacity};
+ghost use Rattle.fleet.specs.Refusals.{add_host_refusal, add_vm_refusal};
 ghost use Rattle.fleet.specs.Lending.{lifted, after_lift, MayGoBack, after_lower};
 
 use crate::name_map::NameMap;
+use crate::sizes::may_be_disks;
 use crate::vm::{Host, Vm};
 use crate::{FleetRefused, MAX_HOSTS, MAX_VMS};
-use basics::{MAX_DISK_SECTORS, MAX_DISKS, MAX_HOST_LIMIT};
 use source_vm::{Machine, PlainLink};
 use std::alloc::Global;
 use std::marker::Model;
@@ -59,7 +59,7 @@ impl Fleet {
 
     /// Adds a host. `name` is a name of 1 to 32 bytes of `a` to `z`, `0` to `9` and `-`, and
     /// `limit` is how many disks that are copied from the host may be in flight, 1 to
-    /// [`MAX_HOST_LIMIT`]. [`FleetRefused::NameTaken`] where a host has that name, then
+    /// [`MAX_HOST_LIMIT`](basics::MAX_HOST_LIMIT). [`FleetRefused::NameTaken`] where a host has that name, then
     /// [`FleetRefused::TooMany`] where there are [`MAX_HOSTS`] hosts, and
     /// [`FleetRefused::NoMemory`]. A refused call changes nothing.
     pub fn add_host(&mut self, name: &str, limit: u32) -> Result<(), FleetRefused>
@@ -85,8 +85,8 @@ impl Fleet {
     /// for the first one, then 2 and so on. `name` is a name as for [`Fleet::add_host`], and
     /// `capacities` are the sizes of its disks in sectors. [`FleetRefused::NameTaken`] where a
     /// machine has that name; [`FleetRefused::UnknownHost`] where no host has that one;
-    /// [`FleetRefused::BadSize`] where there aren't 1 to [`MAX_DISKS`] capacities of 1 to
-    /// [`MAX_DISK_SECTORS`]; [`FleetRefused::TooMany`] where there are [`MAX_VMS`] machines; and
+    /// [`FleetRefused::BadSize`] where there aren't 1 to [`MAX_DISKS`](basics::MAX_DISKS) capacities of 1 to
+    /// [`MAX_DISK_SECTORS`](basics::MAX_DISK_SECTORS); [`FleetRefused::TooMany`] where there are [`MAX_VMS`] machines; and
     /// [`FleetRefused::NoMemory`]. A refused call changes nothing.
     pub fn add_vm(
         &mut self,
@@ -117,7 +117,8 @@ impl Fleet {
         }
         let number = self.vms.len() as u32 + 1;
         let machine = Machine::new(self.alloc, number, capacities)?;
-        self.vms.push(name, Vm::new(place as u32, machine))?;
+        let vm = Vm::of(place as u32, machine);
+        self.vms.push(name, vm)?;
         Ok(number)
     }
 
@@ -181,21 +182,7 @@ impl Fleet {
         let machine = link.into_machine();
         let place = machine.number() as usize - 1;
         let host = self.vms.at(place).unwrap().host;
-        let _ = self.vms.replace(place, Vm::new(host, machine));
+        let vm = Vm::of(host, machine);
+        let _ = self.vms.replace(place, vm);
     }
-}
-
-/// Whether a machine may have disks of these capacities.
-fn may_be_disks(capacities: &[u64]) -> bool
-    ensures { result ≡ may_be_disks capacities.now }
-{
-    !capacities.is_empty()
-        && capacities.len() <= MAX_DISKS
-        && capacities.iter().all(|capacity| is_capacity(*capacity))
-}
-
-fn is_capacity(capacity: u64) -> bool
-    ensures { result ≡ is_capacity capacity }
-{
-    1 <= capacity && capacity <= MAX_DISK_SECTORS
 }

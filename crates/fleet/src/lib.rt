@@ -7,6 +7,7 @@ mod laws;
 mod limits;
 mod name_map;
 mod refusals;
+mod sizes;
 mod vm;
 
 pub use fleet::Fleet;

@@ -25,7 +25,7 @@ pub(crate) struct Vm {
 
 impl Vm {
     /// A machine on the host at this place.
-    pub fn new(host: u32, machine: Machine) -> Vm
+    pub fn of(host: u32, machine: Machine) -> Vm
         ensures host { result.host ≡ host }
         ensures machine { result.machine ≡ Some machine }
     {
