@@ -1,6 +1,6 @@
 -- What a fleet shows where what stands at one place of its machines is replaced, and that it stays
 -- what its definition asks.
-use Rattle.std.proofs.Common.{◌≡◌, ℕ, ◌+◌, ◌-◌, ◌<◌, ◌≤◌, Bool, true, false, List, map, length, set, Option, Some, None, unwrap_or, option_map, IsSomeAnd, nat_le, refl, ap, ◌∙◌, sym, subst, slice_get, take, arith}
+use Rattle.std.proofs.Common.{◌≡◌, ℕ, zero, suc, ◌+◌, ◌-◌, ◌<◌, ◌≤◌, Bool, true, false, List, map, length, set, Option, Some, None, unwrap_or, option_map, IsSomeAnd, nat_le, refl, ap, ◌∙◌, sym, subst, slice_get, take, arith}
 use Rattle.std.specs.Option.{option_map_or}
 use Rattle.std.proofs.lemmas.List.{map-set}
 use Rattle.std.proofs.lemmas.Option.{none-some, same_Some, slice_get-map}
@@ -38,6 +38,12 @@ vm_of-at number place fleet is =
     let some : nat_le 1 (place + 1) ≡ true = grind arith in
     let back : (place + 1) - 1 ≡ place = omega arith in
     rw (is, some, back) refl
+
+-- a number that has a machine is at least 1
+pub some_number : (number : ℕ) (fleet : FleetState) (P : VmState → Type 0)
+    → IsSomeAnd (vm_of number fleet) P → 1 ≤ number
+some_number zero fleet P h = absurd h
+some_number (suc number) fleet P h = omega arith
 
 module _ (hosts : List (List ℕ × Host)) (vms : List (List ℕ × Vm)) (fleet : FleetState)
     (shown : fleet_state hosts vms ≡ fleet) (place : ℕ) (name : List ℕ) (old : Vm)
@@ -113,3 +119,24 @@ module _ (hosts : List (List ℕ × Host)) (vms : List (List ℕ × Vm)) (fleet 
         let same : machine_under new ≡ machine_under old = remembered ∙ sym was in
         IsKept-replaced new is host (ap (λ (m : MachineState). m.number) same)
         (ap (λ (m : MachineState). m.capacities) same) (rw remembered (same_log machine was is))
+
+  -- where a link may go back to it
+  module _ (link : LinkState) (is_number : link.machine ≡ place + 1)
+      (may : MayGoBack link fleet) (new : Vm) (host : new.host ≡ old.host)
+      (has : new.machine ≡ Some (record {
+        number = link.machine; capacities = link.capacities; log = link.seen })) where
+    is_over : IsOver (vm_state (name, old)) link
+    is_over = rw (vm_of-at link.machine place fleet is_number ∙ shows_old) at may
+
+    pub shows_lowered : fleet_state hosts (with_value_at place new vms) ≡ after_lower link fleet
+    shows_lowered =
+        let back : link.machine - 1 ≡ place = omega (arith, is_number) in
+        let found : vm_of link.machine fleet ≡ Some (vm_state (name, old)) =
+            vm_of-at link.machine place fleet is_number ∙ shows_old in
+        shows_new new ∙ rw (found, has, host, back, is_over.capacities) refl
+
+    pub IsKept-lowered : Legal (all_of link.capacities) link.seen → IsKept hosts vms
+        → IsKept hosts (with_value_at place new vms)
+    IsKept-lowered legal is = IsKept-replaced new is host
+        (rw has (is_number ∙ sym (is.numbered place (name, old) entry)))
+        (rw has is_over.capacities) (rw has legal)
