@@ -4,3 +4,4 @@ pub mod Refusal
 pub mod Spelled
 pub mod Replaced
 pub mod Generator
+pub mod Bits

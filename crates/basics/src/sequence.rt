@@ -25,6 +25,13 @@ impl<T> Sequence<T> {
         Sequence { items }
     }
 
+    /// The vector of the values, in the same memory.
+    pub fn into_vec(self) -> Vec<T>
+        ensures { result.items ≡ self }
+    {
+        self.items
+    }
+
     /// The values, in order.
     pub fn as_slice(&self) -> &[T]
         ensures { result.now ≡ self.now }

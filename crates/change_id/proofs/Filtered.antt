@@ -3,7 +3,8 @@ use Rattle.std.proofs.Common.{◌≡◌, ℕ, zero, suc, ◌+◌, ◌<◌, ◌�
 use Rattle.std.specs.List.{fold, filter_map, cons_option}
 use Rattle.std.specs.Option.{option_or}
 use Rattle.std.proofs.lemmas.Bool.{cases_lt}
-use Rattle.std.proofs.lemmas.List.{take-append-le, take-append-drop, take-take, take_all, append-nil, drop_all}
+use Rattle.std.proofs.lemmas.List.{take-append-le, take-append-drop, take-take, take_all, append-nil, drop_all, length-take}
+use Rattle.std.proofs.Math.Seq.{drop-append_seam}
 use Rattle.std.proofs.lemmas.List.Elements.{filter_map-append}
 use Rattle.change_id.specs.ChangeId.{packed}
 use Rattle.change_id.specs.History.{Reading, mark, before, through, epoch, counted_after, number, in_force, is_id, mark_of_id, accepts, answered}
@@ -34,28 +35,19 @@ place_in-le {F = F} to j k log le =
     let long = length-append (filter_map to (take j (take k log))) (filter_map to (drop j (take k log))) in
     omega (arith, short, whole, parts, long)
 
-drop-front : {X : Type 0} (xs ys : List X) → drop (length xs) (xs ++ ys) ≡ ys
-drop-front [] ys = refl
-drop-front (x ∷ xs) ys = drop-front xs ys
-
-length-take-le : {X : Type 0} (n : ℕ) (xs : List X) → length (take n xs) ≤ n
-length-take-le zero xs = omega arith
-length-take-le (suc n) [] = omega arith
-length-take-le (suc n) (x ∷ xs) = omega (arith, length-take-le n xs)
-
 -- what was told from a place on
 from : {E F : Type 0} (to : E → Option F) (k : ℕ) (log : List E) → filter_map to (drop k log) ≡ drop (place_in to k log) (filter_map to log)
 from {F = F} to k log =
-    sym (drop-front (filter_map to (take k log)) (filter_map to (drop k log)))
+    sym (drop-append_seam (filter_map to (take k log)) (filter_map to (drop k log)))
     ∙ ap (λ (ys : List F). drop (place_in to k log) ys) (sym (filter_map-append to (take k log) (drop k log)))
     ∙ ap (λ xs. drop (place_in to k log) (filter_map to xs)) (take-append-drop k log)
 
 pub between : {E F : Type 0} (to : E → Option F) (a b : ℕ) (log : List E) → filter_map to (drop a (take b log)) ≡ drop (place_in to a log) (take (place_in to b log) (filter_map to log))
 between {F = F} to a b log = elim (cases_lt b a) [
   | inl past ↦
-      ap (filter_map to) (drop_all a (take b log) (let short = length-take-le b log in omega (arith, short, past)))
+      ap (filter_map to) (drop_all a (take b log) (let short = length-take b log in omega (arith, short, past)))
       ∙ sym (drop_all (place_in to a log) (take (place_in to b log) (filter_map to log))
-      (let short = length-take-le (place_in to b log) (filter_map to log) in let more = place_in-le to b a log (omega (arith, past)) in omega (arith, short, more)))
+      (let short = length-take (place_in to b log) (filter_map to log) in let more = place_in-le to b a log (omega (arith, past)) in omega (arith, short, more)))
   | inr le ↦
       from to a (take b log)
       ∙ ap (λ xs. drop (length (filter_map to xs)) (filter_map to (take b log))) (take-take a b log le)

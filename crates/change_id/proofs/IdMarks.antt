@@ -5,7 +5,7 @@ use Rattle.std.proofs.lemmas.Bool.{and_parts, eqb-true, eqb-false, eq-eqb, ne_eq
 use Rattle.std.proofs.lemmas.Option.{same_Some, none-some, slice_get_within, get_or_from_slice_get}
 use Rattle.std.proofs.lemmas.List.{take-append-le, take-take}
 use Rattle.std.proofs.lemmas.List.Sums.{passes_at_first}
-use Rattle.change_id.specs.ChangeId.{packed}
+use Rattle.change_id.specs.ChangeId.{id_of, packed}
 use Rattle.change_id.specs.History.{Reading, IsApart, mark, before, through, epoch, counted, number, in_force, is_id, mark_of_id, TakesSnapshot, HasId}
 use Rattle.change_id.specs.HistoryLaws.{MarksOfIds, LaterKeep}
 use Rattle.change_id.specs.declared.ChangeId.{ChangeId}
@@ -34,16 +34,13 @@ in_force-parts {E = E} reading machine d id log h =
     let parts = parts_at (eqb (number reading log) 0) (packed machine d (epoch reading log)) (number reading log) id refl h in
     record { counted = parts.0; uuid = parts.1; seq = parts.2 }
 
-abbrev make : ℕ → ℕ → ChangeId
-make u n = record { uuid = u; seq = n }
-
 made_of : (u n : ℕ) (id : ChangeId) → id.uuid ≡ u → id.seq ≡ n → ◌≡◌ {A = ChangeId} (record { uuid = u; seq = n }) id
-made_of u n id is_u is_n = ap (λ (x : ℕ). make x n) (sym is_u) ∙ ap (λ (y : ℕ). make id.uuid y) (sym is_n)
+made_of u n id is_u is_n = ap (λ (x : ℕ). id_of x n) (sym is_u) ∙ ap (λ (y : ℕ). id_of id.uuid y) (sym is_n)
 
 pub in_force-made : {E : Type 0} (reading : Reading E) (machine d : ℕ) (id : ChangeId) (log : List E) → InForce reading machine d id log → in_force reading machine d log ≡ Some id
 in_force-made {E = E} reading machine d id log parts =
     let some : number reading log ≡ 0 → ⊥ = λ e. let low = parts.counted in absurd (omega (arith, low, e)) in
-    ap (λ b. cond b None (Some (make (packed machine d (epoch reading log)) (number reading log)))) (ne_eqb (number reading log) 0 some)
+    ap (λ b. cond b None (Some (id_of (packed machine d (epoch reading log)) (number reading log)))) (ne_eqb (number reading log) 0 some)
     ∙ ap Some (made_of (packed machine d (epoch reading log)) (number reading log) id parts.uuid parts.seq)
 
 behind : (x a b : ℕ) → x + a ≡ x + b → a ≡ b

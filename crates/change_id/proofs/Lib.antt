@@ -8,3 +8,4 @@ pub mod Numbers
 pub mod IdMarks
 pub mod IdPlaces
 pub mod Filtered
+pub mod Answered

@@ -16,6 +16,10 @@ packed machine disk resets = machine * 2 ^ 96 + disk * 2 ^ 64 + resets
 abbrev pub slash : ℕ
 slash = 47
 
+-- the identifier with this UUID and number
+abbrev pub id_of : (uuid seq : ℕ) → ChangeId
+id_of uuid seq = record { uuid = uuid; seq = seq }
+
 -- a UUID as text: its sixteen bytes, the highest first, hyphenated and in lower case
 unfoldable pub uuid_text : ℕ → List ℕ
 uuid_text uuid = hyphenated_text lower (to_be_bytes w128 uuid)

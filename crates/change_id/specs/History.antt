@@ -91,8 +91,8 @@ accepts reading machine disk snapshot id log =
 
 -- what a query of the snapshot answers: what changed between two places of the list, which are the
 -- beginning or the mark of the identifier, and the mark of the snapshot. An identifier that isn't
--- accepted is strange, which tells the one in force. A snapshot that wasn't taken is answered as one
--- taken after all entries would be, so a caller refuses it first.
+-- accepted is strange, which tells the one in force. A snapshot that wasn't taken is answered as
+-- one taken after all entries would be, so a caller refuses it first.
 abbrev pub answered : {E A : Type 0} → Reading E → (machine disk snapshot : ℕ)
     (between : (from end : ℕ) → A) → Since → List E → Result A (Option ChangeId)
 answered reading machine disk snapshot between All log =
@@ -109,7 +109,8 @@ pub record TakesSnapshot {E : Type 0} (is_snap : E → Bool) (log : List E) (pla
   pub within : place < length log
   pub by_snap : (e : E) → slice_get log place ≡ Some e → is_snap e ≡ true
 
--- the number n has been given in the present epoch, at this place, by an entry that takes a snapshot
+-- the number n has been given in the present epoch, at this place, by an entry that takes a
+-- snapshot
 pub record GivesNumber {E : Type 0} (reading : Reading E) (n : ℕ) (log : List E) (place : ℕ)
     : Type 0 where
   pub snapshot : TakesSnapshot reading.is_snap log place

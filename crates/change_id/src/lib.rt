@@ -2,6 +2,10 @@
 //! Here the UUID packs the machine, the disk and how often the disk's tracking was reset, and the
 //! number counts the disk's snapshots since tracking was enabled and, where it was reset, since the
 //! last reset.
+//!
+//! What a list of happenings says of a disk's tracking, for any list, is defined in
+//! `specs/History.antt`, and of what was told on of a list in `specs/Filtered.antt`. The laws on
+//! them are the contracts of the functions with type parameters below.
 #![tactic(auto)]
 
 ghost use Rattle.std.specs.Prelude.{◌≡◌, ◌≤◌, ◌<◌, ◌↔◌, ◌==◌, Contains, IfNone, IfSome, IsTrue, MatchOption, position, slice_index, decimal, drop, length, take};

@@ -1,20 +1,16 @@
 -- The pages of an answer.
-use Rattle.std.proofs.Common.{◌≡◌, ℕ, ◌^◌, ◌<◌, ◌≤◌, List, Bool, true, false, cond, Option, unwrap_or, Result, Ok, Err, sym, subst}
-use Rattle.std.proofs.lemmas.List.Elements.{All-from_recursion}
-use Rattle.sector_model.specs.Run.{end_of, in_blocks, areas_of, met_blocks}
+use Rattle.std.proofs.Common.{◌≡◌, ℕ, ◌≤◌, List, Bool, true, false, cond, Option, unwrap_or, Ok, Err, sym, subst}
+use Rattle.sector_model.specs.Run.{in_blocks, areas_of, met_blocks}
 use Rattle.sector_model.specs.declared.run.Run.{Run}
-use Rattle.sector_model.proofs.Spacing.{SpacedWithin, runs_of-spaced}
-use Rattle.sector_model.proofs.PageLaws.{pages_joined}
+use Rattle.sector_model.specs.Page.{PagesTell}
+use Rattle.sector_model.proofs.AreaPages.{area_pages_join}
+use Rattle.change_id.proofs.Answered.{ok_part}
 use Rattle.change_id.specs.History as history
 use Rattle.change_id.specs.declared.ChangeId.{ChangeId}
 use Rattle.change_id.specs.declared.Since.{Since}
 use Rattle.change_id.specs.declared.Since.TheVariants.{All, From}
 use Rattle.change_tracker.specs.History.{TrackStep, reading, freezes, runs_between, areas_between, answered}
 use Rattle.change_tracker.specs.Laws.{AnswerPagesJoin}
-
-ok_part : (b : Bool) (x y : List Run) (e : Option ChangeId) → cond b (Ok x) (Err e) ≡ Ok y → x ≡ y
-ok_part true x y e h = cc
-ok_part false x y e h = absurd (cc)
 
 -- an answer is the areas of some blocks
 of_blocks : (machine disk capacity snapshot : ℕ) (since : Since) (steps : List TrackStep) (areas : List Run) → answered machine disk capacity snapshot since steps ≡ Ok areas
@@ -27,7 +23,6 @@ of_blocks machine disk capacity snapshot (From id) steps areas found = (
 )
 
 pub answer_pages_join : AnswerPagesJoin
-answer_pages_join machine disk capacity snapshot since steps areas start pages fits found are =
+answer_pages_join machine disk capacity snapshot since steps areas fits found =
     let blocks = of_blocks machine disk capacity snapshot since steps areas found in
-    let k : SpacedWithin 0 capacity areas = subst (SpacedWithin 0 capacity) (sym blocks.1) (runs_of-spaced (in_blocks blocks.0) capacity fits) in
-    pages_joined capacity areas start pages k.spaced (All-from_recursion (λ r. end_of r ≤ capacity) areas k.ends) are
+    subst (PagesTell capacity) (sym blocks.1) (area_pages_join (in_blocks blocks.0) capacity fits)

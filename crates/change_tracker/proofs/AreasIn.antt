@@ -1,9 +1,9 @@
 -- The areas of the blocks that were touched inside a window, one after another.
-use Rattle.std.proofs.Common.{◌≡◌, ℕ, ◌+◌, ◌-◌, ◌*◌, ◌/◌, ◌^◌, ◌<◌, ◌≤◌, max, List, [], ◌∷◌, ◌++◌, length, get_or, Bool, true, false, ◌&&◌, leb, Option, MatchOption, arith, inl, inr, sym, ap, ◌∙◌, refl, Some, None, ◌⊎◌}
+use Rattle.std.proofs.Common.{◌≡◌, ℕ, ◌-◌, ◌*◌, ◌/◌, ◌^◌, ◌<◌, ◌≤◌, max, List, ◌++◌, length, get_or, true, false, ◌&&◌, Option, MatchOption, arith, inl, inr, sym, ap, ◌∙◌, refl, Some, None, ◌⊎◌}
 use Rattle.std.specs.Int.{div_ceil}
 use Rattle.std.proofs.lemmas.Bool.{cases_lt, le-leb, false≢true}
 use Rattle.sector_model.specs.Run.{block_count, in_blocks, in_runs, end_of, AreSpaced, next_run}
-use Rattle.sector_model.specs.Page.{PageContents, areas_from, page_from}
+use Rattle.sector_model.specs.Page.{areas_from, page_from}
 use Rattle.sector_model.specs.declared.run.Run.{Run}
 use Rattle.sector_model.proofs.Spacing.{SpacedWithin, runs_of-spaced}
 use Rattle.sector_model.proofs.NextRun.{Next, next_is, next_some, next_none, true_false, areas_from-none}

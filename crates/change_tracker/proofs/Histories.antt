@@ -3,32 +3,27 @@ use Rattle.std.proofs.Common.{◌≡◌, ℕ, zero, suc, ◌+◌, ◌-◌, ◌<�
 use Rattle.std.specs.List.{list_any, find, slice_get, filter_map, range_with_len, filter}
 use Rattle.std.specs.Option.{option_or}
 use Rattle.std.proofs.Math.Bool.{or-false}
-use Rattle.std.proofs.lemmas.Bool.{cases_eq, cases_lt, eq-eqb, ne_eqb, eqb-true, false≢true}
+use Rattle.std.proofs.lemmas.Bool.{cases_lt, eq-eqb, eqb-true, false≢true}
 use Rattle.std.proofs.lemmas.Option.{same_Some, none-some, slice_get_within}
-use Rattle.std.proofs.lemmas.List.{take-append-le, take_all, append-nil, drop_all}
+use Rattle.std.proofs.lemmas.List.{take-append-le, drop-append-le, take_all, append-nil}
 use Rattle.std.proofs.lemmas.List.Sums.{sum_by-take-le}
 use Rattle.std.proofs.lemmas.List.Folds.{list_any-append, find-append}
-use Rattle.sector_model.specs.Run.{meets, met_blocks, blocks_where, block_count}
+use Rattle.sector_model.specs.Run.{meets, met_blocks, block_count, with_met}
 use Rattle.sector_model.specs.declared.run.Run.{Run}
-use Rattle.basics.proofs.ItemAt.{slice_get-front}
-use Rattle.change_id.specs.ChangeId.{packed}
-use Rattle.change_id.specs.History as history
+use Rattle.basics.proofs.ItemAt.{slice_get-front, slice_get-last}
+use Rattle.change_id.specs.ChangeId.{id_of, packed}
 use Rattle.change_id.specs.declared.ChangeId.{ChangeId}
 use Rattle.change_id.proofs.Counts.{epoch-append, counted-last}
 use Rattle.change_id.proofs.IdMarks.{in_force-parts, same-epochs, mark-stays, later_entries_keep}
-use Rattle.change_tracker.specs.Tracker.{TrackerState, Snapshot, snapshot_of, fresh, next_id, with_met, after_marking, after_freezing, after_enabling, after_reset, without_changes}
+use Rattle.change_tracker.specs.Tracker.{TrackerState, Snapshot, snapshot_of, fresh, next_id, after_marking, after_freezing, after_enabling, after_reset, without_changes}
 use Rattle.change_tracker.specs.History.{TrackStep, Marked, Frozen, Enabled, Reset, reading, freezes, is_reset, run_in, runs_between, mark, id_at, is_met, IsFrozenAs, IsOfEpoch, changed_in, TellsChanges, AreNumbered, StandsFor, Takes}
-use Rattle.change_tracker.proofs.Blocks.{among, same_blocks, met_more}
-use Rattle.change_tracker.proofs.Steps.{place-le, place_known, place_new, drop-front, epoch_of, counted_of, number_of, counts_mark, counts_freeze, counts_enable, counts_reset, runs_stay, runs_push, runs_none, force, force_some}
+use Rattle.sector_model.proofs.Among.{among, same_blocks, met_more, none_pass}
+use Rattle.change_tracker.proofs.Steps.{place_new, epoch_of, counted_of, number_of, counts_mark, counts_freeze, counts_enable, counts_reset, runs_stay, runs_push, runs_none, force, force_some}
 
 -- ---- parts of a list
 
 pub at_front : {X : Type 0} (xs ys : List X) (i : ℕ) (x : X) → slice_get xs i ≡ Some x → slice_get (xs ++ ys) i ≡ Some x
 at_front xs ys i x is = slice_get-front xs ys i (slice_get_within xs i x is) ∙ is
-
-pub at_end : {X : Type 0} (xs : List X) (y : X) → slice_get (xs ++ y ∷ []) (length xs) ≡ Some y
-at_end [] y = refl
-at_end (x ∷ xs) y = at_end xs y
 
 pub pushed_at : {X : Type 0} (xs : List X) (y : X) (i : ℕ) (x : X) → slice_get (xs ++ y ∷ []) i ≡ Some x → (slice_get xs i ≡ Some x) ⊎ ((i ≡ length xs) × (y ≡ x))
 pushed_at [] y zero x is = inr (refl, same_Some y x is)
@@ -39,12 +34,12 @@ pushed_at (z ∷ xs) y (suc i) x is = elim (pushed_at xs y i x is) [ inl early �
 range-front : {X : Type 0} (xs ys : List X) (a b : ℕ) → b ≤ length xs → slice_range (xs ++ ys) a b ≡ slice_range xs a b
 range-front {X = X} xs ys a b le = elim (cases_lt (length xs) a) [
   | inl past ↦ let none : b - a ≡ 0 = omega (arith, le, past) in ap (λ n. take n (drop a (xs ++ ys))) none ∙ sym (ap (λ n. take n (drop a xs)) none)
-  | inr within ↦ ap (λ (zs : List X). take (b - a) zs) (drop-front a xs ys within) ∙ take-append-le (b - a) (drop a xs) ys (omega (arith, length-drop a xs, le))
+  | inr within ↦ ap (λ (zs : List X). take (b - a) zs) (drop-append-le a xs ys within) ∙ take-append-le (b - a) (drop a xs) ys (omega (arith, length-drop a xs, le))
 ]
 
 range-push : {X : Type 0} (xs : List X) (y : X) (a : ℕ) → a ≤ length xs → slice_range (xs ++ y ∷ []) a (length xs + 1) ≡ slice_range xs a (length xs) ++ y ∷ []
 range-push {X = X} xs y a le =
-    ap (λ (zs : List X). take (length xs + 1 - a) zs) (drop-front a xs (y ∷ []) le)
+    ap (λ (zs : List X). take (length xs + 1 - a) zs) (drop-append-le a xs (y ∷ []) le)
     ∙ take_all (length xs + 1 - a) (drop a xs ++ y ∷ []) (omega (arith, length-append (drop a xs) (y ∷ []), length-drop a xs, le))
     ∙ ap (λ (zs : List X). zs ++ y ∷ []) (sym (take_all (length xs - a) (drop a xs) (omega (arith, length-drop a xs))))
 
@@ -278,9 +273,6 @@ new_facts id old h le stands =
 abbrev frozen_snapshot : (id : ℕ) (old : TrackerState) → Snapshot
 frozen_snapshot id old = record { id = id; change_id = next_id old; blocks = old.blocks; changes = old.changes }
 
-abbrev numbered : ℕ → ℕ → ChangeId
-numbered u k = record { uuid = u; seq = k }
-
 -- the last snapshots are numbered from 1 on, the new one among them
 numbered_new : (old : TrackerState) (y : Snapshot) (n uuid : ℕ) → AreNumbered old (length old.snapshots) n uuid → y.change_id ≡ Some (record { uuid = uuid; seq = n + 1 })
     → (new : TrackerState) → new.snapshots ≡ old.snapshots ++ y ∷ [] → AreNumbered new (length old.snapshots + 1) (n + 1) uuid
@@ -291,8 +283,8 @@ numbered_new old y n uuid was told new grown = record {
         let is : seq ≡ n + 1 = omega (arith, last, high) in
         let place : length old.snapshots + 1 - (n + 1 - seq) - 1 ≡ length old.snapshots = omega (arith, is) in (
           y,
-          ap (λ (xs : List Snapshot). slice_get xs (length old.snapshots + 1 - (n + 1 - seq) - 1)) grown ∙ ap (slice_get (old.snapshots ++ y ∷ [])) place ∙ at_end old.snapshots y,
-          told ∙ ap (λ (k : ℕ). Some (numbered uuid k)) (sym is),
+          ap (λ (xs : List Snapshot). slice_get xs (length old.snapshots + 1 - (n + 1 - seq) - 1)) grown ∙ ap (slice_get (old.snapshots ++ y ∷ [])) place ∙ slice_get-last old.snapshots y,
+          told ∙ ap (λ (k : ℕ). Some (id_of uuid k)) (sym is),
         )
     | inr early ↦
         let e = was.each seq low early in
@@ -308,13 +300,13 @@ numbered_old old y end count uuid was new grown = record {
       (e.0, ap (λ (xs : List Snapshot). slice_get xs (end - (count - seq) - 1)) grown ∙ at_front old.snapshots (y ∷ []) (end - (count - seq) - 1) e.0 e.1, e.2);
 }
 
-told_seq : (old : TrackerState) (told : ChangeId) (o : Option ℕ) → old.counted ≡ o → next_id old ≡ Some told → (n : ℕ) × (o ≡ Some n) × (told ≡ numbered (packed old.machine old.disk old.epoch) (n + 1))
-told_seq old told None is next = absurd (none-some told (sym (ap (λ (o : Option ℕ). option_map (λ n. numbered (packed old.machine old.disk old.epoch) (n + 1)) o) is) ∙ next))
+told_seq : (old : TrackerState) (told : ChangeId) (o : Option ℕ) → old.counted ≡ o → next_id old ≡ Some told → (n : ℕ) × (o ≡ Some n) × (told ≡ id_of (packed old.machine old.disk old.epoch) (n + 1))
+told_seq old told None is next = absurd (none-some told (sym (ap (λ (o : Option ℕ). option_map (λ n. id_of (packed old.machine old.disk old.epoch) (n + 1)) o) is) ∙ next))
 told_seq old told (Some n) is next =
-    (n, refl, sym (same_Some (numbered (packed old.machine old.disk old.epoch) (n + 1)) told (sym (ap (λ (o : Option ℕ). option_map (λ n. numbered (packed old.machine old.disk old.epoch) (n + 1)) o) is) ∙ next)))
+    (n, refl, sym (same_Some (id_of (packed old.machine old.disk old.epoch) (n + 1)) told (sym (ap (λ (o : Option ℕ). option_map (λ n. id_of (packed old.machine old.disk old.epoch) (n + 1)) o) is) ∙ next)))
 
-next_told : (old : TrackerState) (n : ℕ) → old.counted ≡ Some n → next_id old ≡ Some (numbered (packed old.machine old.disk old.epoch) (n + 1))
-next_told old n is = ap (λ (o : Option ℕ). option_map (λ n. numbered (packed old.machine old.disk old.epoch) (n + 1)) o) is
+next_told : (old : TrackerState) (n : ℕ) → old.counted ≡ Some n → next_id old ≡ Some (id_of (packed old.machine old.disk old.epoch) (n + 1))
+next_told old n is = ap (λ (o : Option ℕ). option_map (λ n. id_of (packed old.machine old.disk old.epoch) (n + 1)) o) is
 
 present_of : (old : TrackerState) (n : ℕ) (h : List TrackStep) → StandsFor old h → old.counted ≡ Some n → AreNumbered old (length old.snapshots) n (packed old.machine old.disk old.epoch)
 present_of old n h stands is =
@@ -449,10 +441,6 @@ stands_frozen id old le h stands = record {
 }
 
 -- ---- nothing was told yet
-
-none_pass : (xs : List ℕ) → filter (λ b. false) xs ≡ []
-none_pass [] = refl
-none_pass (x ∷ xs) = none_pass xs
 
 pub stands_fresh : (machine disk capacity : ℕ) → StandsFor (fresh machine disk capacity) []
 stands_fresh machine disk capacity = record {

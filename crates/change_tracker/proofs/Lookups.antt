@@ -1,32 +1,26 @@
 -- What is found of a snapshot, and the answers to a query of it.
-use Rattle.std.proofs.Common.{◌≡◌, ◌≢◌, ℕ, zero, suc, ◌+◌, ◌-◌, ◌<◌, ◌≤◌, List, [], ◌∷◌, length, take, get_or, Bool, true, false, cond, ◌&&◌, ◌||◌, ◌==◌, eqb, ltb, leb, not, nat_eq, Option, Some, None, Bor, is_some, unwrap_or, Result, Ok, Err, IsOk, sym, ap, subst, refl, ◌∙◌, arith, inl, inr, ◌⊎◌}
+use Rattle.std.proofs.Common.{◌≡◌, ◌≢◌, ℕ, zero, suc, ◌+◌, ◌-◌, ◌<◌, ◌≤◌, List, [], ◌∷◌, length, take, get_or, Bool, true, false, cond, ◌&&◌, ◌||◌, ◌==◌, eqb, ltb, leb, not, Option, Some, None, Bor, unwrap_or, Result, Ok, Err, IsOk, sym, ap, refl, ◌∙◌, arith, inl, inr}
 use Rattle.std.specs.List.{list_any, slice_get}
 use Rattle.std.specs.List.Sorted.{IsPartitionPoint, IsNonDecreasingBy}
 use Rattle.std.specs.Slice.{IsItemAt}
-use Rattle.std.proofs.lemmas.Bool.{cases_eq, cases_lt, eq-eqb, ne_eqb, eqb-true, eqb-false, ltb-true, ltb-false, lt-leb, le-leb, leb-true, false≢true}
+use Rattle.std.proofs.lemmas.Bool.{and_parts, cases_eq, cases_lt, eq-eqb, ne_eqb, eqb-true, ltb-true, ltb-false, lt-leb, leb-true, false≢true}
 use Rattle.std.proofs.lemmas.List.{get_or_default}
-use Rattle.std.proofs.lemmas.Option.{same_Some, none-some, slice_get_within}
-use Rattle.sector_model.specs.Run.{blocks_where, block_count, areas_of, met_blocks}
-use Rattle.sector_model.specs.declared.run.Run.{Run}
+use Rattle.std.proofs.lemmas.Option.{same_Some, none-some}
+use Rattle.sector_model.specs.Run.{blocks_where, areas_of}
 use Rattle.basics.specs.Refusal.{IsRefusedBy}
-use Rattle.change_id.specs.ChangeId.{packed}
+use Rattle.change_id.specs.ChangeId.{id_of, packed}
 use Rattle.change_id.specs.History as history
 use Rattle.change_id.specs.declared.ChangeId.{ChangeId}
-use Rattle.change_id.specs.declared.Since.{Since}
 use Rattle.change_id.specs.declared.Since.TheVariants.{All, From}
 use Rattle.change_id.proofs.IdMarks.{in_force-parts, same-epochs, marks_of_ids}
 use Rattle.change_tracker.specs.declared.kept.Kept.{Kept}
-use Rattle.change_tracker.specs.declared.maps.Maps.{Maps}
 use Rattle.change_tracker.specs.declared.refusals.TrackRefused.{TrackRefused}
-use Rattle.change_tracker.specs.declared.refusals.TrackRefused.TheVariants.{UnknownSnap, Range, Strange}
-use Rattle.change_tracker.specs.Tracker.{TrackerState, Snapshot, snapshot_of}
-use Rattle.change_tracker.specs.Touches.{is_touched, areas_in}
-use Rattle.change_tracker.specs.Maps.{window}
-use Rattle.change_tracker.specs.Kept.{AreIds, IsAt, is_accepted, window_from, in_force_of, snapshot_at}
-use Rattle.change_tracker.specs.History.{TrackStep, reading, freezes, runs_between, areas_between, answered, mark, id_at, is_met, changed_in, IsFrozenAs, AreNumbered, StandsFor, snapshot_refusal, query_refusal}
-use Rattle.change_tracker.proofs.Blocks.{same_blocks}
+use Rattle.change_tracker.specs.declared.refusals.TrackRefused.TheVariants.{UnknownSnap, Range}
+use Rattle.change_tracker.specs.Tracker.{TrackerState, Snapshot}
+use Rattle.change_tracker.specs.Kept.{AreIds, is_accepted, in_force_of}
+use Rattle.change_tracker.specs.History.{TrackStep, reading, runs_between, areas_between, answered, mark, id_at, is_met, changed_in, IsFrozenAs, StandsFor}
+use Rattle.sector_model.proofs.Among.{same_blocks}
 use Rattle.change_tracker.proofs.Steps.{epoch_of, number_of, force, place_of_id, apart}
-use Rattle.change_tracker.proofs.States.{view, in_changes}
 
 -- ---- the place of an id
 
@@ -141,14 +135,6 @@ accepts_same t h k from stands frozen = by k.change_id refl
         ∙ ap (λ u. eqb from.uuid (packed t.machine t.disk t.epoch) && eqb u (packed t.machine t.disk t.epoch) && leb 1 from.seq && leb from.seq x.seq) uuid
         ∙ sym (ap (λ (o : Option ChangeId). is_accepted (packed t.machine t.disk t.epoch) o from) is)
 
-left : (a b : Bool) → (a && b) ≡ true → a ≡ true
-left true b h = refl
-left false b h = h
-
-right : (a b : Bool) → (a && b) ≡ true → b ≡ true
-right true b h = h
-right false b h = absurd (false≢true h)
-
 pub record Accepted (uuid : ℕ) (x from : ChangeId) : Type 0 where
   pub from_is : from.uuid ≡ uuid
   pub at_is : x.uuid ≡ uuid
@@ -159,17 +145,15 @@ pub accepted_parts : (uuid : ℕ) (x from : ChangeId) → is_accepted uuid (Some
 accepted_parts uuid x from is =
     let a : Bool = eqb from.uuid uuid in
     let b : Bool = eqb x.uuid uuid in
-    let three = left (a && b && leb 1 from.seq) (leb from.seq x.seq) is in
-    let two = left (a && b) (leb 1 from.seq) three in
+    let four = and_parts (a && b && leb 1 from.seq) (leb from.seq x.seq) is in
+    let three = and_parts (a && b) (leb 1 from.seq) four.0 in
+    let two = and_parts a b three.0 in
     record {
-      from_is = eqb-true from.uuid uuid (left a b two);
-      at_is = eqb-true x.uuid uuid (right a b two);
-      low = leb-true 1 from.seq (right (a && b) (leb 1 from.seq) three);
-      high = leb-true from.seq x.seq (right (a && b && leb 1 from.seq) (leb from.seq x.seq) is);
+      from_is = eqb-true from.uuid uuid two.0;
+      at_is = eqb-true x.uuid uuid two.1;
+      low = leb-true 1 from.seq three.1;
+      high = leb-true from.seq x.seq four.1;
     }
-
-abbrev numbered : ℕ → ℕ → ChangeId
-numbered u n = record { uuid = u; seq = n }
 
 -- what an accepted identifier is answered
 pub since_told : (t : TrackerState) (h : List TrackStep) (place : ℕ) (k : Snapshot) (x from : ChangeId) → StandsFor t h → slice_get t.snapshots place ≡ Some k → k.change_id ≡ Some x
@@ -183,11 +167,11 @@ since_told t h place k x from stands at told accepted =
     let p : ℕ = place + 1 - (x.seq - from.seq) - 1 in
     let next : p + 1 ≡ place + 1 - (x.seq - from.seq) = omega (arith, parts.low, parts.high, numbers.enough) in
     let up : p ≤ place = omega arith in
-    let same : numbered x.uuid from.seq ≡ from = ap (λ u. numbered u from.seq) (parts.at_is ∙ sym parts.from_is) in
+    let same : id_of x.uuid from.seq ≡ from = ap (λ u. id_of u from.seq) (parts.at_is ∙ sym parts.from_is) in
     let before = stands.frozen p earlier.0 earlier.1 in
     let its_id : id_at t.machine t.disk (earlier.0).id h ≡ Some from = sym before.change_id ∙ earlier.2 ∙ ap Some same in
     let found : place_of_id t.machine t.disk from h ≡ Some (mark (earlier.0).id h) = (marks_of_ids reading t.machine t.disk from h apart).of_snapshot (earlier.0).id before.within its_id in
-    let tells = stands.changes p earlier.0 earlier.1 (numbered x.uuid from.seq, earlier.2, parts.at_is) in
+    let tells = stands.changes p earlier.0 earlier.1 (id_of x.uuid from.seq, earlier.2, parts.at_is) in
     let accepts : history.accepts reading t.machine t.disk k.id from h ≡ true = accepts_same t h k from stands frozen ∙ ap (λ (o : Option ChangeId). is_accepted (packed t.machine t.disk t.epoch) o from) told ∙ accepted in
     ap (λ b. cond b (Ok (areas_between t.capacity (unwrap_or (place_of_id t.machine t.disk from h) 0) (mark k.id h) h)) (Err (force t.machine t.disk h))) accepts
     ∙ ap (λ (o : Option ℕ). Ok (areas_between t.capacity (unwrap_or o 0) (mark k.id h) h)) found

@@ -1,25 +1,22 @@
 -- What marking a run changes in the maps, word by word.
-use Rattle.std.proofs.Common.{◌≡◌, ◌≢◌, ℕ, ◌+◌, ◌-◌, ◌*◌, ◌/◌, ◌%◌, ◌^◌, ◌<◌, ◌≤◌, List, [], ◌∷◌, Bool, true, false, not, ◌&&◌, ◌||◌, eqb, ltb, leb, bit_and, w64, Option, Some, None, Result, Ok, Err, OnOk, sym, ap, subst, refl, ◌∙◌, arith, inl, inr, ◌⊎◌}
+use Rattle.std.proofs.Common.{◌≡◌, ◌≢◌, ℕ, ◌+◌, ◌-◌, ◌*◌, ◌/◌, ◌%◌, ◌^◌, ◌<◌, ◌≤◌, List, [], ◌∷◌, Bool, true, false, not, ◌&&◌, ◌||◌, eqb, ltb, leb, bit_and, w64, Option, Some, None, Result, Ok, Err, OnOk, sym, ap, subst, refl, ◌∙◌, arith, inl, inr}
 use Rattle.std.specs.List.{list_any}
 use Rattle.std.specs.Int.{bit_not, trailing_zeros}
-use Rattle.std.proofs.lemmas.Bool.{cases_eq, cases_lt, eq-eqb, ne_eqb, eqb-true, lt-ltb, ltb-true, le-ltb, le-leb, leb-true, false≢true}
+use Rattle.std.proofs.lemmas.Bool.{and_parts, cases_eq, cases_lt, eq-eqb, ne_eqb, eqb-true, lt-ltb, ltb-true, le-ltb, le-leb, leb-true, false≢true}
 use Rattle.std.proofs.lemmas.Nat.{and_le_l}
 use Rattle.sector_model.specs.Run.{meets}
 use Rattle.sector_model.specs.declared.run.Run.{Run}
 use Rattle.change_tracker.specs.declared.word.Touch.{Touch}
 use Rattle.change_tracker.specs.declared.word.Window.{Window}
 use Rattle.change_tracker.specs.declared.maps.Maps.{Maps}
-use Rattle.change_tracker.specs.Touches.{WordState, TouchState, has_bit, is_inside, is_of, touched_at, touched_in, word_of, is_touched, HasSame, HasRoom, KeepsRoom, IsAdded}
-use Rattle.change_tracker.specs.Maps.{window, HasSameTouches, KeepsPlaces, IsTouchedWhere, is_met_by, is_met_in, HasBlockRoom, HasRoomWhere}
+use Rattle.basics.specs.Bits.{has_bit}
+use Rattle.change_tracker.specs.Touches.{WordState, TouchState, is_inside, is_of, touched_in, word_of, is_touched, HasSame, HasRoom, IsAdded}
+use Rattle.change_tracker.specs.Maps.{window, KeepsPlaces, IsTouchedWhere, is_met_in, HasBlockRoom, HasRoomWhere}
 use Rattle.change_tracker.proofs.Bits.{and_has, not_has, met_iff}
 use Rattle.change_tracker.proofs.Walks.{Lowest, lowest, no_bits}
 
-pub both_of : (a b : Bool) → (a && b) ≡ true → (a ≡ true) × (b ≡ true)
-both_of true b h = (refl, h)
-both_of false b h = absurd (false≢true h)
-
 pub both : {a b : Bool} → (a && b) ≡ true → (a ≡ true) × (b ≡ true)
-both {a = a} {b = b} h = both_of a b h
+both {a = a} {b = b} h = and_parts a b h
 
 pub and_made : {a b : Bool} → a ≡ true → b ≡ true → (a && b) ≡ true
 and_made {a = a} {b = b} is more = ap (λ x. x && b) is ∙ more

@@ -1,9 +1,9 @@
 -- What a query answers of what is kept, and the steps for which it stands.
-use Rattle.std.proofs.Common.{◌≡◌, ℕ, ◌+◌, ◌-◌, ◌<◌, ◌≤◌, ◌==◌, List, length, Bool, true, false, cond, not, Option, Some, None, is_some, MatchBool, Result, Ok, Err, IsOk, IfOk, sym, ap, subst, refl, ◌∙◌, arith}
+use Rattle.std.proofs.Common.{◌≡◌, ℕ, ◌+◌, ◌-◌, ◌<◌, ◌≤◌, ◌==◌, List, Bool, true, false, Option, Some, None, MatchBool, Result, Ok, Err, IsOk, IfOk, sym, ap, subst, refl, ◌∙◌, arith}
 use Rattle.std.specs.List.{list_any, slice_get}
 use Rattle.std.proofs.lemmas.Bool.{lt-ltb, le-ltb, false≢true}
 use Rattle.std.proofs.lemmas.Option.{same_Some, none-some, slice_get_within}
-use Rattle.sector_model.specs.Run.{areas_of, blocks_where, block_count}
+use Rattle.sector_model.specs.Run.{areas_of}
 use Rattle.sector_model.specs.Page.{PageContents, page_from}
 use Rattle.sector_model.specs.declared.run.Run.{Run}
 use Rattle.basics.specs.Refusal.{IsRefusedBy}
@@ -16,14 +16,14 @@ use Rattle.change_tracker.specs.declared.maps.Maps.{Maps}
 use Rattle.change_tracker.specs.declared.word.Window.{Window}
 use Rattle.change_tracker.specs.declared.refusals.TrackRefused.{TrackRefused}
 use Rattle.change_tracker.specs.declared.refusals.TrackRefused.TheVariants.{UnknownSnap, Range, Strange}
-use Rattle.change_tracker.specs.Tracker.{TrackerState, Snapshot, snapshot_of}
+use Rattle.change_tracker.specs.Tracker.{TrackerState}
 use Rattle.change_tracker.specs.Touches.{is_touched, areas_in}
 use Rattle.change_tracker.specs.Maps.{window}
 use Rattle.change_tracker.specs.Kept.{state_of, snapshot_at, is_accepted, window_from, in_force_of}
 use Rattle.change_tracker.specs.History.{TrackStep, freezes, answered, changed_in, StandsFor, strange_refusal, query_refusal}
-use Rattle.change_tracker.proofs.Blocks.{same_blocks}
+use Rattle.sector_model.proofs.Among.{same_blocks}
 use Rattle.change_tracker.proofs.States.{view_get, view_find, in_changes}
-use Rattle.change_tracker.proofs.Lookups.{known_at, query_unknown, query_known, query_outside, query_within, Accepted, accepted_parts, since_told, since_strange, all_told}
+use Rattle.change_tracker.proofs.Lookups.{known_at, query_unknown, query_known, query_outside, query_within, since_told, since_strange, all_told}
 
 module _ (m d c r : ℕ) (counted : Option ℕ) (maps : Maps) (ks : List Kept) (free : ℕ) (room : Option Run) (freeze_room : Bool) (id place : ℕ) (k : Kept) (steps : List TrackStep)
     (stands : StandsFor (state_of m d c r counted maps ks free room freeze_room) steps) (at : slice_get ks place ≡ Some k) (same : k.id ≡ id) where

@@ -1,10 +1,10 @@
 -- What the state of a tracker is for the maps and the snapshots that it keeps.
-use Rattle.std.proofs.Common.{◌≡◌, ℕ, zero, suc, ◌+◌, ◌-◌, ◌/◌, ◌%◌, ◌<◌, ◌≤◌, List, [], ◌∷◌, ◌++◌, length, take, drop, map, Bool, true, false, cond, ◌&&◌, ◌||◌, ◌==◌, eqb, ltb, leb, nat_eq, Option, Some, None, is_some, IfSome, unwrap_or, option_map, sym, ap, subst, refl, ◌∙◌, arith, inl, inr, length-append, length-drop, slice_range}
-use Rattle.std.specs.List.{list_any, find, filter, slice_get, position, enumerate_from, range_with_len}
+use Rattle.std.proofs.Common.{◌≡◌, ℕ, zero, suc, ◌+◌, ◌-◌, ◌/◌, ◌%◌, ◌<◌, ◌≤◌, List, [], ◌∷◌, ◌++◌, length, take, drop, map, Bool, true, false, cond, ◌&&◌, ◌||◌, ◌==◌, eqb, ltb, leb, nat_eq, Option, Some, None, is_some, IfSome, option_map, sym, ap, refl, ◌∙◌, arith, inl, inr, length-append, length-drop, slice_range}
+use Rattle.std.specs.List.{list_any, find, filter, slice_get, enumerate_from, range_with_len}
 use Rattle.std.proofs.Math.Bool.{or-false}
-use Rattle.std.proofs.lemmas.Bool.{cases_eq, cases_lt, eq-eqb, ne_eqb, lt-ltb, le-ltb, le-leb, lt-leb, leb-true, ltb-true, false≢true}
+use Rattle.std.proofs.lemmas.Bool.{cases_lt, lt-ltb, le-ltb, le-leb, lt-leb}
 use Rattle.std.proofs.lemmas.Option.{none-some}
-use Rattle.sector_model.specs.Run.{meets, blocks_where, block_count}
+use Rattle.sector_model.specs.Run.{meets, block_count, with_met}
 use Rattle.sector_model.specs.declared.run.Run.{Run}
 use Rattle.change_id.specs.declared.ChangeId.{ChangeId}
 use Rattle.change_id.specs.ChangeId.{packed}
@@ -12,12 +12,12 @@ use Rattle.change_tracker.specs.declared.kept.Kept.{Kept}
 use Rattle.change_tracker.specs.declared.maps.Maps.{Maps}
 use Rattle.change_tracker.specs.declared.word.Touch.{Touch}
 use Rattle.change_tracker.specs.declared.word.Window.{Window}
-use Rattle.change_tracker.specs.Tracker.{TrackerState, Snapshot, snapshot_of, fresh, with_met, after_marking, after_freezing, after_reset, without_changes}
-use Rattle.change_tracker.specs.Touches.{WordState, TouchState, is_inside, is_of, has_bit, touched_in, word_of, is_touched, HasSame, blocks_in}
+use Rattle.change_tracker.specs.Tracker.{Snapshot, fresh, after_marking, after_freezing, after_reset, without_changes}
+use Rattle.basics.specs.Bits.{has_bit}
+use Rattle.change_tracker.specs.Touches.{WordState, TouchState, is_of, touched_in, word_of, is_touched, HasSame, blocks_in}
 use Rattle.change_tracker.specs.Maps.{window, HasSameTouches, IsTouchedWhere, NoneTouchedLater, is_met_by}
 use Rattle.change_tracker.specs.Kept.{snapshot_at, state_of, AreIds, NoLater, IsByNow}
-use Rattle.change_tracker.specs.History.{changed_in}
-use Rattle.change_tracker.proofs.Blocks.{among, same_blocks, met_more}
+use Rattle.sector_model.proofs.Among.{among, same_blocks, met_more, none_pass}
 
 -- ---- windows
 
@@ -237,10 +237,6 @@ frozen_state m d c r counted maps ks free room freeze_room k first_past changes_
       mark_room = None;
       freeze_room = false;
     })
-  where
-    none_pass : (xs : List ℕ) → filter (λ b. false) xs ≡ []
-    none_pass [] = refl
-    none_pass (x ∷ xs) = none_pass xs
 
 -- the changes are forgotten
 pub reset_state : (m d c r : ℕ) (counted : Option ℕ) (old new : Maps) (ks : List Kept) (free : ℕ) (room : Option Run) (freeze_room : Bool) → new.first ≡ old.first → new.changes ≡ []
@@ -261,10 +257,6 @@ reset_state m d c r counted old new ks free room freeze_room first empty =
       freeze_room = freeze_room;
     })
   where
-    none_pass : (xs : List ℕ) → filter (λ b. false) xs ≡ []
-    none_pass [] = refl
-    none_pass (x ∷ xs) = none_pass xs
-
     forgotten : (from : ℕ) (ks : List Kept) → view c new from ks ≡ map without_changes (view c old from ks)
     forgotten from [] = refl
     forgotten from (k ∷ ks) = (λ i. snapshot k.id k.change_id (blocks_in c (first i) (window 0 (from + 1))) ((ap (λ (t : TouchState). blocks_in c t (window from (from + 1))) empty ∙ none_pass (range_with_len 0 (block_count c))) i) ∷ forgotten (from + 1) ks i)
@@ -285,10 +277,6 @@ fresh_state m d c maps first changes =
       mark_room = None;
       freeze_room = false;
     })
-  where
-    none_pass : (xs : List ℕ) → filter (λ b. false) xs ≡ []
-    none_pass [] = refl
-    none_pass (x ∷ xs) = none_pass xs
 
 -- ---- touches that came by now
 

@@ -1,21 +1,16 @@
 -- What one step more changes in the words of a list of steps.
-use Rattle.std.proofs.Common.{◌≡◌, ℕ, zero, suc, ◌+◌, ◌-◌, ◌*◌, ◌^◌, ◌<◌, ◌≤◌, List, [], ◌∷◌, ◌++◌, length, take, drop, Bool, true, false, not, cond, ◌==◌, ◌&&◌, ◌||◌, eqb, Option, Some, None, unwrap_or, option_map, sym, ap, subst, refl, ◌∙◌, arith, inl, inr, ◌⊎◌, append_assoc, length-append, length-drop}
-use Rattle.std.specs.List.{fold, count_by, find, list_any, position_or_len, range_with_len, filter_map}
-use Rattle.std.specs.Option.{option_or}
-use Rattle.std.proofs.Math.Bool.{or-false}
-use Rattle.std.proofs.lemmas.Bool.{cases_eq, cases_lt, eqb-true, eq-eqb, ne_eqb, eqb-false, false≢true}
-use Rattle.std.proofs.lemmas.Option.{same_Some, none-some}
-use Rattle.std.proofs.lemmas.List.{take-append-le, take_all, append-nil, drop_all}
-use Rattle.std.proofs.lemmas.List.Sums.{fold-append, sum_by-append}
+use Rattle.std.proofs.Common.{◌≡◌, ℕ, zero, suc, ◌+◌, ◌<◌, ◌≤◌, List, [], ◌∷◌, ◌++◌, length, take, drop, Bool, true, false, not, cond, ◌||◌, Option, Some, None, unwrap_or, option_map, sym, ap, refl, ◌∙◌, arith}
+use Rattle.std.specs.List.{list_any, filter_map}
+use Rattle.std.proofs.lemmas.Bool.{false≢true}
+use Rattle.std.proofs.lemmas.List.{take-append-le, drop-append-le, take_all, drop_all}
 use Rattle.std.proofs.lemmas.List.Elements.{filter_map-append}
-use Rattle.std.proofs.lemmas.List.Folds.{list_any-append}
 use Rattle.sector_model.specs.declared.run.Run.{Run}
 use Rattle.change_id.specs.ChangeId.{packed}
 use Rattle.change_id.specs.History.{IsApart}
 use Rattle.change_id.specs.History as history
 use Rattle.change_id.specs.declared.ChangeId.{ChangeId}
 use Rattle.change_id.proofs.IdMarks.{in_force-made}
-use Rattle.change_tracker.specs.History.{TrackStep, Marked, Frozen, Enabled, Reset, reading, freezes, is_frozen, is_reset, is_enabled, run_in, runs_between, mark, id_at}
+use Rattle.change_tracker.specs.History.{TrackStep, Marked, Frozen, Enabled, Reset, reading, freezes, is_frozen, is_reset, run_in, runs_between, mark}
 
 -- ---- places
 
@@ -83,16 +78,11 @@ counts_reset (Some n) = refl
 pub runs_stay : (from end : ℕ) (h more : List TrackStep) → end ≤ length h → runs_between from end (h ++ more) ≡ runs_between from end h
 runs_stay from end h more le = ap (λ (xs : List TrackStep). filter_map run_in (drop from xs)) (take-append-le end h more le)
 
-pub drop-front : {X : Type 0} (n : ℕ) (xs ys : List X) → n ≤ length xs → drop n (xs ++ ys) ≡ drop n xs ++ ys
-drop-front zero xs ys le = refl
-drop-front (suc n) [] ys le = absurd (omega arith)
-drop-front (suc n) (x ∷ xs) ys le = drop-front n xs ys (omega (arith, le))
-
 pub runs_push : (from : ℕ) (h : List TrackStep) (x : TrackStep) → from ≤ length h
     → runs_between from (length (h ++ x ∷ [])) (h ++ x ∷ []) ≡ runs_between from (length h) h ++ filter_map run_in (x ∷ [])
 runs_push from h x le =
     ap (λ (xs : List TrackStep). filter_map run_in (drop from xs)) (take_all (length (h ++ x ∷ [])) (h ++ x ∷ []) (omega arith))
-    ∙ ap (λ (xs : List TrackStep). filter_map run_in xs) (drop-front from h (x ∷ []) le)
+    ∙ ap (λ (xs : List TrackStep). filter_map run_in xs) (drop-append-le from h (x ∷ []) le)
     ∙ filter_map-append run_in (drop from h) (x ∷ [])
     ∙ ap (λ (xs : List TrackStep). filter_map run_in (drop from xs) ++ filter_map run_in (x ∷ [])) (sym (take_all (length h) h (omega arith)))
 

@@ -1,10 +1,11 @@
 -- A walk over words: the first block that was touched, or wasn't, and the next area.
-use Rattle.std.proofs.Common.{◌≡◌, ◌≢◌, ℕ, ◌+◌, ◌-◌, ◌*◌, ◌/◌, ◌%◌, ◌^◌, ◌<◌, ◌≤◌, min, max, Bool, true, false, not, ◌&&◌, leb, eqb, bit_and, w64, Option, Some, None, sym, ap, refl, ◌∙◌, arith, inl, inr}
+use Rattle.std.proofs.Common.{◌≡◌, ◌≢◌, ℕ, ◌+◌, ◌*◌, ◌/◌, ◌%◌, ◌^◌, ◌<◌, ◌≤◌, max, Bool, true, false, not, ◌&&◌, leb, eqb, bit_and, w64, None, sym, ap, refl, ◌∙◌, arith, inl, inr}
 use Rattle.std.specs.Int.{bit_at, bit_not, trailing_zeros}
-use Rattle.std.proofs.lemmas.Bool.{cases_lt, le-leb, leb-true, eq-eqb, eqb-true, false≢true}
+use Rattle.std.proofs.lemmas.Bool.{and_parts, cases_lt, le-leb, leb-true, eq-eqb, false≢true}
 use Rattle.std.proofs.lemmas.Nat.Bits.{bit_at-trailing_zeros}
 use Rattle.change_tracker.specs.declared.word.Window.{Window}
-use Rattle.change_tracker.specs.Touches.{WordState, TouchState, has_bit, touched_at, touched_in, word_of, is_touched}
+use Rattle.basics.specs.Bits.{has_bit}
+use Rattle.change_tracker.specs.Touches.{TouchState, touched_in, word_of, is_touched}
 use Rattle.change_tracker.proofs.Bits.{and_has, not_has, from_has, none_has}
 
 pub in_word : (t : TouchState) (w : Window) (b word : ℕ) → b / 64 ≡ word → is_touched t w b ≡ touched_in w (b % 64) (word_of t word)
@@ -24,14 +25,6 @@ masked_has bits first p less = and_has bits (18446744073709551615 * 2 ^ (first %
 and_false : (a b : Bool) → b ≡ true → (a && b) ≡ false → a ≡ false
 and_false true b is h = sym is ∙ h
 and_false false b is h = refl
-
-and_left : (a b : Bool) → (a && b) ≡ true → a ≡ true
-and_left true b h = refl
-and_left false b h = h
-
-and_right : (a b : Bool) → (a && b) ≡ true → b ≡ true
-and_right true b h = h
-and_right false b h = absurd (false≢true h)
 
 clear : (bits first p : ℕ) → p < 64 → first % 64 ≤ p → has_bit (masked bits first) p ≡ false → has_bit bits p ≡ false
 clear bits first p less from none = and_false (has_bit bits p) (leb (first % 64) p) (le-leb (first % 64) p from) (sym (masked_has bits first p less) ∙ none)
@@ -77,13 +70,13 @@ touched_here t w at word bits first k met is low =
     let same : (64 * word + k) / 64 ≡ word = omega (arith, inside) in
     let place : (64 * word + k) % 64 ≡ k = omega (arith, inside) in
     in_word t w (64 * word + k) word same ∙ ap (λ p. touched_in w p (word_of t word)) place ∙ sym (met.told k)
-    ∙ and_left (has_bit bits k) (leb (first % 64) k) (sym (masked_has bits first k inside) ∙ low.here)
+    ∙ (and_parts (has_bit bits k) (leb (first % 64) k) (sym (masked_has bits first k inside) ∙ low.here)).0
 
 -- the lowest bit is of a block from `at` on
 pub from_at : (at word bits first k : ℕ) → at / 64 ≤ word → first ≡ max at (64 * word) → Lowest (masked bits first) k → at ≤ 64 * word + k
 from_at at word bits first k from is low =
     let inside = low.within in
-    let above : first % 64 ≤ k = leb-true (first % 64) k (and_right (has_bit bits k) (leb (first % 64) k) (sym (masked_has bits first k inside) ∙ low.here)) in
+    let above : first % 64 ≤ k = leb-true (first % 64) k ((and_parts (has_bit bits k) (leb (first % 64) k) (sym (masked_has bits first k inside) ∙ low.here)).1) in
     omega (arith, above, is, from)
 
 -- ---- the next block that wasn't
@@ -106,7 +99,7 @@ untouched_here t w at bits k fits told low =
     let same : (64 * (at / 64) + k) / 64 ≡ at / 64 = omega (arith, inside) in
     let place : (64 * (at / 64) + k) % 64 ≡ k = omega (arith, inside) in
     ap (λ n. touched_in w ((64 * (at / 64) + k) % 64) (word_of t n)) same ∙ ap (λ p. touched_in w p (word_of t (at / 64))) place ∙ sym (told k)
-    ∙ turn (has_bit bits k) (sym (not_has bits k fits inside) ∙ and_left (has_bit (bit_not w64 bits) k) (leb (at % 64) k) (sym (masked_has (bit_not w64 bits) at k inside) ∙ low.here))
+    ∙ turn (has_bit bits k) (sym (not_has bits k fits inside) ∙ (and_parts (has_bit (bit_not w64 bits) k) (leb (at % 64) k) (sym (masked_has (bit_not w64 bits) at k inside) ∙ low.here)).0)
   where
     turn : (x : Bool) → not x ≡ true → x ≡ false
     turn true h = sym h
@@ -115,5 +108,5 @@ untouched_here t w at bits k fits told low =
 pub from_here : (at bits k : ℕ) → Lowest (masked bits at) k → at ≤ 64 * (at / 64) + k
 from_here at bits k low =
     let inside = low.within in
-    let above : at % 64 ≤ k = leb-true (at % 64) k (and_right (has_bit bits k) (leb (at % 64) k) (sym (masked_has bits at k inside) ∙ low.here)) in
+    let above : at % 64 ≤ k = leb-true (at % 64) k ((and_parts (has_bit bits k) (leb (at % 64) k) (sym (masked_has bits at k inside) ∙ low.here)).1) in
     omega (arith, above)

@@ -1,8 +1,7 @@
 -- What the room for later calls is to the steps for which a tracker stands, and what pages of an
 -- answer tell.
-use Rattle.std.specs.Prelude.{◌≡◌, ℕ, ◌<◌, ◌^◌, List, Bool, Option, Result, Ok}
-use Rattle.std.specs.List.{flat_map}
-use Rattle.sector_model.specs.Page.{PageContents, areas_from, ArePages}
+use Rattle.std.specs.Prelude.{◌≡◌, ℕ, ◌<◌, ◌^◌, List, Bool, Option, Ok}
+use Rattle.sector_model.specs.Page.{PagesTell}
 use Rattle.sector_model.specs.declared.run.Run.{Run}
 use Rattle.change_id.specs.declared.Since.{Since}
 use Rattle.change_tracker.specs.Tracker.{TrackerState}
@@ -19,6 +18,5 @@ RoomIsNoPart =
 -- start on
 abbrev pub AnswerPagesJoin : Type 0
 AnswerPagesJoin = (machine disk capacity snapshot : ℕ) (since : Since) (steps : List TrackStep)
-    (areas : List Run) (start : ℕ) (pages : List PageContents) → capacity < 2 ^ 64
-    → answered machine disk capacity snapshot since steps ≡ Ok areas
-    → ArePages capacity areas start pages → flat_map (λ p. p.areas) pages ≡ areas_from start areas
+    (areas : List Run) → capacity < 2 ^ 64
+    → answered machine disk capacity snapshot since steps ≡ Ok areas → PagesTell capacity areas

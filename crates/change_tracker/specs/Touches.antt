@@ -1,6 +1,6 @@
 -- How touches are kept: under the number of each word, which is 64 blocks, the bits of the blocks
 -- that were touched between two freezes, beside how many freezes came before.
-use Rattle.std.specs.Prelude.{◌≡◌, ℕ, ◌+◌, ◌*◌, ◌/◌, ◌%◌, ◌<◌, ◌≤◌, ◌==◌, ◌&&◌, ◌||◌, nat_lt, nat_le, List, [], ◌∷◌, ◌++◌, Bool, true, false, Option, Some, None, IsSomeAnd, IfSome, if◌then◌else◌}
+use Rattle.std.specs.Prelude.{◌≡◌, ℕ, ◌/◌, ◌%◌, ◌<◌, ◌≤◌, ◌==◌, ◌&&◌, ◌||◌, nat_lt, nat_le, List, Bool, true, false, Option, Some, None, IsSomeAnd, IfSome}
 use Rattle.std.specs.List.{list_any}
 use Rattle.std.specs.Int.{bit_at}
 use Rattle.std.specs.Map.{lookup}
@@ -21,9 +21,6 @@ pub record WordState : Type 0 where
 -- the window has what is touched after this many freezes
 abbrev pub is_inside : Window → (freezes : ℕ) → Bool
 is_inside window freezes = nat_le window.from freezes && nat_lt freezes window.end
-
-abbrev pub has_bit : (bits place : ℕ) → Bool
-has_bit bits place = bit_at bits place == 1
 
 -- the touch is of the block at a place of the word, and inside the window
 abbrev pub is_of : Window → (place : ℕ) → Touch → Bool

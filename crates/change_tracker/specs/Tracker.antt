@@ -1,9 +1,9 @@
 -- What a tracker holds: of each snapshot its identifier, the blocks that were touched before it, and
 -- those that changed since the one before it; and for which next call room was made. Maps are how it
 -- is kept, and no caller sees them.
-use Rattle.std.specs.Prelude.{◌≡◌, ℕ, ◌+◌, ◌==◌, nat_le, nat_eq, List, [], ◌∷◌, ◌++◌, map, Bool, false, ◌&&◌, ◌||◌, Option, Some, None, unwrap_or, option_map, if◌then◌else◌}
-use Rattle.std.specs.List.{find, list_any}
-use Rattle.sector_model.specs.Run.{blocks_where, meets}
+use Rattle.std.specs.Prelude.{ℕ, ◌+◌, ◌==◌, List, [], ◌∷◌, ◌++◌, map, Bool, false, Option, Some, None, unwrap_or, option_map, if◌then◌else◌}
+use Rattle.std.specs.List.{find}
+use Rattle.sector_model.specs.Run.{is_within, with_met}
 use Rattle.sector_model.specs.declared.run.Run.{Run}
 use Rattle.change_id.specs.ChangeId.{packed}
 use Rattle.change_id.specs.declared.ChangeId.{ChangeId}
@@ -58,11 +58,6 @@ next_id tracker = option_map
     (λ n. record { uuid = packed tracker.machine tracker.disk tracker.epoch; seq = n + 1 })
     tracker.counted
 
--- the blocks, and those that a run meets
-abbrev pub with_met : (capacity : ℕ) → Run → List ℕ → List ℕ
-with_met capacity run blocks =
-    blocks_where capacity (λ b. list_any (nat_eq b) blocks || meets b run.first run.count)
-
 abbrev pub after_marking : Run → TrackerState → TrackerState
 after_marking run tracker = record tracker {
   blocks = with_met tracker.capacity run tracker.blocks;
@@ -100,10 +95,7 @@ after_reset tracker = record tracker {
   mark_room = None;
 }
 
--- the run has a sector, and lies within the disk
-abbrev pub is_within : TrackerState → Run → Bool
-is_within tracker run = nat_le 1 run.count && nat_le (run.first + run.count) tracker.capacity
-
 -- why marking a run is refused, but for want of memory
 abbrev pub mark_refusal : Run → TrackerState → Option TrackRefused
-mark_refusal run tracker = if is_within tracker run then None else Some Range
+mark_refusal run tracker =
+    if is_within tracker.capacity run.first run.count then None else Some Range

@@ -1,7 +1,8 @@
 //! The two maps of a tracker.
 ghost use Rattle.std.specs.Prelude.{◌≡◌, ◌+◌, ◌-◌, ◌*◌, ◌/◌, ◌<◌, ◌≤◌, ◌^◌, ◌||◌, ◌&&◌, [], ℕ, OnOk, nat_le, nat_lt, ◌==◌};
 ghost use Rattle.sector_model.specs.Run.{meets};
-ghost use Rattle.change_tracker.specs.Touches.{has_bit, touched_in, word_of};
+ghost use Rattle.basics.specs.Bits.{has_bit};
+ghost use Rattle.change_tracker.specs.Touches.{touched_in, word_of};
 ghost use Rattle.change_tracker.specs.Maps.{window, HasSameTouches, KeepsPlaces, NoneTouchedLater, IsTouchedWhere, is_met_by, is_met_in, HasRoomWhere};
 
 use crate::touches::Touches;

@@ -2,7 +2,8 @@
 ghost use Rattle.std.specs.Prelude.{◌≡◌, ◌+◌, ◌*◌, ◌/◌, ◌<◌, ◌≤◌, ◌^◌, [], ℕ, true, false, Some, None, MatchOption, MatchBool, OnOk};
 ghost use Rattle.sector_model.specs.Run.{block_count, next_run};
 ghost use Rattle.sector_model.specs.Page.{page_from};
-ghost use Rattle.change_tracker.specs.Touches.{TouchState, word_of, is_touched, touched_in, has_bit, HasSame, HasRoom, KeepsRoom, NoneLater, IsAdded, IsFirst, IsSeen, IsAhead, areas_in};
+ghost use Rattle.basics.specs.Bits.{has_bit};
+ghost use Rattle.change_tracker.specs.Touches.{TouchState, word_of, is_touched, touched_in, HasSame, HasRoom, KeepsRoom, NoneLater, IsAdded, IsFirst, IsSeen, IsAhead, areas_in};
 
 use crate::word::{WORD_BLOCKS, Window, Word};
 use sector_model::{BLOCK_SECTORS, NoMemory, PAGE_AREAS, Page, Run};

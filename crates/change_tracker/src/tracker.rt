@@ -52,7 +52,8 @@ impl Model for Tracker {
 }
 
 impl Tracker {
-    ghost use Rattle.change_tracker.specs.Tracker.{fresh, next_id, after_marking, after_freezing, after_enabling, after_reset, is_within, mark_refusal};
+    ghost use Rattle.change_tracker.specs.Tracker.{fresh, next_id, after_marking, after_freezing, after_enabling, after_reset, mark_refusal};
+    ghost use Rattle.sector_model.specs.Run.{is_within};
     ghost use Rattle.change_tracker.specs.History.{TrackStep, Marked, Frozen, Enabled, Reset, StandsFor, Takes, id_at, answered, snapshot_refusal, query_refusal};
 
     /// The tracker of a disk of that many sectors, of which nothing was told. It takes no memory.
@@ -255,7 +256,7 @@ impl Tracker {
 
     /// Whether the run has a sector, and lies within the disk.
     fn is_within(&self, run: Run) -> bool
-        ensures { result ≡ is_within self.now run }
+        ensures { result ≡ is_within self.now.capacity run.first run.count }
     {
         run.count != 0 && run.first <= self.capacity && run.count <= self.capacity - run.first
     }

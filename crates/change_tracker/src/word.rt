@@ -1,6 +1,7 @@
 //! The touches of one word: 64 blocks in a row.
 ghost use Rattle.std.specs.Prelude.{◌≡◌, ◌<◌, ◌≤◌, ◌+◌, ◌^◌, ◌&&◌, ◌||◌, [], OnOk, OnErr, ℕ};
-ghost use Rattle.change_tracker.specs.Touches.{WordState, is_inside, is_of, has_bit, touched_at};
+ghost use Rattle.basics.specs.Bits.{has_bit};
+ghost use Rattle.change_tracker.specs.Touches.{WordState, is_inside, is_of, touched_at};
 ghost use Rattle.std.specs.List.{list_any};
 
 use sector_model::NoMemory;

@@ -4,7 +4,7 @@ use Rattle.std.specs.Prelude.{Option, Some, None, option_map, Result, Ok, Err, O
 use Rattle.std.specs.Option.{ForSome}
 use Rattle.std.specs.List.{list_any}
 use Rattle.std.proofs.lemmas.List.{get_or-take, ext_get_or, take_all}
-use Rattle.std.proofs.lemmas.Bool.{cases_lt}
+use Rattle.std.proofs.lemmas.Bool.{cases_lt, or_parts}
 use Rattle.std.proofs.lemmas.List.Folds.{list_any-append}
 use Rattle.std.proofs.lemmas.Bool.Decides.{nat_tests}
 use Rattle.edge_traits.specs.declared.span.Span.{Span}
@@ -18,13 +18,6 @@ use Rattle.basics.proofs.Replaced.{length-replaced_past, get_or-replaced_before,
 abbrev pub AllowsNoMore : (before now : DiskContents) → Type 0
 AllowsNoMore before now = (image : List ℕ) → IsImage now image → IsImage before image
 
-none_of : (a b : Bool) → (a || b) ≡ false → (a ≡ false) × (b ≡ false)
-none_of true b h = absurd (cc)
-none_of false b h = (refl, h)
-
-neither : (a b : Bool) → a ≡ false → b ≡ false → (a || b) ≡ false
-neither a b ha hb = rw (ha, hb) refl
-
 -- a byte that isn't loose after a range became loose is outside that range, and was not before
 pub not_loosened : (c : DiskContents) (first count offset : ℕ)
     → is_loose offset (loosened first count c) ≡ false
@@ -33,8 +26,8 @@ not_loosened c first count offset h =
     let span : Span = record { first = first; count = count } in
     let both : (list_any (covers offset) c.loose || list_any (covers offset) (span ∷ [])) ≡ false =
     sym (list_any-append (covers offset) c.loose (span ∷ [])) ∙ h in
-    let parts = none_of (list_any (covers offset) c.loose) (list_any (covers offset) (span ∷ [])) both in
-    (parts.0, (none_of (covers offset span) false parts.1).0)
+    let parts = or_parts (list_any (covers offset) c.loose) (list_any (covers offset) (span ∷ [])) both in
+    (parts.0, (or_parts (covers offset span) false parts.1).0)
 
 pub still_not_loosened : (c : DiskContents) (first count offset : ℕ) → is_loose offset c ≡ false
     → covers offset (record { first = first; count = count }) ≡ false
@@ -42,7 +35,7 @@ pub still_not_loosened : (c : DiskContents) (first count offset : ℕ) → is_lo
 still_not_loosened c first count offset old new =
     let span : Span = record { first = first; count = count } in
     list_any-append (covers offset) c.loose (span ∷ [])
-    ∙ neither _ _ old (neither (covers offset span) false new refl)
+    ∙ rw (old, new) refl
 
 -- an offset outside a span is before it or behind it
 pub not_covered : (offset first count : ℕ)

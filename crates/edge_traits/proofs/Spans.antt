@@ -3,6 +3,7 @@ use Rattle.std.proofs.Common.{◌≡◌, ℕ, ◌+◌, ◌-◌, ◌<◌, ◌≤�
 use Rattle.std.specs.List.{list_any}
 use Rattle.std.proofs.lemmas.List.{take_more, get_or-take, get_or-drop}
 use Rattle.std.proofs.lemmas.List.Folds.{list_any-append}
+use Rattle.std.proofs.Math.Bool.{or-false}
 use Rattle.std.proofs.lemmas.Bool.{cases_lt}
 use Rattle.std.proofs.lemmas.Bool.Decides.{nat_tests}
 use Rattle.edge_traits.specs.declared.span.Span.{Span}
@@ -71,10 +72,6 @@ if_either true false x y now new before after = after ∙ before
 if_either false true x y now new before after = after
 if_either false false x y now new before after = after ∙ before
 
-or_false : (b : Bool) → (b || false) ≡ b
-or_false true = refl
-or_false false = refl
-
 -- one more of the spans
 pub one_span_more : (spans : List Span) (i : ℕ) (d : Span) (offset x y now new : ℕ)
     → i < length spans
@@ -87,6 +84,6 @@ one_span_more spans i d offset x y now new less before after =
     ≡ (list_any (covers offset) (take i spans) || covers offset span) =
     ap (λ (xs : List Span). list_any (covers offset) xs) (take_more spans i d less)
     ∙ list_any-append (covers offset) (take i spans) (span ∷ [])
-    ∙ ap (λ (b : Bool). list_any (covers offset) (take i spans) || b) (or_false (covers offset span)) in
+    ∙ ap (λ (b : Bool). list_any (covers offset) (take i spans) || b) (or-false (covers offset span)) in
     if_either _ _ x y now new before after
     ∙ ap (λ (b : Bool). if b then x else y) (sym split)

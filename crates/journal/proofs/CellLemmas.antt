@@ -6,6 +6,7 @@ use Rattle.record_codec.specs.declared.record.Record.{Record}
 use Rattle.record_codec.specs.Record.{HasSpelling, Spells, spelling, word_bytes}
 use Rattle.record_codec.specs.Parse.{word_at}
 use Rattle.record_codec.proofs.Numbers.{IsBytes, word_back, word_rest, word_split, length-word_bytes, drop_bytes}
+use Rattle.record_codec.proofs.FixedFields.{head_same, tail_same}
 use Rattle.record_codec.proofs.VariableFields.{spellings_differ}
 use Rattle.journal.specs.declared.format.TheConstants.{OPEN_GATE, MAX_BYTES}
 use Rattle.journal.specs.Format.{BeginsWithCell, cell, open_cell}
@@ -31,12 +32,6 @@ parts_of cells body behind is =
       long = omega (arith, length-append word (body ++ behind), length-append body behind, length-word_bytes (length body));
     }
 
-tails_same : (a b : ℕ) (xs ys : List ℕ) → a ∷ xs ≡ b ∷ ys → xs ≡ ys
-tails_same a b xs ys same = cc
-
-heads_same : (a b : ℕ) (xs ys : List ℕ) → a ∷ xs ≡ b ∷ ys → a ≡ b
-heads_same a b xs ys same = cc
-
 -- two lists that begin with lists of one length
 pub same_front : (a b x y : List ℕ) → length a ≡ length b → a ++ x ≡ b ++ y → a ≡ b
 same_front a b x y len same =
@@ -53,7 +48,7 @@ open_bodies cells a x b y first second =
     let one = parts_of cells a x first in
     let two = parts_of cells b y second in
     let same : one.rest ≡ two.rest =
-    tails_same OPEN_GATE OPEN_GATE one.rest two.rest (sym one.gate ∙ two.gate) in
+    tail_same OPEN_GATE OPEN_GATE one.rest two.rest (sym one.gate ∙ two.gate) in
     let len : length a ≡ length b = sym one.word ∙ ap word_at same ∙ two.word in
     let both : a ++ x ≡ b ++ y = sym one.tail ∙ ap (λ zs. drop 4 zs) same ∙ two.tail in
     (same_front a b x y len both, same_back a b x y len both)
@@ -84,7 +79,7 @@ no_record rest body behind small opened none (r, tail, has, is) =
 -- nor at a closed gate
 pub no_cell_behind : (gate : ℕ) (tail : List ℕ) → gate ≢ OPEN_GATE → ¬ BeginsWithCell (gate ∷ tail)
 no_cell_behind gate tail closed (r, behind, has, is) =
-    closed (heads_same gate OPEN_GATE tail (cell r ++ behind) is)
+    closed (head_same gate OPEN_GATE tail (cell r ++ behind) is)
 
 -- two records whose cells begin one list are one
 pub same_record : (a b : Record) (x y : List ℕ) → HasSpelling a → HasSpelling b

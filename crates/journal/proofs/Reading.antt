@@ -19,14 +19,10 @@ use Rattle.journal.proofs.StandingLemmas.{closed_standing, length-front}
 pub none_yet : (cells : List ℕ) → AreOpen cells [] cells
 none_yet cells = record { spelled = tt; split = refl }
 
-all_and_one : (records : List Record) (r : Record) → AllByRecursion HasSpelling records
-    → HasSpelling r → AllByRecursion HasSpelling (records ++ r ∷ [])
-all_and_one [] r all has = (has, tt)
-all_and_one (first ∷ records) r all has = (all.0, all_and_one records r all.1 has)
-
 pub all_spelled : (records : List Record) (r : Record) → AllByRecursion HasSpelling records
     → HasSpelling r → AllByRecursion HasSpelling (records ++ r ∷ [])
-all_spelled = all_and_one
+all_spelled [] r all has = (has, tt)
+all_spelled (first ∷ records) r all has = (all.0, all_spelled records r all.1 has)
 
 pub cells_and_one : (records : List Record) (r : Record)
     → flat_map open_cell (records ++ r ∷ []) ≡ flat_map open_cell records ++ open_cell r
@@ -42,7 +38,7 @@ one_cell_more cells records rest body behind r before opened spells =
     let its : rest ≡ open_cell r ++ behind =
     opened.split ∙ ap (λ b. (OPEN_GATE ∷ word_bytes (length b) ++ b) ++ behind) spells.spelled in
     record {
-      spelled = all_and_one records r before.spelled spells.record_has;
+      spelled = all_spelled records r before.spelled spells.record_has;
       split =
           before.split ∙ ap (λ xs. flat_map open_cell records ++ xs) its
           ∙ sym (append_assoc (flat_map open_cell records) (open_cell r) behind)
@@ -53,14 +49,6 @@ pub rest_shorter : (cells : List ℕ) (records : List Record) (rest : List ℕ) 
     → length cells ≡ length (flat_map open_cell records) + length rest
 rest_shorter cells records rest is =
     ap length is.split ∙ length-append (flat_map open_cell records) rest
-
-behind_shorter : (rest body behind : List ℕ) → IsOpen rest body behind → length behind < length rest
-behind_shorter rest body behind is =
-    let parts = parts_of rest body behind is in
-    omega (arith, ap length parts.gate, parts.long)
-
-pub goes_down : (rest body behind : List ℕ) → IsOpen rest body behind → length behind < length rest
-goes_down = behind_shorter
 
 open_standing : (records : List Record) (rest body behind : List ℕ) → IsOpen rest body behind
     → standing_at records rest ≡ BadAt (length records + 1)

@@ -1,5 +1,5 @@
 -- What a query answers once more entries came, and what a snapshot's own identifier is answered.
-use Rattle.std.proofs.Common.{◌≡◌, ℕ, ◌+◌, ◌<◌, ◌≤◌, List, [], ◌∷◌, ◌++◌, length, take, drop, Bool, true, false, cond, ◌&&◌, ◌==◌, nat_le, Option, unwrap_or, Ok, Err, sym, ap, refl, ◌∙◌, arith, ◌⊎◌, inl, inr, add-one}
+use Rattle.std.proofs.Common.{◌≡◌, ℕ, ◌+◌, ◌<◌, ◌≤◌, List, ◌++◌, length, take, drop, Bool, true, false, cond, ◌&&◌, ◌==◌, nat_le, Option, unwrap_or, Ok, Err, sym, ap, refl, ◌∙◌, arith, ◌⊎◌, inl, inr}
 use Rattle.std.proofs.lemmas.Bool.{cases_eq, eqb-true, eq-eqb, ne_eqb, le-leb, leb-true, false≢true}
 use Rattle.std.proofs.lemmas.List.{take-append-le}
 use Rattle.sector_model.specs.Run.{touched_blocks, areas_of}
@@ -9,15 +9,14 @@ use Rattle.change_id.specs.declared.ChangeId.{ChangeId}
 use Rattle.change_id.specs.declared.Since.TheVariants.{All as Everything, From}
 use Rattle.log_model.specs.declared.entry.Entry.{Entry}
 use Rattle.log_model.specs.Entry.{writes_of}
-use Rattle.log_model.specs.Marks.{reading_of, takes_in, mark, before, through, epoch, number, in_force, mark_of_id, HasId}
+use Rattle.log_model.specs.Marks.{reading_of, mark, before, through, epoch, number, in_force, mark_of_id, HasId}
 use Rattle.log_model.specs.Touched.{touched_areas}
 use Rattle.log_model.specs.Query.{changed_areas, accepts}
 use Rattle.log_model.specs.PlainMachine.{numbered_place}
 use Rattle.log_model.specs.Laws.{AnswersStay, IdsAnswerBetween, NumberedPlaceIsMark}
-use Rattle.change_id.proofs.Ends.{at_place}
 use Rattle.change_id.proofs.Counts.{epoch-append, epoch-between, number-take-le, number-le}
 use Rattle.log_model.proofs.Later.{later_entries_keep, numbered_place_gives}
-use Rattle.log_model.proofs.AnswerPages.{ok_part}
+use Rattle.change_id.proofs.Answered.{ok_part}
 use Rattle.change_id.proofs.IdMarks.{found-has, epoch-there, in_force-parts, in_force-made, same-epochs}
 use Rattle.log_model.proofs.Readings.{apart, marks_of_ids}
 

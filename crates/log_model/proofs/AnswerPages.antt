@@ -6,8 +6,9 @@ use Rattle.sector_model.specs.Run.{end_of, in_blocks, areas_of, AreSpacedFrom}
 use Rattle.sector_model.specs.Page.{areas_from}
 use Rattle.sector_model.specs.declared.run.Run.{Run}
 use Rattle.sector_model.proofs.Spacing.{SpacedWithin, runs_of-spaced}
-use Rattle.sector_model.proofs.PageLaws.{pages_joined}
+use Rattle.sector_model.proofs.AreaPages.{pages_tell}
 use Rattle.sector_model.proofs.PageWithin.{page_lies_within}
+use Rattle.change_id.proofs.Answered.{ok_part}
 use Rattle.change_id.specs.declared.ChangeId.{ChangeId}
 use Rattle.change_id.specs.declared.Since.{Since}
 use Rattle.change_id.specs.declared.Since.TheVariants.{All as Everything, From}
@@ -16,10 +17,6 @@ use Rattle.log_model.specs.Query.{changed_areas, accepts}
 use Rattle.log_model.specs.Marks.{mark, in_force, mark_of_id}
 use Rattle.log_model.specs.Touched.{touched, touched_areas}
 use Rattle.log_model.specs.Laws.{AnswersAreAreas, AnswerPagesJoin, AllPagesAreTheAnswer}
-
-pub ok_part : (b : Bool) (x y : List Run) (e : Option ChangeId) → cond b (Ok x) (Err e) ≡ Ok y → x ≡ y
-ok_part true x y e h = cc
-ok_part false x y e h = absurd (cc)
 
 -- from sector 0 on, nothing is left out or clipped
 areas_from-start : (m : ℕ) (rs : List Run) → AreSpacedFrom m rs → areas_from 0 rs ≡ rs
@@ -40,14 +37,12 @@ kept machine c d s since log areas fits found =
     subst (SpacedWithin 0 c) (sym blocks.1) (runs_of-spaced (in_blocks blocks.0) c fits)
 
 pub answer_pages_join : AnswerPagesJoin
-answer_pages_join machine c d s since log areas start pages fits found are =
-    let k = kept machine c d s since log areas fits found in
-    pages_joined c areas start pages k.spaced (All-from_recursion (λ r. end_of r ≤ c) areas k.ends) are
+answer_pages_join machine c d s since log areas fits found = pages_tell c areas (kept machine c d s since log areas fits found)
 
 pub all_pages_are_the_answer : AllPagesAreTheAnswer
 all_pages_are_the_answer machine c d s since log areas pages fits found are =
     let k = kept machine c d s since log areas fits found in
-    answer_pages_join machine c d s since log areas 0 pages fits found are ∙ areas_from-start 0 areas k.spaced
+    answer_pages_join machine c d s since log areas fits found 0 pages are ∙ areas_from-start 0 areas k.spaced
 
 pub answers_are_areas : AnswersAreAreas
 answers_are_areas machine c d s since log areas fits found =

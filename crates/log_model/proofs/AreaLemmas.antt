@@ -2,6 +2,7 @@
 use Rattle.std.proofs.Common.{◌≡◌, ℕ, ◌+◌, ◌/◌, ◌<◌, ◌≤◌, List, [], ◌∷◌, Bool, true, false, ◌&&◌, ◌||◌, nat_eq, Option, Some, None, refl, ap, ◌∙◌, arith}
 use Rattle.std.specs.List.{list_any, cons_option, range_with_len}
 use Rattle.std.specs.Option.{option_map_or}
+use Rattle.std.proofs.Math.Bool.{and-true}
 use Rattle.std.proofs.lemmas.Bool.{lt-ltb, le-ltb}
 use Rattle.sector_model.specs.Disk.{Write as Replacement}
 use Rattle.sector_model.specs.Run.{in_runs, in_blocks, areas_of, touched_blocks, touches, block_count}
@@ -25,19 +26,21 @@ any_write d sector (e ∷ log) = any_write_at d sector (write_to d e.act) (write
 abbrev pub touched_runs : ℕ → ℕ → List Entry → List Run
 touched_runs c d log = areas_of c (touched_blocks c (writes_of d log))
 
-and_true_right : (a k : Bool) → k ≡ true → (a && k) ≡ a
-and_true_right true k h = h
-and_true_right false k h = refl
+-- a sector of the disk is in the touched blocks exactly where an entry touches its block
+pub in_touched_blocks : (c d s : ℕ) (log : List Entry) → s < c → in_blocks (touched_blocks c (writes_of d log)) s ≡ is_touched d s log
+in_touched_blocks c d s log less =
+    let inside : s / 128 < 0 + block_count c = omega arith in
+    in_touched c s (writes_of d log)
+    ∙ ap (λ k. list_any (touches (s / 128)) (writes_of d log) && k) (any_below (s / 128) 0 (block_count c) (omega arith) inside)
+    ∙ and-true (list_any (touches (s / 128)) (writes_of d log))
+    ∙ any_write d s log
 
 -- a sector is in the touched areas exactly where an entry touches its block
 pub in_touched_runs : (c d s : ℕ) (log : List Entry) → s < c → in_runs (touched_runs c d log) s ≡ is_touched d s log
 in_touched_runs c d s log less =
-    let inside : s / 128 < 0 + block_count c = omega arith in
     in_runs_of (in_blocks (touched_blocks c (writes_of d log))) c s
     ∙ ap (λ b. b && in_blocks (touched_blocks c (writes_of d log)) s) (lt-ltb s c less)
-    ∙ in_touched c s (writes_of d log)
-    ∙ and_true_right (list_any (touches (s / 128)) (writes_of d log)) (list_any (nat_eq (s / 128)) (range_with_len 0 (block_count c))) (any_below (s / 128) 0 (block_count c) (omega arith) inside)
-    ∙ any_write d s log
+    ∙ in_touched_blocks c d s log less
 
 pub past_touched_runs : (c d s : ℕ) (log : List Entry) → c ≤ s → in_runs (touched_runs c d log) s ≡ false
 past_touched_runs c d s log past =

@@ -2,7 +2,7 @@
 use Rattle.std.proofs.Common.{◌≡◌, ℕ, ◌+◌, ◌≤◌, List, [], ◌∷◌, ◌++◌, take, Bool, true, false, cond, ◌||◌, eqb, Option, Some, None, is_some, unwrap_or, subst, sym, ap, refl, ◌∙◌, arith, add-one}
 use Rattle.std.proofs.lemmas.Bool.{false≢true}
 use Rattle.std.proofs.lemmas.List.Sums.{fold-append}
-use Rattle.change_id.specs.ChangeId.{packed}
+use Rattle.change_id.specs.ChangeId.{id_of, packed}
 use Rattle.change_id.specs.declared.ChangeId.{ChangeId}
 use Rattle.log_model.specs.declared.entry.Act.{Act}
 use Rattle.log_model.specs.declared.entry.Act.TheVariants.{Write, Snap, Remove, Reset, Enable, Off, On}
@@ -74,14 +74,11 @@ never-number : (d : ℕ) (e : Entry) (o : Option ℕ) → is_some o ≡ false �
 never-number d e None none snap = ap (λ b. unwrap_or (cond b (Some 0) None) 0) (snap-enables_none e.act snap)
 never-number d e (Some n) none snap = absurd (cc)
 
-abbrev made : ℕ → ℕ → ChangeId
-made u n = record { uuid = u; seq = n }
-
 never-id : (machine d : ℕ) (log : List Entry) (e : Entry) → is_enabled log ≡ false → is_snap e.act ≡ true → in_force machine d (log ++ e ∷ []) ≡ None
 never-id machine d log e never snap =
     let whole : List Entry = log ++ e ∷ [] in
     let zero : number d whole ≡ 0 = ap (λ (o : Option ℕ). unwrap_or o 0) (counted-last (reading_of d) log e) ∙ never-number d e (counted d log) (counted-enabled d log ∙ never) snap in
-    ap (λ n. cond (eqb n 0) None (Some (made (packed machine d (epoch d whole)) (number d whole)))) zero
+    ap (λ n. cond (eqb n 0) None (Some (id_of (packed machine d (epoch d whole)) (number d whole)))) zero
 
 pub snapshots_have_ids : SnapshotsHaveIds
 snapshots_have_ids s log within =

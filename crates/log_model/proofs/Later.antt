@@ -1,12 +1,11 @@
 -- What later entries leave, and which place gave a number.
-use Rattle.std.proofs.Common.{◌≡◌, ℕ, zero, suc, ◌+◌, ◌<◌, ◌≤◌, List, [], ◌∷◌, ◌++◌, length, take, Bool, true, false, cond, not, ◌==◌, ◌&&◌, Option, Some, None, unwrap_or, subst, sym, ap, refl, ◌∙◌, arith, add-one}
-use Rattle.std.specs.List.{prefix_len, find, range_with_len}
+use Rattle.std.proofs.Common.{◌≡◌, ℕ, zero, suc, ◌+◌, ◌<◌, ◌≤◌, List, [], ◌∷◌, ◌++◌, length, take, Bool, true, false, cond, ◌==◌, ◌&&◌, Option, Some, unwrap_or, subst, sym, ap, refl, ◌∙◌, arith, add-one}
+use Rattle.std.specs.List.{find, range_with_len}
 use Rattle.std.proofs.lemmas.Bool.{and_from, and_parts, eqb-true, eq-eqb, false≢true}
-use Rattle.std.proofs.lemmas.List.{take-append-le}
 use Rattle.std.proofs.lemmas.Option.{same_Some}
 use Rattle.log_model.specs.declared.entry.Entry.{Entry}
-use Rattle.log_model.specs.Entry.{takes, is_snap, is_enable, resets, contents}
-use Rattle.log_model.specs.Marks.{reading_of, takes_in, mark, before, through, epoch, counted, number, in_force}
+use Rattle.log_model.specs.Entry.{is_snap, is_enable, resets, contents}
+use Rattle.log_model.specs.Marks.{reading_of, epoch, counted, number}
 use Rattle.log_model.specs.Frozen.{last_off}
 use Rattle.log_model.specs.PlainMachine.{numbered_place}
 use Rattle.log_model.specs.Laws.{GivesNumber, NumberedPlaceGives, LaterEntriesKeep}

@@ -4,7 +4,7 @@ use Rattle.std.proofs.lemmas.List.{take-append-le}
 use Rattle.sector_model.specs.Run.{touched_blocks}
 use Rattle.log_model.specs.declared.entry.Entry.{Entry}
 use Rattle.log_model.specs.Entry.{writes_of, contents}
-use Rattle.log_model.specs.Marks.{reading_of, takes_in, epoch}
+use Rattle.log_model.specs.Marks.{reading_of, epoch}
 use Rattle.log_model.specs.Laws.{LaterEntriesKeepPlaces}
 use Rattle.change_id.proofs.Counts.{epoch-append, epoch-le}
 

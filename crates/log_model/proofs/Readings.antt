@@ -1,5 +1,5 @@
 -- What an entry is to the tracking of a disk keeps what change_id asks of any list of happenings.
-use Rattle.std.proofs.Common.{◌≡◌, ℕ, List, Bool, true, false, refl}
+use Rattle.std.proofs.Common.{◌≡◌, ℕ, List, true, false, refl}
 use Rattle.std.proofs.lemmas.Bool.{false≢true}
 use Rattle.change_id.specs.History.{IsApart}
 use Rattle.change_id.specs.declared.ChangeId.{ChangeId}

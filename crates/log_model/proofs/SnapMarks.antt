@@ -10,7 +10,7 @@ use Rattle.log_model.specs.declared.entry.Act.TheVariants.{Write, Snap, Remove, 
 use Rattle.log_model.specs.declared.entry.Entry.{Entry}
 use Rattle.log_model.specs.Entry.{is_snap, takes}
 use Rattle.log_model.specs.Legal.{Disks, Legal, ActMayStand, taken}
-use Rattle.log_model.specs.Marks.{reading_of, takes_in, mark}
+use Rattle.log_model.specs.Marks.{takes_in, mark}
 use Rattle.log_model.specs.Laws.{SnapsHaveTheirMarks, EachWasTaken, MarksAscend, LiveWasTaken}
 use Rattle.change_id.proofs.Ends.{by_last, at_place}
 use Rattle.log_model.proofs.LegalLogs.{legal_last, legal_front}

@@ -3,7 +3,7 @@
 use Rattle.std.specs.Prelude.{◌≡◌, ℕ, ◌+◌, ◌<◌, ◌≤◌, ◌^◌, List, Bool, [], ◌∷◌, ◌++◌, length, take, slice_get, true, false, ◌||◌, ◌&&◌, ◌⊎◌, ◌↔◌, Option, Some, None, Ok, Err}
 use Rattle.std.specs.List.{flat_map, filter, list_any, All}
 use Rattle.sector_model.specs.Run.{in_blocks, end_of, AreSpaced}
-use Rattle.sector_model.specs.Page.{PageContents, areas_from, page_from, ArePages, LiesWithin}
+use Rattle.sector_model.specs.Page.{PageContents, page_from, ArePages, PagesTell, LiesWithin}
 use Rattle.sector_model.specs.declared.run.Run.{Run}
 use Rattle.sector_model.specs.declared.sector.Sector.{Sector}
 use Rattle.change_id.specs.History as history
@@ -20,7 +20,7 @@ use Rattle.log_model.specs.declared.entry.Entry.{Entry}
 use Rattle.log_model.specs.declared.folds.Tracking.TheVariants.{Active}
 use Rattle.log_model.specs.Entry.{writes_of, contents, is_snap, is_off, takes, removes}
 use Rattle.log_model.specs.Legal.{Disks, all_of, only, HasDisk, Legal, MayStand, ActsFor, machine_on, is_enabled, taken, owner_of}
-use Rattle.log_model.specs.Marks.{reading_of, mark, before, epoch, number, tracking, in_force, id_at, mark_of_id, TakesSnapshot, HasId}
+use Rattle.log_model.specs.Marks.{reading_of, mark, before, epoch, number, tracking, in_force, id_at, mark_of_id, HasId}
 use Rattle.log_model.specs.Frozen.{frozen, last_off, off_place}
 use Rattle.log_model.specs.Touched.{between, touched, touched_areas}
 use Rattle.log_model.specs.Query.{changed_areas, accepts}
@@ -235,7 +235,8 @@ NumberedPlaceIsMark = (machine d s : ℕ) (id : ChangeId) (log : List Entry)
     → accepts machine d s id log ≡ true
     → mark_of_id machine d id log ≡ Some (numbered_place d id.seq log)
 
--- the mark of an identifier is the one place of the snapshot that has it, and later entries leave it
+-- the mark of an identifier is the one place of the snapshot that has it, and later entries leave
+-- it
 abbrev pub MarksOfIds : (machine d : ℕ) (id : ChangeId) (log : List Entry) → Type 0
 MarksOfIds machine d id log = laws.MarksOfIds (reading_of d) machine d id log
 
@@ -272,9 +273,7 @@ AnswersAreAreas = (machine c d s : ℕ) (since : Since) (log : List Entry) (area
 -- start on; from sector 0 on they are the answer
 abbrev pub AnswerPagesJoin : Type 0
 AnswerPagesJoin = (machine c d s : ℕ) (since : Since) (log : List Entry) (areas : List Run)
-    (start : ℕ) (pages : List PageContents)
-    → c < 2 ^ 64 → changed_areas machine c d s since log ≡ Ok areas
-    → ArePages c areas start pages → flat_map (λ p. p.areas) pages ≡ areas_from start areas
+    → c < 2 ^ 64 → changed_areas machine c d s since log ≡ Ok areas → PagesTell c areas
 
 abbrev pub AllPagesAreTheAnswer : Type 0
 AllPagesAreTheAnswer = (machine c d s : ℕ) (since : Since) (log : List Entry)

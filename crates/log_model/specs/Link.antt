@@ -108,9 +108,13 @@ facts_of log = record {
 abbrev pub Owns : Owner → (snapshot : ℕ) → List Entry → Type 0
 Owns owner snapshot log = owner_of snapshot log ≡ Some owner
 
+-- the least number from `from` on of which this is true, or none where it is true of none
+abbrev pub IsLeastWhere : (IsOne : ℕ → Type 0) → (from : ℕ) → Option ℕ → Type 0
+IsLeastWhere IsOne from (Some n) =
+    IsOne n × (from ≤ n)
+    × ((earlier : ℕ) → from ≤ earlier → earlier < n → ¬ (IsOne earlier))
+IsLeastWhere IsOne from None = (n : ℕ) → from ≤ n → ¬ (IsOne n)
+
 -- the least live snapshot of the owner from `from` on, or none where there is none
 abbrev pub IsLeastOwned : Owner → (from : ℕ) → List Entry → Option ℕ → Type 0
-IsLeastOwned owner from log (Some s) =
-    Owns owner s log × (from ≤ s)
-    × ((earlier : ℕ) → from ≤ earlier → earlier < s → ¬ (Owns owner earlier log))
-IsLeastOwned owner from log None = (s : ℕ) → from ≤ s → ¬ (Owns owner s log)
+IsLeastOwned owner from log found = IsLeastWhere (λ s. Owns owner s log) from found

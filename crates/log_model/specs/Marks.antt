@@ -1,7 +1,7 @@
 -- Places in a log, which count from 0, and the change identifiers of a disk. Snapshots of one epoch
 -- of a disk are numbered 1, 2 and so on, so an identifier leads back to one place of the log. What
 -- the words say stands in change_id, for any list of happenings; here they are those of a log.
-use Rattle.std.specs.Prelude.{◌≡◌, ℕ, ◌+◌, ◌<◌, List, length, take, slice_get, Bool, true, Option, Some, if◌then◌else◌, ◌||◌}
+use Rattle.std.specs.Prelude.{ℕ, List, Bool, Option, if◌then◌else◌, ◌||◌}
 use Rattle.std.specs.List.{fold}
 use Rattle.change_id.specs.History.{Reading}
 use Rattle.change_id.specs.History as history

@@ -59,8 +59,9 @@ pub fn snap(
     Ok(snapped)
 }
 
-/// Whether the caller may remove in an owner's name what another owner has.
-fn may_remove(caller: u32, owner: Owner, has: Owner) -> bool
+/// Whether the caller with this number may remove in an owner's name a snapshot that an owner has:
+/// its own, and what a migration has only under [`MIGRATION_CALLER`].
+pub fn may_remove(caller: u32, owner: Owner, has: Owner) -> bool
     ensures { result ≡ may_remove caller owner has }
 {
     match (owner, has) {

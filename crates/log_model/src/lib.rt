@@ -14,6 +14,7 @@ mod refusals;
 #[cfg(test)]
 mod tests;
 
+pub use acts::may_remove;
 pub use entry::{Act, Entry, EntryList, MAX_LOG_ENTRIES, MIGRATION_CALLER, Owner};
 pub use folds::{
     Tracking, epoch, facts_of, is_enabled, last_off, machine_on, mark, number, owner_of, taken,
@@ -28,7 +29,7 @@ pub use link::{Facts, Link, Snapped};
 pub use may_stand::may_stand_alone;
 pub use plain_machine::PlainMachine;
 pub use query::{
-    accepts, answer_page, before, between, entry_touches, in_force, is_touched, read_into,
-    sector_at, since_place, through,
+    accepts, answer_page, before, between, entry_touches, in_force, is_touched, is_within,
+    read_into, sector_at, since_place, through,
 };
 pub use refusals::{LinkRefused, WriteRefused};

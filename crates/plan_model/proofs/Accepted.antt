@@ -5,6 +5,7 @@ use Rattle.std.specs.Bool.{one_answer}
 use Rattle.std.specs.List.{find, list_any, AllByRecursion, IsDistinct}
 use Rattle.std.specs.Option.{option_or}
 use Rattle.std.specs.Str.{bytes_eq}
+use Rattle.std.proofs.lemmas.Bool.{eqb-true, false≢true, or_parts as any_split}
 use Rattle.std.proofs.lemmas.Bool.Decides.{nat_tests}
 use Rattle.std.proofs.lemmas.Slice.Eq.{bytes_eq-Decides}
 use Rattle.std.proofs.lemmas.List.Elements.{All-from_recursion, recursion_from_All}
@@ -44,10 +45,6 @@ find_none : {X : Type 0} (test : X → Bool) (xs : List X)
 find_none test [] all = refl
 find_none test (x ∷ xs) all = rw all.0 (find_none test xs all.1)
 
-any_split : (a b : Bool) → (a || b) ≡ false → (a ≡ false) × (b ≡ false)
-any_split true b e = cc
-any_split false b e = (refl, e)
-
 none_passes : {X : Type 0} (test : X → Bool) (xs : List X) → list_any test xs ≡ false
     → AllByRecursion (λ x. test x ≡ false) xs
 none_passes test [] none = tt
@@ -65,15 +62,12 @@ flips : (a b : List ℕ) → bytes_eq a b ≡ bytes_eq b a
 flips a b = one_answer (bytes_eq a b) (bytes_eq b a) (bytes_eq-Decides a b)
     ((λ t. sym ((bytes_eq-Decides b a).0 t)), (λ e. (bytes_eq-Decides b a).1 (sym e)))
 
-not_both : (b : Bool) → b ≡ true → b ≡ false → ⊥
-not_both b t f = cc
-
 differ_at : (a b : List ℕ) (v : Bool) → bytes_eq a b ≡ v → a ≢ b → v ≡ false
 differ_at a b true t apart = absurd (apart ((bytes_eq-Decides a b).0 t))
 differ_at a b false t apart = refl
 
 apart_is : (a b : List ℕ) → bytes_eq a b ≡ false → a ≢ b
-apart_is a b f same = not_both (bytes_eq a b) ((bytes_eq-Decides a b).1 same) f
+apart_is a b f same = false≢true (sym f ∙ (bytes_eq-Decides a b).1 same)
 
 is_apart : (a b : List ℕ) → a ≢ b → bytes_eq a b ≡ false
 is_apart a b apart = differ_at a b (bytes_eq a b) refl apart
@@ -301,15 +295,12 @@ known_is : (known : List VmFact) (name : List ℕ) → IsFree known name
     → IsTrue (is_some (fact_of known name))
 known_is known name free = ap (λ (o : Option VmFact). is_some o) free.is_known
 
-same_number : (m n : ℕ) → (m == n) ≡ true → m ≡ n
-same_number m n e = grind (arith, nat_tests)
-
 numbers_at : (known : List VmFact) (a b : List ℕ) (v : Bool) → NumbersTellApart known
     → IsFree known a → IsFree known b → bytes_eq a b ≡ false
     → (vm_number known a == vm_number known b) ≡ v → v ≡ false
 numbers_at known a b true apart free_a free_b f e =
     let same = apart a b (known_is known a free_a) (known_is known b free_b)
-    (same_number (vm_number known a) (vm_number known b) e) in
+    (eqb-true (vm_number known a) (vm_number known b) e) in
     absurd (apart_is a b f same)
 numbers_at known a b false apart free_a free_b f e = refl
 

@@ -4,6 +4,8 @@ use Rattle.std.proofs.Common.{◌≡◌, ℕ, zero, suc, ◌+◌, ◌-◌, ◌*�
 use Rattle.std.specs.Prelude.{◌==◌, ◌&&◌, nat_lt, nat_le, slice_index, if◌then◌else◌}
 use Rattle.std.specs.List.{list_all, zip}
 use Rattle.std.specs.Char.{is_ascii_digit}
+use Rattle.std.proofs.lemmas.Bool.{and_parts, eqb-true}
+use Rattle.std.proofs.lemmas.Option.{same_Some}
 use Rattle.std.proofs.lemmas.Bool.Decides.{nat_tests}
 use Rattle.std.proofs.lemmas.Grind.{same_number_lists}
 use Rattle.jiff_core.specs.declared.civil.date.Date.{Date}
@@ -91,23 +93,16 @@ digits_few : (a b : ℕ) → is_ascii_digit a ≡ true → is_ascii_digit b ≡ 
     → (a - 48) * 10 + (b - 48) ≤ 99
 digits_few a b ta tb = let fa = digit_facts a ta in let fb = digit_facts b tb in omega arith
 
-both : (a b : Bool) → (a && b) ≡ true → (a ≡ true) × (b ≡ true)
-both true b e = (refl, e)
-both false b e = cc
-
 pattern_at : (patterns text : List ℕ) (k : ℕ) → length text ≡ length patterns
     → list_all (λ p. has_pattern p.0 p.1) (zip patterns text) ≡ true → k < length patterns
     → has_pattern (slice_index patterns k) (slice_index text k) ≡ true
 pattern_at [] text k same all inside = absurd (omega arith)
 pattern_at (p ∷ ps) [] k same all inside = absurd (omega arith)
 pattern_at (p ∷ ps) (b ∷ bs) zero same all inside =
-    (both (has_pattern p b) (list_all (λ p. has_pattern p.0 p.1) (zip ps bs)) all).0
+    (and_parts (has_pattern p b) (list_all (λ p. has_pattern p.0 p.1) (zip ps bs)) all).0
 pattern_at (p ∷ ps) (b ∷ bs) (suc k) same all inside =
     pattern_at ps bs k (omega arith)
-    (both (has_pattern p b) (list_all (λ p. has_pattern p.0 p.1) (zip ps bs)) all).1 (omega arith)
-
-same_length : (m n : ℕ) → (m == n) ≡ true → m ≡ n
-same_length m n e = grind (arith, nat_tests)
+    (and_parts (has_pattern p b) (list_all (λ p. has_pattern p.0 p.1) (zip ps bs)) all).1 (omega arith)
 
 record Shaped (text : List ℕ) : Type 0 where
   sized : length text ≡ 20
@@ -115,9 +110,9 @@ record Shaped (text : List ℕ) : Type 0 where
 
 shaped : (text : List ℕ) → has_shape text ≡ true → Shaped text
 shaped text e =
-    let parts = both (length text == length shape)
+    let parts = and_parts (length text == length shape)
     (list_all (λ p. has_pattern p.0 p.1) (zip shape text)) e in
-    let sized = same_length (length text) (length shape) parts.0 in
+    let sized = eqb-true (length text) (length shape) parts.0 in
     record { sized = sized; written = λ k inside. pattern_at shape text k sized parts.1 inside }
 
 -- a moment that a text tells
@@ -125,9 +120,6 @@ record Told (text : List ℕ) (m : Moment) : Type 0 where
   shaped_so : Shaped text
   is_one : is_moment (reading text) ≡ true
   at : seconds_before (reading text) ≡ m.0
-
-some_same : (a b : Moment) → Some a ≡ Some b → a ≡ b
-some_same a b e = cc
 
 told_where : (text : List ℕ) (m : Moment) (h r : Bool) → has_shape text ≡ h
     → is_moment (reading text) ≡ r
@@ -137,7 +129,7 @@ told_where text m true true a b e = record {
   shaped_so = shaped text a;
   is_one = b;
   at = ap (λ (x : Moment). x.0)
-      (some_same (record { 0 = seconds_before (reading text) }) m e);
+      (same_Some (record { 0 = seconds_before (reading text) }) m e);
 }
 told_where text m true false a b e = cc
 told_where text m false r a b e = cc

@@ -2,6 +2,8 @@
 use Rattle.std.proofs.Common.{◌≡◌, ℕ, zero, suc, ◌+◌, ◌<◌, ◌≤◌, Bool, true, false, List, [], ◌∷◌, ◌++◌, length, drop, Option, Some, None, refl, sym, ap, ◌∙◌, subst, arith, eq-eqb}
 use Rattle.std.specs.Prelude.{◌==◌, nat_lt, nat_le, ◌&&◌, ◌||◌, slice_index_or, option_map, if◌then◌else◌}
 use Rattle.std.specs.List.{AllByRecursion}
+use Rattle.std.proofs.lemmas.Bool.{eqb-true}
+use Rattle.std.proofs.lemmas.Option.{same_Some}
 use Rattle.std.proofs.lemmas.Bool.Decides.{nat_tests}
 use Rattle.std.proofs.lemmas.List.{length-drop}
 use Rattle.record_codec.specs.declared.record.Record.{Record}
@@ -64,14 +66,11 @@ stands_byte n bytes fields h rest =
       spelled = byte_split bytes (omega arith) ∙ ap (λ (ys : List ℕ). byte_at bytes ∷ ys) r.spelled;
     }
 
-number_is : (m n : ℕ) → (m == n) ≡ true → m ≡ n
-number_is m n e = grind (arith, nat_tests)
-
 flag_split : (none one : Bool) (byte : ℕ) (flag : Bool) → (byte == 0) ≡ none → (byte == 1) ≡ one
     → (if none then Some false else if one then Some true else None) ≡ Some flag → byte ≡ flag_byte flag
 flag_split true one byte true z o e = cc
-flag_split true one byte false z o e = number_is byte 0 z
-flag_split false true byte true z o e = number_is byte 1 o
+flag_split true one byte false z o e = eqb-true byte 0 z
+flag_split false true byte true z o e = eqb-true byte 1 o
 flag_split false true byte false z o e = cc
 flag_split false false byte flag z o e = cc
 
@@ -94,11 +93,8 @@ pub record IsFrom (kind : Kind) (bytes : List ℕ) (r : Record) : Type 0 where
   pub is_fixed : nat_lt 0 (fixed_size kind) ≡ true
   pub stands : Stands bytes (fields_of r)
 
-some_same : (x r : Record) → Some x ≡ Some r → x ≡ r
-some_same x r e = cc
-
 from_same : (kind : Kind) (bytes : List ℕ) (x r : Record) → Some x ≡ Some r → IsFrom kind bytes x → IsFrom kind bytes r
-from_same kind bytes x r e h = subst (λ (y : Record). IsFrom kind bytes y) (some_same x r e) h
+from_same kind bytes x r e h = subst (λ (y : Record). IsFrom kind bytes y) (same_Some x r e) h
 
 flag_case : (kind : Kind) (bytes : List ℕ) (o : Option Bool) (make : Bool → Record) (r : Record) → option_map make o ≡ Some r
     → ((flag : Bool) → o ≡ Some flag → IsFrom kind bytes (make flag)) → IsFrom kind bytes r
@@ -270,16 +266,13 @@ kept_is : (o : Option Record) (r : Record) → where_kept o ≡ Some r → (o �
 kept_is None r e = cc
 kept_is (Some x) r e =
     let t = test_true (fixed_rule x) (Some x) r e in
-    (t.1, subst (λ (y : Record). fixed_rule y ≡ true) (some_same x r t.1) t.0)
-
-same_len : (m n : ℕ) → (m == n) ≡ true → m ≡ n
-same_len m n e = grind (arith, nat_tests)
+    (t.1, subst (λ (y : Record). fixed_rule y ≡ true) (same_Some x r t.1) t.0)
 
 pub parse_back : (kind : Kind) (bytes : List ℕ) (r : Record) → parse_fixed kind bytes ≡ Some r → IsParsed kind bytes r
 parse_back kind bytes r e =
     let t = test_true (length bytes == fixed_size kind) (where_kept (fixed_record kind bytes)) r e in
     let k = kept_is (fixed_record kind bytes) r t.1 in
-    record { len = same_len (length bytes) (fixed_size kind) t.0; read = k.0; rule = k.1 }
+    record { len = eqb-true (length bytes) (fixed_size kind) t.0; read = k.0; rule = k.1 }
 
 pub head_same : (a b : ℕ) (xs ys : List ℕ) → a ∷ xs ≡ b ∷ ys → a ≡ b
 head_same a b xs ys e = cc

@@ -3,6 +3,7 @@
 use Rattle.std.proofs.Common.{◌≡◌, ℕ, zero, suc, ◌+◌, ◌-◌, ◌*◌, ◌^◌, ◌<◌, ◌≤◌, true, false, List, [], ◌∷◌, ◌++◌, length, take, drop, Option, Some, Ok, Err, refl, sym, ap, ◌∙◌, subst, arith, append_assoc, append-nil, length-append, eq-eqb}
 use Rattle.std.specs.Prelude.{slice_index, ◌==◌}
 use Rattle.std.specs.List.{AllByRecursion}
+use Rattle.std.proofs.lemmas.Option.{same_Some}
 use Rattle.std.proofs.lemmas.List.{length-drop, length-take-le, take-append-drop}
 use Rattle.basics.specs.Spelled.{IsName}
 use Rattle.change_id.specs.declared.ChangeId.{ChangeId}
@@ -346,16 +347,13 @@ spelling_read (FinalSnapTaken mig snap mark place) h = (fixed_forth (FinalSnapTa
 spelling_read (CancelAsked mig) h = (fixed_forth (CancelAsked mig) refl h.ranges).read
 spelling_read (Ended mig how place) h = (fixed_forth (Ended mig how place) refl h.ranges).read
 
-some_same : (a b : Record) → Some a ≡ Some b → a ≡ b
-some_same a b e = cc
-
 pub spellings_differ : SpellingsDiffer
 spellings_differ a b has_a has_b e =
     let fields_a = spelled_fields (fields_of a) in
     let fields_b = spelled_fields (fields_of b) in
     let kind : kind_of a ≡ kind_of b = kinds_differ (kind_of a) (kind_of b) (head_same (kind_byte (kind_of a)) (kind_byte (kind_of b)) fields_a fields_b e) in
     let fields : fields_a ≡ fields_b = tail_same (kind_byte (kind_of a)) (kind_byte (kind_of b)) fields_a fields_b e in
-    some_same a b (sym (spelling_read a has_a) ∙ (λ i. read_of (kind i) (fields i)) ∙ spelling_read b has_b)
+    same_Some a b (sym (spelling_read a has_a) ∙ (λ i. read_of (kind i) (fields i)) ∙ spelling_read b has_b)
 
 pub spelled_is_read : SpelledIsRead
 spelled_is_read body r (Ok other) spells answer =

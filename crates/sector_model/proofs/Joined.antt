@@ -1,17 +1,13 @@
 -- Runs and one more.
 use Rattle.std.proofs.Common.{◌≡◌, ℕ, zero, suc, ◌+◌, ◌-◌, ◌<◌, ◌≤◌, ◌^◌, min, max, List, [], ◌∷◌, ◌++◌, length, drop, get_or, Bool, true, false, cond, ◌||◌, ◌&&◌, ltb, leb, Option, Some, None, refl, sym, ap, ◌∙◌, arith}
 use Rattle.std.specs.List.{list_any, AllByRecursion}
-use Rattle.std.proofs.Math.Bool.{or-false, or_assoc}
+use Rattle.std.proofs.Math.Bool.{or-false, or_assoc, or_comm}
 use Rattle.std.proofs.lemmas.Bool.{ltb-true, ltb-false}
 use Rattle.std.proofs.lemmas.Bool.Decides.{nat_tests}
 use Rattle.sector_model.specs.Run.{end_of, has, in_runs, AreSpacedFrom}
 use Rattle.sector_model.specs.Joining.{hull, joined}
 use Rattle.sector_model.specs.declared.run.Run.{Run}
-use Rattle.sector_model.proofs.Spacing.{from_earlier}
-
-pub spaced-bound : (m : ℕ) (rs : List Run) → AreSpacedFrom m rs → m ≤ 2 ^ 64
-spaced-bound m [] spaced = spaced
-spaced-bound m (r ∷ rs) spaced = let more = spaced-bound (end_of r + 1) rs spaced.2 in omega (arith, more, spaced.0, spaced.1)
+use Rattle.sector_model.proofs.Spacing.{from_earlier, spaced-bound}
 
 pub ends_fit : (m : ℕ) (rs : List Run) (i : ℕ) (d : Run) → AreSpacedFrom m rs → i < length rs → end_of (get_or rs i d) < 2 ^ 64
 ends_fit m [] i d spaced less = absurd (omega arith)
@@ -20,12 +16,6 @@ ends_fit m (r ∷ rs) (suc i) d spaced less = ends_fit (end_of r + 1) rs i d spa
 
 has-hull : (r q : Run) (s : ℕ) → q.first ≤ end_of r → r.first ≤ end_of q → has s (hull r q) ≡ (has s r || has s q)
 has-hull r q s one two = grind (arith, nat_tests)
-
-either : (x y : Bool) → (x || y) ≡ (y || x)
-either true true = refl
-either true false = refl
-either false true = refl
-either false false = refl
 
 turn : (x y z : Bool) → (x || (y || z)) ≡ ((z || x) || y)
 turn true y true = refl
@@ -39,7 +29,7 @@ in_joined-at : (a b : Bool) (more r : Run) (rs : List Run) (s : ℕ) → ltb (en
     → in_runs (joined more rs) s ≡ (in_runs rs s || has s more) → in_runs (joined (hull more r) rs) s ≡ (in_runs rs s || has s (hull more r))
     → in_runs (cond a (r ∷ joined more rs) (cond b (more ∷ r ∷ rs) (joined (hull more r) rs))) s ≡ (in_runs (r ∷ rs) s || has s more)
 in_joined-at true b more r rs s is _ behind _ = ap (λ x. has s r || x) behind ∙ sym (or_assoc (has s r) (in_runs rs s) (has s more))
-in_joined-at false true more r rs s _ _ _ _ = either (has s more) (in_runs (r ∷ rs) s)
+in_joined-at false true more r rs s _ _ _ _ = or_comm (has s more) (in_runs (r ∷ rs) s)
 in_joined-at false false more r rs s one two _ met =
     met ∙ ap (λ x. in_runs rs s || x) (has-hull more r s (ltb-false (end_of more) r.first two) (ltb-false (end_of r) more.first one))
     ∙ turn (in_runs rs s) (has s more) (has s r)

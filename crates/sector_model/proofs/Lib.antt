@@ -5,10 +5,12 @@ pub mod RunsOf
 pub mod Exact
 pub mod NextRun
 pub mod PageLaws
+pub mod AreaPages
 pub mod PageWithin
 pub mod PageSectors
 pub mod PageMade
 pub mod Touched
+pub mod Among
 pub mod Volumes
 pub mod NextAt
 pub mod Joined

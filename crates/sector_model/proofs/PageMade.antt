@@ -8,6 +8,11 @@ use Rattle.sector_model.specs.Page.{PageContents, areas_from, page_from, page_en
 use Rattle.sector_model.specs.declared.page.TheConstants.{PAGE_AREAS}
 use Rattle.sector_model.specs.declared.run.Run.{Run}
 
+-- the areas told, one more, and the rest
+pub one_area_more : (start at : ℕ) (areas told : List Run) (r : Run) → areas_from start areas ≡ told ++ areas_from at areas → areas_from at areas ≡ r ∷ areas_from (end_of r) areas
+    → areas_from start areas ≡ told ++ r ∷ areas_from (end_of r) areas
+one_area_more start at areas told r joined next = joined ∙ ap (λ (rest : List Run). told ++ rest) next
+
 pub get_or-pushed : (xs : List Run) (r d : Run) → get_or (xs ++ r ∷ []) (length xs) d ≡ r
 get_or-pushed [] r d = refl
 get_or-pushed (x ∷ xs) r d = get_or-pushed xs r d

@@ -6,16 +6,12 @@ use Rattle.std.proofs.lemmas.List.Elements.{recursion_from_All, All-from_recursi
 use Rattle.sector_model.specs.Run.{end_of, AreSpacedFrom, AreSpaced}
 use Rattle.sector_model.specs.Page.{areas_from, page_from, LiesWithin}
 use Rattle.sector_model.specs.declared.run.Run.{Run}
-use Rattle.sector_model.proofs.Spacing.{ends_rise}
+use Rattle.sector_model.proofs.Spacing.{ends_rise, spaced-bound}
 use Rattle.sector_model.specs.declared.page.TheConstants.{PAGE_AREAS}
 use Rattle.sector_model.proofs.PageLaws.{kept, dropped, areas_from-spaced, ends_behind}
 
-spaced_fits : (m : ℕ) (rs : List Run) → AreSpacedFrom m rs → m ≤ 2 ^ 64
-spaced_fits m [] h = h
-spaced_fits m (r ∷ rs) h = let more = spaced_fits (end_of r + 1) rs h.2 in omega (arith, h.0)
-
 pub spaced-take : (m n : ℕ) (rs : List Run) → AreSpacedFrom m rs → AreSpacedFrom m (take n rs)
-spaced-take m zero rs h = spaced_fits m rs h
+spaced-take m zero rs h = spaced-bound m rs h
 spaced-take m (suc n) [] h = h
 spaced-take m (suc n) (r ∷ rs) h = (h.0, h.1, spaced-take (end_of r + 1) n rs h.2)
 

@@ -102,6 +102,10 @@ in_first r rs s from before = rw (le-leb r.first s from, lt-ltb s (end_of r) bef
 pub past_first : (r : Run) (rs : List Run) (s : ℕ) → end_of r ≤ s → in_runs (r ∷ rs) s ≡ in_runs rs s
 past_first r rs s past = rw (le-leb r.first s (omega arith), le-ltb s (end_of r) past) refl
 
+pub spaced-bound : (m : ℕ) (rs : List Run) → AreSpacedFrom m rs → m ≤ 2 ^ 64
+spaced-bound m [] spaced = spaced
+spaced-bound m (r ∷ rs) spaced = let more = spaced-bound (end_of r + 1) rs spaced.2 in omega (arith, more, spaced.0, spaced.1)
+
 pub from_earlier : (m n : ℕ) (rs : List Run) → AreSpacedFrom m rs → n ≤ m → AreSpacedFrom n rs
 from_earlier m n [] h le = omega arith
 from_earlier m n (r ∷ rs) h le = (omega (arith, h.0), h.1, h.2)

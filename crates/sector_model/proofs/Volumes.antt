@@ -3,7 +3,7 @@ use Rattle.std.proofs.Common.{◌≡◌, ℕ, zero, suc, ◌+◌, ◌-◌, ◌<�
 use Rattle.std.specs.List.{slice_get, count_by}
 use Rattle.std.proofs.Math.Bool.{or-true, or-false}
 use Rattle.std.proofs.lemmas.Bool.{cases_lt, le-ltb, lt-ltb, le-leb, lt-leb, and_right}
-use Rattle.std.proofs.lemmas.Option.{unwrap_or-slice_get}
+use Rattle.std.proofs.lemmas.Option.{unwrap_or-slice_get, same_Some}
 use Rattle.std.proofs.lemmas.List.{length-replicate}
 use Rattle.std.proofs.lemmas.List.Sums.{sum_by-cons}
 use Rattle.sector_model.specs.Sector.{zero_sector}
@@ -80,9 +80,6 @@ volume sectors loose = record { sectors = sectors; loose = loose }
 abbrev Same : List Bool → List Sector → List Sector → Type 0
 Same loose old new = (s : ℕ) → slice_get loose s ≡ Some false → slice_get new s ≡ slice_get old s
 
-some_same : (x y : Sector) → Some x ≡ Some y → x ≡ y
-some_same x y h = cc
-
 found_again : (loose : List Bool) (old new : List Sector) → length loose ≡ length old → length new ≡ length old → Same loose old new → new ≡ with_found loose old (loose_of loose new)
 found_again [] [] [] sized long same = refl
 found_again [] [] (y ∷ new) sized long same = absurd (omega arith)
@@ -90,7 +87,7 @@ found_again [] (x ∷ old) new sized long same = absurd (omega arith)
 found_again (b ∷ loose) [] new sized long same = absurd (omega arith)
 found_again (b ∷ loose) (x ∷ old) [] sized long same = absurd (omega arith)
 found_again (false ∷ loose) (x ∷ old) (y ∷ new) sized long same =
-    ap (λ (z : Sector). z ∷ new) (some_same y x (same 0 refl))
+    ap (λ (z : Sector). z ∷ new) (same_Some y x (same 0 refl))
     ∙ ap (λ (rest : List Sector). x ∷ rest) (found_again loose old new (omega arith) (omega arith) (λ s tight. same (suc s) tight))
 found_again (true ∷ loose) (x ∷ old) (y ∷ new) sized long same =
     ap (λ (rest : List Sector). y ∷ rest) (found_again loose old new (omega arith) (omega arith) (λ s tight. same (suc s) tight))

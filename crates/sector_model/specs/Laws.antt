@@ -1,10 +1,10 @@
 -- What the definitions say together. Each is the contract of a public function of laws.rt whose
 -- body does nothing.
 use Rattle.std.specs.Prelude.{◌≡◌, ℕ, ◌+◌, ◌<◌, ◌≤◌, ◌^◌, List, ◌++◌, length, map, Bool, false, ◌&&◌, ◌||◌, nat_lt, nat_le}
-use Rattle.std.specs.List.{fold, flat_map, All}
+use Rattle.std.specs.List.{fold, All}
 use Rattle.sector_model.specs.Disk.{Write, after_write, fold_writes}
 use Rattle.sector_model.specs.Run.{end_of, in_runs, runs_of, AreSpaced, met_blocks, range_of, touched_blocks}
-use Rattle.sector_model.specs.Page.{PageContents, areas_from, page_from, ArePages, LiesWithin}
+use Rattle.sector_model.specs.Page.{areas_from, page_from, PagesTell, LiesWithin}
 use Rattle.sector_model.specs.VolumeContents.{VolumeContents, IsSized, IsFlushed, is_loose, loose_count, volume_written, volume_zeroed, volume_flushed, IsBrokenAt, volume_stopped, loose_sectors, DiffersOnlyWhereLoose}
 use Rattle.sector_model.specs.declared.run.Run.{Run}
 use Rattle.sector_model.specs.declared.sector.Sector.{Sector}
@@ -33,12 +33,15 @@ abbrev pub RunsEndWithin : Type 0
 RunsEndWithin = (test : ℕ → Bool) (capacity : ℕ)
     → capacity < 2 ^ 64 → All (λ r. end_of r ≤ capacity) (runs_of test capacity)
 
--- pages taken from each page's end on tell all areas from the start on, each sector once and in
--- order
+-- pages taken from each page's end on tell the areas
 abbrev pub PagesJoin : Type 0
-PagesJoin = (capacity : ℕ) (areas : List Run) (start : ℕ) (pages : List PageContents)
-    → AreSpaced areas → All (λ r. end_of r ≤ capacity) areas
-    → ArePages capacity areas start pages → flat_map (λ p. p.areas) pages ≡ areas_from start areas
+PagesJoin = (capacity : ℕ) (areas : List Run)
+    → AreSpaced areas → All (λ r. end_of r ≤ capacity) areas → PagesTell capacity areas
+
+-- and so do those of the runs of a test
+abbrev pub AreaPagesJoin : Type 0
+AreaPagesJoin = (test : ℕ → Bool) (capacity : ℕ)
+    → capacity < 2 ^ 64 → PagesTell capacity (runs_of test capacity)
 
 -- a page that starts below the capacity ends above its start and within the capacity, and its areas
 -- lie in it

@@ -1,7 +1,7 @@
 -- The pages in which a list of areas is told: each begins where the one before it ended, and a
 -- limit on the areas of one page bounds the memory that an answer takes.
 use Rattle.std.specs.Prelude.{◌≡◌, ℕ, ◌-◌, ◌+◌, ◌<◌, ◌≤◌, List, [], ◌∷◌, length, map, take, slice_index_or, nat_lt, if◌then◌else◌}
-use Rattle.std.specs.List.{filter, All}
+use Rattle.std.specs.List.{filter, flat_map, All}
 use Rattle.sector_model.specs.Run.{end_of, from_sector, AreSpaced}
 use Rattle.sector_model.specs.declared.page.TheConstants.{PAGE_AREAS}
 use Rattle.sector_model.specs.declared.run.Run.{Run}
@@ -38,6 +38,12 @@ ArePages capacity areas start [] = start ≡ capacity
 ArePages capacity areas start (p ∷ ps) =
     (start < capacity) × (p ≡ page_from capacity areas start)
     × ArePages capacity areas (start + p.length) ps
+
+-- the pages of these areas tell all of them from the first page's start on, each sector once and in
+-- order
+abbrev pub PagesTell : (capacity : ℕ) (areas : List Run) → Type 0
+PagesTell capacity areas = (start : ℕ) (pages : List PageContents)
+    → ArePages capacity areas start pages → flat_map (λ p. p.areas) pages ≡ areas_from start areas
 
 -- a page that speaks of some sectors below the capacity, whose areas lie in it, none empty,
 -- ascending and apart

@@ -1,7 +1,7 @@
 -- Runs of sectors, and blocks of 128 sectors, in which a tracker remembers what changed. A set of
 -- sectors is told as its maximal runs, ascending; they are defined sector by sector here, so that
 -- no program's way of joining and clipping areas is taken for granted.
-use Rattle.std.specs.Prelude.{◌≡◌, ℕ, zero, suc, ◌+◌, ◌-◌, ◌*◌, ◌/◌, ◌<◌, ◌≤◌, ◌^◌, min, max, List, [], ◌∷◌, length, Bool, true, false, not, ◌==◌, ◌&&◌, nat_eq, nat_lt, nat_le, if◌then◌else◌, Option, option_map}
+use Rattle.std.specs.Prelude.{◌≡◌, ℕ, zero, suc, ◌+◌, ◌-◌, ◌*◌, ◌/◌, ◌<◌, ◌≤◌, ◌^◌, min, max, List, [], ◌∷◌, length, Bool, true, false, not, ◌==◌, ◌&&◌, ◌||◌, nat_eq, nat_lt, nat_le, if◌then◌else◌, Option, option_map}
 use Rattle.std.specs.List.{filter, find, list_any, range_with_len}
 use Rattle.sector_model.specs.Disk.{Write}
 use Rattle.sector_model.specs.declared.run.TheConstants.{BLOCK_SECTORS}
@@ -21,6 +21,11 @@ meets block first count =
 abbrev pub blocks_where : (capacity : ℕ) (test : ℕ → Bool) → List ℕ
 blocks_where capacity test = filter test (range_with_len 0 (block_count capacity))
 
+-- the blocks, and those that a run meets
+abbrev pub with_met : (capacity : ℕ) → Run → (blocks : List ℕ) → List ℕ
+with_met capacity run blocks =
+    blocks_where capacity (λ b. list_any (nat_eq b) blocks || meets b run.first run.count)
+
 -- the blocks of a disk that one of the runs meets
 abbrev pub met_blocks : (capacity : ℕ) (runs : List Run) → List ℕ
 met_blocks capacity runs =
@@ -37,6 +42,10 @@ touched_blocks capacity writes = blocks_where capacity (λ block. list_any (touc
 -- the sectors that a write replaces
 abbrev pub range_of : Write → Run
 range_of w = record { first = w.first; count = length w.sectors }
+
+-- `count` sectors from `first` on are some, and end within the capacity
+abbrev pub is_within : (capacity first count : ℕ) → Bool
+is_within capacity first count = nat_le 1 count && nat_le (first + count) capacity
 
 -- behind the last sector of a run
 abbrev pub end_of : Run → ℕ

@@ -1,6 +1,6 @@
 //! Laws of the definitions. Each function's contract is the law, and its body does nothing.
 ghost use Rattle.std.specs.Prelude.{ℕ};
-ghost use Rattle.sector_model.specs.Laws.{FoldsJoin, TouchedAreMet, RunsAreSpaced, RunsAreExact, RunsEndWithin, PagesJoin, PageThenRest, AreasFromAreExact, PagesAreExact, PagesLieWithin, VolumesKeepTheirSize, StopLeavesFlushed, StopLeavesOthers, EachIsAStop, FoundAreRead, DiffersInARow, LooseThen, FlushedIsNoneLoose, BrokenIsWritten, BrokenIsZeroed};
+ghost use Rattle.sector_model.specs.Laws.{FoldsJoin, TouchedAreMet, RunsAreSpaced, RunsAreExact, RunsEndWithin, PagesJoin, AreaPagesJoin, PageThenRest, AreasFromAreExact, PagesAreExact, PagesLieWithin, VolumesKeepTheirSize, StopLeavesFlushed, StopLeavesOthers, EachIsAStop, FoundAreRead, DiffersInARow, LooseThen, FlushedIsNoneLoose, BrokenIsWritten, BrokenIsZeroed};
 ghost use Rattle.sector_model.specs.VolumeContents.{VolumeContents, IsSized};
 
 /// What a list of writes leaves is what its later part leaves of what its earlier part left.
@@ -24,6 +24,7 @@ pub fn runs_are_exact()
 /// each has exactly the sectors of the areas that it speaks of.
 pub fn pages_join()
     ensures all { PagesJoin }
+    ensures areas { AreaPagesJoin }
     ensures rest { PageThenRest }
     ensures from_start { AreasFromAreExact }
     ensures sectors { PagesAreExact }

@@ -3,7 +3,7 @@ use Rattle.std.proofs.Common.{◌≡◌, ℕ, zero, suc, ◌+◌, ◌*◌, ◌/�
 use Rattle.std.specs.List.{list_any, range_with_len, All, AllByRecursion}
 use Rattle.std.specs.BTreeMap.{is_at}
 use Rattle.std.specs.Map.Iter.{deref_pair}
-use Rattle.std.proofs.Math.Bool.{or-false}
+use Rattle.std.proofs.Math.Bool.{or-false, and-false}
 use Rattle.std.proofs.lemmas.Bool.{cases_eq, eq-eqb, ne_eqb, false≢true}
 use Rattle.std.proofs.lemmas.List.Folds.{list_any-append}
 use Rattle.std.proofs.lemmas.Map.Lookups.{exact_unsigned}
@@ -17,7 +17,9 @@ use Rattle.std.specs.Option.{option_or}
 use Rattle.sector_model.specs.declared.sector.Sector.{Sector}
 use Rattle.snapshot_chain.specs.Layers.{found, has_found, blocks_in}
 use Rattle.sector_model.specs.Run.{runs_of, areas_of, in_blocks, block_count}
-use Rattle.snapshot_chain.proofs.Touching.{among as in_range}
+use Rattle.sector_model.proofs.Among.{among_range as in_range}
+use Rattle.sector_model.proofs.RunsOf.{runs_of-same}
+use Rattle.snapshot_chain.proofs.Touching.{any-or, either_found}
 use Rattle.snapshot_chain.proofs.Stacks.{found-append}
 use Rattle.snapshot_chain.specs.Layer.{LayerState, slot_of, sector_of, sector_in, has_sector, IsWithin}
 
@@ -27,10 +29,6 @@ Entry = Bor ℕ × Bor PageState
 abbrev pub among : LayerState → List Entry → ℕ → Bool
 among layer seen b = list_any (λ e. nat_eq b e.0.now && has_sector layer b) seen
 
-and_false : (x : Bool) → (x && false) ≡ false
-and_false true = refl
-and_false false = refl
-
 pub block_passed : (layer : LayerState) (now was : Bool) (seen : List Entry) (e : Entry) (b : ℕ) → has_sector layer e.0.now ≡ false → now ≡ (was || among layer seen b)
     → now ≡ (was || among layer (seen ++ e ∷ []) b)
 block_passed layer now was seen e b none before =
@@ -39,7 +37,7 @@ block_passed layer now was seen e b none before =
   where
     gone : (nat_eq b e.0.now && has_sector layer b) ≡ false
     gone = elim (cases_eq b e.0.now) [
-      | inl same ↦ ap (λ x. nat_eq b e.0.now && x) (ap (has_sector layer) same ∙ none) ∙ and_false (nat_eq b e.0.now)
+      | inl same ↦ ap (λ x. nat_eq b e.0.now && x) (ap (has_sector layer) same ∙ none) ∙ and-false (nat_eq b e.0.now)
       | inr other ↦ ap (λ x. x && has_sector layer b) (ne_eqb b e.0.now other)
     ]
 
@@ -100,26 +98,11 @@ all_blocks layer seen b whole =
     both (has_sector layer b) seen b ∙ ap (λ x. x && has_sector layer b) (ap (λ (l : LayerState). list_any (λ p. nat_eq b p.0) l) whole ∙ keyed layer b)
     ∙ held (slot_of layer b)
 
-any-or : (f g h : ℕ → Bool) (xs : List ℕ) → ((k : ℕ) → h k ≡ (f k || g k)) → list_any h xs ≡ (list_any f xs || list_any g xs)
-any-or f g h [] same = refl
-any-or f g h (x ∷ xs) same = rw (same x, any-or f g h xs same) (four (f x) (g x) (list_any f xs) (list_any g xs))
-  where
-    four : (a b c d : Bool) → ((a || b) || (c || d)) ≡ ((a || c) || (b || d))
-    four true b c d = refl
-    four false true true d = refl
-    four false true false d = refl
-    four false false c d = refl
-
 -- one layer more
 pub has_push : (layers : List LayerState) (layer : LayerState) (b : ℕ) → has_found (layers ++ layer ∷ []) b ≡ (has_found layers b || has_sector layer b)
 has_push layers layer b =
     any-or (λ k. is_some (found layers b k)) (λ k. is_some (sector_in layer b k)) (λ k. is_some (found (layers ++ layer ∷ []) b k)) (range_with_len 0 128)
-    (λ k. ap is_some (found-append layers (layer ∷ []) b k) ∙ either (sector_in layer b k) (found layers b k))
-  where
-    either : (x y : Option Sector) → is_some (option_or x y) ≡ (is_some y || is_some x)
-    either None y = sym (or-false (is_some y))
-    either (Some x) None = refl
-    either (Some x) (Some y) = refl
+    (λ k. ap is_some (found-append layers (layer ∷ []) b k) ∙ either_found (sector_in layer b k) (found layers b k))
 
 pub has_more : (layers : List LayerState) (i : ℕ) (layer : LayerState) (b : ℕ) → i < length layers → layer ≡ get_or layers i layer
     → has_found (take (i + 1) layers) b ≡ (has_found (take i layers) b || has_sector layer b)
@@ -165,11 +148,6 @@ in_itself (b ∷ blocks) (suc k) d less = ap (λ x. nat_eq (get_or blocks k d) b
 pub begin_below : (c : ℕ) (layers : List LayerState) (blocks : List ℕ) → AllByRecursion (IsWithin c) layers → ((b : ℕ) → list_any (nat_eq b) blocks ≡ has_found layers b) → All (λ b. 128 * b < c) blocks
 begin_below c layers blocks within members = λ k d less. found_within c layers (get_or blocks k d) within (sym (members (get_or blocks k d)) ∙ in_itself blocks k d less)
 
-runs_same : (p q : ℕ → Bool) (c : ℕ) → ((s : ℕ) → s < c → p s ≡ q s) → runs_of p c ≡ runs_of q c
-unfolding runs_of
-runs_same p q zero same = refl
-runs_same p q (suc c) same = rw (same c (omega arith), runs_same p q c (λ s less. same s (omega (arith, less)))) refl
-
 pub areas_same : (c : ℕ) (layers : List LayerState) (blocks : List ℕ) → ((b : ℕ) → list_any (nat_eq b) blocks ≡ has_found layers b) → areas_of c blocks ≡ areas_of c (blocks_in c layers)
-areas_same c layers blocks members = runs_same (in_blocks blocks) (in_blocks (blocks_in c layers)) c
+areas_same c layers blocks members = runs_of-same (in_blocks blocks) (in_blocks (blocks_in c layers)) c
     (λ s less. members (s / 128) ∙ sym (in_range (has_found layers) (s / 128) (block_count c) (omega (arith, less))))

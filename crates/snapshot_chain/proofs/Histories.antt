@@ -11,9 +11,10 @@ use Rattle.std.proofs.lemmas.List.Sums.{fold-append}
 use Rattle.std.proofs.lemmas.List.Elements.{filter_map-append, All-push}
 use Rattle.std.proofs.lemmas.List.Folds.{list_any-append, find-append}
 use Rattle.sector_model.specs.Disk.{Write, after_write, fold_writes, fresh_disk}
-use Rattle.sector_model.specs.Run.{touched_blocks, block_count}
+use Rattle.sector_model.specs.Run.{touched_blocks, block_count, range_of, with_met}
+use Rattle.sector_model.proofs.Among.{none_pass}
 use Rattle.sector_model.specs.declared.sector.Sector.{Sector}
-use Rattle.snapshot_chain.specs.Chain.{ChainState, Snapshot, snapshot_of, with_touched, fresh, after_writing, after_freezing, after_merging}
+use Rattle.snapshot_chain.specs.Chain.{ChainState, Snapshot, snapshot_of, fresh, after_writing, after_freezing, after_merging}
 use Rattle.snapshot_chain.specs.History.{DiskEvent, Written, Frozen, Merged, write_in, freezes, writes_in, present, before_freeze, live_after, live_snapshots, is_live, frozen_in, frozen_ids, IsFrozenAs, StandsFor, Takes}
 use Rattle.snapshot_chain.proofs.Touching.{touched_push}
 
@@ -174,7 +175,7 @@ free_stays chain history event stands none id = same_ids (λ (ids : List ℕ). (
 pub stands_written : (w : Write) (old : ChainState) → Takes (Written w) old (after_writing w old)
 stands_written w old history stands = record {
   present = ap (λ (disk : List Sector). after_write disk w) stands.present ∙ sym (ap (fold after_write (fresh_disk old.capacity)) (writes-append history (Written w ∷ [])) ∙ fold-append after_write (fresh_disk old.capacity) (writes_in history) (w ∷ []));
-  blocks = ap (with_touched old.capacity w) stands.blocks ∙ touched_push old.capacity (writes_in history) w ∙ ap (touched_blocks old.capacity) (sym (writes-append history (Written w ∷ [])));
+  blocks = ap (with_met old.capacity (range_of w)) stands.blocks ∙ touched_push old.capacity (writes_in history) w ∙ ap (touched_blocks old.capacity) (sym (writes-append history (Written w ∷ [])));
   ascending = same_ids (AllPairs (λ earlier later. earlier < later)) history (Written w) refl stands.ascending;
   distinct = subst (AllPairs (λ earlier later. earlier < later)) (sym (fold-append live_after [] history (Written w ∷ []))) stands.distinct;
   live = stands.live ∙ sym (fold-append live_after [] history (Written w ∷ []));
@@ -277,10 +278,6 @@ stands_merged id old history stands = record {
     kept s (inr other) was = rw (ne_eqb id s other) was
 
 -- ---- a fresh chain
-
-none_pass : (xs : List ℕ) → filter (λ b. false) xs ≡ []
-none_pass [] = refl
-none_pass (x ∷ xs) = none_pass xs
 
 pub stands_fresh : (c : ℕ) → StandsFor (fresh c) []
 stands_fresh c = record {

@@ -6,7 +6,8 @@ use Rattle.basics.specs.Refusal.{IsRefusedBy, IsRefusedOr}
 use Rattle.sector_model.specs.declared.sector.Sector.{Sector}
 use Rattle.snapshot_chain.specs.declared.chain.ChainRefused.{ChainRefused}
 use Rattle.snapshot_chain.specs.declared.chain.ChainRefused.TheVariants.{UnknownSnap, Range, NoMemory}
-use Rattle.snapshot_chain.specs.Chain.{ChainState, after_merging, contents_of, is_within, read_refusal}
+use Rattle.snapshot_chain.specs.Chain.{ChainState, after_merging, contents_of, read_refusal}
+use Rattle.sector_model.specs.Run.{is_within}
 use Rattle.snapshot_chain.specs.Kept.{state_of, AreIds}
 use Rattle.snapshot_chain.proofs.Keeping.{all-set, all-at, all-remove}
 use Rattle.snapshot_chain.proofs.States.{merged_state}
@@ -104,10 +105,10 @@ only_memory (Err why) is = is
 pub read_unknown : (T : Type 0) (chain : ChainState) (id : Option ℕ) (first count : ℕ) → contents_of id chain ≡ None → IsRefusedBy {T = T} (read_refusal chain id first count) (Err UnknownSnap)
 read_unknown T chain id first count none = rw none refl
 
-pub read_outside : (T : Type 0) (chain : ChainState) (id : Option ℕ) (first count : ℕ) (contents : List Sector) → contents_of id chain ≡ Some contents → is_within chain first count ≡ false
+pub read_outside : (T : Type 0) (chain : ChainState) (id : Option ℕ) (first count : ℕ) (contents : List Sector) → contents_of id chain ≡ Some contents → is_within chain.capacity first count ≡ false
     → IsRefusedBy {T = T} (read_refusal chain id first count) (Err Range)
 read_outside T chain id first count contents some outside = rw (some, outside) refl
 
-pub read_taken : {T : Type 0} (answer : T) (chain : ChainState) (id : Option ℕ) (first count : ℕ) (contents : List Sector) → contents_of id chain ≡ Some contents → is_within chain first count ≡ true
+pub read_taken : {T : Type 0} (answer : T) (chain : ChainState) (id : Option ℕ) (first count : ℕ) (contents : List Sector) → contents_of id chain ≡ Some contents → is_within chain.capacity first count ≡ true
     → IsRefusedBy (read_refusal chain id first count) (Ok answer)
 read_taken answer chain id first count contents some inside = rw (some, inside) refl

@@ -10,8 +10,10 @@ use Rattle.std.proofs.lemmas.Nat.{ones_cat, one_shl, mod-pow-add, mod-mul-add, m
 use Rattle.std.proofs.lemmas.Nat.Bits.{bit_at_cat_low, bit_at_cat_high, bit_at_above, bit_at-lt, and_pow, bit_at-trailing_zeros}
 use Rattle.std.specs.Int.Bits.{or_shifted_r}
 use Rattle.std.proofs.lemmas.Bool.{cases_eq, cases_lt, eqb-true, eq-eqb, ne_eqb}
+use Rattle.basics.proofs.ItemAt.{slice_get-front, slice_get-last}
 use Rattle.sector_model.specs.declared.sector.Sector.{Sector}
-use Rattle.snapshot_chain.specs.Page128.{PageState, no_sectors, has_offset, rank, sector_at, with_sector, IsPage, IsReplaced}
+use Rattle.basics.specs.Bits.{has_bit}
+use Rattle.snapshot_chain.specs.Page128.{PageState, no_sectors, rank, sector_at, with_sector, IsPage, IsReplaced}
 
 -- one more bit above the others
 pub set_bit : (m p : ℕ) → p < 128 → m < 2 ^ p → bit_or m (1 * 2 ^ p % 2 ^ 128) ≡ m + 2 ^ p
@@ -69,15 +71,6 @@ rank_less m k set =
     ap count_ones (sym (div-add-mod' m (2 ^ k))) ∙ ones_cat k (m / 2 ^ k) (m % 2 ^ k) (mod_below m (2 ^ k) (pow_pos k)) in
     omega (arith, parts, some_above m k set)
 
-front : {X : Type 0} (xs ys : List X) (k : ℕ) → k < length xs → slice_get (xs ++ ys) k ≡ slice_get xs k
-front [] ys k less = absurd (omega arith)
-front (x ∷ xs) ys zero less = refl
-front (x ∷ xs) ys (suc k) less = front xs ys k (omega arith)
-
-back : {X : Type 0} (xs : List X) (y : X) → slice_get (xs ++ y ∷ []) (length xs) ≡ Some y
-back [] y = refl
-back (x ∷ xs) y = back xs y
-
 chosen : {X : Type 0} (b : Bool) (x y z : Option X) → (b ≡ true → x ≡ y) → cond b x z ≡ cond b y z
 chosen true x y z h = h refl
 chosen false x y z h = refl
@@ -86,13 +79,13 @@ pub grown-below : (page : PageState) (offset k : ℕ) (sector : Sector) → leng
     → sector_at (with_sector page offset sector) k ≡ sector_at page k
 grown-below page offset k sector long above less =
     rw (bit_below page.mask offset k less, rank_below page.mask offset k above (omega arith))
-    (chosen (has_offset page.mask k) (slice_get (page.sectors ++ sector ∷ []) (rank page.mask k)) (slice_get page.sectors (rank page.mask k)) None
-    (λ set. front page.sectors (sector ∷ []) (rank page.mask k) (omega (arith, rank_less page.mask k (eqb-true (bit_at page.mask k) 1 set), long))))
+    (chosen (has_bit page.mask k) (slice_get (page.sectors ++ sector ∷ []) (rank page.mask k)) (slice_get page.sectors (rank page.mask k)) None
+    (λ set. slice_get-front page.sectors (sector ∷ []) (rank page.mask k) (omega (arith, rank_less page.mask k (eqb-true (bit_at page.mask k) 1 set), long))))
 
 pub grown-here : (page : PageState) (offset : ℕ) (sector : Sector) → length page.sectors ≡ count_ones page.mask → page.mask < 2 ^ offset
     → sector_at (with_sector page offset sector) offset ≡ Some sector
 grown-here page offset sector long above =
-    rw (bit_here page.mask offset above, rank_here page.mask offset above, ← long) (back page.sectors sector)
+    rw (bit_here page.mask offset above, rank_here page.mask offset above, ← long) (slice_get-last page.sectors sector)
 
 pub above_none : (page : PageState) (offset k : ℕ) → page.mask < 2 ^ offset → offset ≤ k → sector_at page k ≡ None
 above_none page offset k above le = rw (bit_at_above page.mask offset k above le) refl
@@ -101,7 +94,7 @@ pub empty_none : (page : PageState) (k : ℕ) → page.mask ≡ 0 → sector_at 
 empty_none page k empty = above_none page 0 k (omega (arith, empty)) (omega arith)
 
 -- the test of an offset and the index, as code computes them
-pub test_bit : (m k : ℕ) → k < 128 → not (eqb (bit_and m (1 * 2 ^ k % 2 ^ 128)) 0) ≡ has_offset m k
+pub test_bit : (m k : ℕ) → k < 128 → not (eqb (bit_and m (1 * 2 ^ k % 2 ^ 128)) 0) ≡ has_bit m k
 test_bit m k within = ap (λ x. not (eqb x 0)) (ap (bit_and m) (one_shl k 128 within) ∙ and_pow m k) ∙ elim (cases_eq (bit_at m k) 0) [
   | inl none ↦ let clear : bit_at m k * 2 ^ k ≡ 0 = ap (λ x. x * 2 ^ k) none ∙ omega arith in
       ap not (eq-eqb (bit_at m k * 2 ^ k) 0 clear) ∙ sym (ne_eqb (bit_at m k) 1 (λ e. omega (arith, e, none)))
@@ -113,8 +106,8 @@ test_bit m k within = ap (λ x. not (eqb x 0)) (ap (bit_and m) (one_shl k 128 wi
 pub rank_of : (m k : ℕ) → k < 128 → count_ones (bit_and m (1 * 2 ^ k % 2 ^ 128 - 1)) ≡ rank m k
 rank_of m k within = rw (one_shl k 128 within, and_mask m k) refl
 
-pub has_bit : (m k : ℕ) → has_offset m k ≡ true → bit_at m k ≡ 1
-has_bit m k is = eqb-true (bit_at m k) 1 is
+pub bit_is_set : (m k : ℕ) → has_bit m k ≡ true → bit_at m k ≡ 1
+bit_is_set m k is = eqb-true (bit_at m k) 1 is
 
 -- ranks of two of a page's offsets differ
 rank_apart : (m j k : ℕ) → j < k → bit_at m j ≡ 1 → rank m j < rank m k
@@ -141,22 +134,22 @@ here_some [] i x less = absurd (omega (arith, less))
 here_some (y ∷ xs) zero x less = refl
 here_some (y ∷ xs) (suc i) x less = here_some xs i x (omega (arith, less))
 
-pub replaced_sector : (page : PageState) (offset : ℕ) (sector : Sector) → length page.sectors ≡ count_ones page.mask → has_offset page.mask offset ≡ true
+pub replaced_sector : (page : PageState) (offset : ℕ) (sector : Sector) → length page.sectors ≡ count_ones page.mask → has_bit page.mask offset ≡ true
     → IsReplaced page offset sector (record { mask = page.mask; sectors = set page.sectors (rank page.mask offset) sector })
 replaced_sector page offset sector long has k within = elim (cases_eq k offset) [
   | inl same ↦
-      let less : rank page.mask offset < length page.sectors = omega (arith, rank_less page.mask offset (has_bit page.mask offset has), long) in
+      let less : rank page.mask offset < length page.sectors = omega (arith, rank_less page.mask offset (bit_is_set page.mask offset has), long) in
       rw (same, has, eq-eqb offset offset refl) (set_same page.sectors (rank page.mask offset) sector less ∙ sym (here_some page.sectors (rank page.mask offset) sector less))
   | inr other ↦
       rw (ne_eqb k offset other)
-      (chosen (has_offset page.mask k) (slice_get (set page.sectors (rank page.mask offset) sector) (rank page.mask k)) (slice_get page.sectors (rank page.mask k)) None
+      (chosen (has_bit page.mask k) (slice_get (set page.sectors (rank page.mask offset) sector) (rank page.mask k)) (slice_get page.sectors (rank page.mask k)) None
       (λ set_k. set_other page.sectors (rank page.mask offset) (rank page.mask k) sector (apart k other set_k)))
 ]
   where
-    apart : (k : ℕ) → k ≢ offset → has_offset page.mask k ≡ true → rank page.mask offset ≢ rank page.mask k
+    apart : (k : ℕ) → k ≢ offset → has_bit page.mask k ≡ true → rank page.mask offset ≢ rank page.mask k
     apart k other set_k same = elim (cases_lt k offset) [
-      | inl less ↦ omega (arith, rank_apart page.mask k offset less (has_bit page.mask k set_k), same)
-      | inr from ↦ let above : offset < k = omega (arith, from, other) in omega (arith, rank_apart page.mask offset k above (has_bit page.mask offset has), same)
+      | inl less ↦ omega (arith, rank_apart page.mask k offset less (bit_is_set page.mask k set_k), same)
+      | inr from ↦ let above : offset < k = omega (arith, from, other) in omega (arith, rank_apart page.mask offset k above (bit_is_set page.mask offset has), same)
     ]
 
 -- without a sector at the offset nothing is replaced
@@ -166,8 +159,8 @@ kept_sector page offset sector none k within = elim (cases_eq k offset) [
   | inr other ↦ rw (ne_eqb k offset other) refl
 ]
 
-pub index_below : (page : PageState) (offset : ℕ) → IsPage page → has_offset page.mask offset ≡ true → rank page.mask offset < length page.sectors
-index_below page offset is has = omega (arith, rank_less page.mask offset (has_bit page.mask offset has), is.1)
+pub index_below : (page : PageState) (offset : ℕ) → IsPage page → has_bit page.mask offset ≡ true → rank page.mask offset < length page.sectors
+index_below page offset is has = omega (arith, rank_less page.mask offset (bit_is_set page.mask offset has), is.1)
 
 pub below_all : (m p : ℕ) → p < 128 → m < 2 ^ p → m + 2 ^ p < 2 ^ 128
 below_all m p within above = omega (arith, next_above m p above, pow_mono {i = p + 1} {j = 128} (omega arith))

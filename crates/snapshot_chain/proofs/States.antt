@@ -9,14 +9,15 @@ use Rattle.std.proofs.lemmas.Option.{slice_get_past, slice_get-get_or, get_or_fr
 use Rattle.basics.proofs.Replaced.{length-replaced, replaced-before, replaced-within, replaced-behind}
 use Rattle.sector_model.proofs.Touched.{filter-range_same}
 use Rattle.snapshot_chain.proofs.Writes.{run_before, run_from}
-use Rattle.snapshot_chain.proofs.Touching.{among, has_more}
+use Rattle.sector_model.proofs.Among.{among_range}
+use Rattle.snapshot_chain.proofs.Touching.{has_more}
 use Rattle.sector_model.specs.Sector.{zero_sector}
-use Rattle.sector_model.specs.Run.{block_count, touches}
+use Rattle.sector_model.specs.Run.{block_count, range_of, touches, with_met}
 use Rattle.basics.specs.Replaced.{replaced}
 use Rattle.sector_model.specs.declared.sector.Sector.{Sector}
 use Rattle.snapshot_chain.specs.Page128.{run_at}
 use Rattle.snapshot_chain.specs.Layer.{LayerState, sector_in, HasSame, IsWritten, IsMerged}
-use Rattle.snapshot_chain.specs.Chain.{contents_of, with_touched, after_writing, after_freezing, after_merging, fresh}
+use Rattle.snapshot_chain.specs.Chain.{contents_of, after_writing, after_freezing, after_merging, fresh}
 use Rattle.snapshot_chain.specs.Layers.{found, sector_found, contents_in, has_found, blocks_in, snapshot_in, snapshots_in, layer_at}
 use Rattle.snapshot_chain.specs.Kept.{state_of, AreIds}
 use Rattle.snapshot_chain.specs.Reading.{layers_seen}
@@ -164,12 +165,12 @@ written_state c layers ids free freeze_room merge_room first sectors new long fi
     contents : contents_in c (set layers (length ids) new) ≡ replaced (contents_in c layers) first sectors
     contents = map-same (sector_found (set layers (length ids) new)) (λ s. unwrap_or (run_at first sectors s) (sector_found layers s)) 0 c each ∙ sym (replaced-made (sector_found layers) first sectors c fits)
 
-    blocks : blocks_in c (set layers (length ids) new) ≡ with_touched c (record { first = first; sectors = sectors }) (blocks_in c layers)
+    blocks : blocks_in c (set layers (length ids) new) ≡ with_met c (range_of (record { first = first; sectors = sectors })) (blocks_in c layers)
     blocks = filter-range_same (has_found (set layers (length ids) new)) (λ b. list_any (nat_eq b) (blocks_in c layers) || touches b (record { first = first; sectors = sectors })) 0 (block_count c)
         (λ b from less. any-same (λ offset. is_some (found (set layers (length ids) new) b offset)) (λ offset. is_some (option_or (run_at first sectors (128 * b + offset)) (found layers b offset))) 0 128
         (λ offset low within. ap is_some (more b offset (omega (arith, within))))
         ∙ has_more first sectors b (found layers b)
-        ∙ ap (λ x. x || touches b (record { first = first; sectors = sectors })) (sym (among (has_found layers) b (block_count c) (omega (arith, less)))))
+        ∙ ap (λ x. x || touches b (record { first = first; sectors = sectors })) (sym (among_range (has_found layers) b (block_count c) (omega (arith, less)))))
 
 -- a write that was refused for want of memory
 same-newest : (layers : List LayerState) (n : ℕ) (new : LayerState) → length layers ≡ n + 1 → HasSame (layer_at layers n) new → HoldsSame layers (set layers n new)

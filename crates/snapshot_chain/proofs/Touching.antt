@@ -9,24 +9,15 @@ use Rattle.std.proofs.lemmas.Option.{slice_get_past}
 use Rattle.std.proofs.lemmas.List.Folds.{list_any-append}
 use Rattle.std.proofs.lemmas.Map.Views.{any-filter_same}
 use Rattle.sector_model.specs.Disk.{Write}
-use Rattle.sector_model.specs.Run.{meets, touches, touched_blocks, block_count}
+use Rattle.sector_model.specs.Run.{meets, with_met, range_of, touches, touched_blocks, block_count}
 use Rattle.sector_model.specs.declared.sector.Sector.{Sector}
-use Rattle.sector_model.proofs.Touched.{any_below, filter-range_same}
+use Rattle.sector_model.proofs.Touched.{filter-range_same}
 use Rattle.snapshot_chain.specs.Page128.{run_at}
-use Rattle.snapshot_chain.specs.Chain.{with_touched}
+use Rattle.sector_model.proofs.Among.{among_range}
 
--- whether a number of a range is among those that pass a test
-pub among : (p : ℕ → Bool) (b n : ℕ) → b < n → list_any (nat_eq b) (filter p (range_with_len 0 n)) ≡ p b
-among p b n less =
-    any-filter_same (nat_eq b) p (p b) (λ k same. ap p (sym (eqb-true b k same))) (range_with_len 0 n) ∙ ap (λ x. p b && x) (any_below b 0 n (omega arith) (omega (arith, less))) ∙ and_true (p b)
-  where
-    and_true : (x : Bool) → (x && true) ≡ x
-    and_true true = refl
-    and_true false = refl
-
-pub touched_push : (c : ℕ) (ws : List Write) (w : Write) → with_touched c w (touched_blocks c ws) ≡ touched_blocks c (ws ++ w ∷ [])
+pub touched_push : (c : ℕ) (ws : List Write) (w : Write) → with_met c (range_of w) (touched_blocks c ws) ≡ touched_blocks c (ws ++ w ∷ [])
 touched_push c ws w = filter-range_same (λ b. list_any (nat_eq b) (touched_blocks c ws) || touches b w) (λ b. list_any (touches b) (ws ++ w ∷ [])) 0 (block_count c)
-    (λ b from less. ap (λ x. x || touches b w) (among (λ k. list_any (touches k) ws) b (block_count c) (omega (arith, less)))
+    (λ b from less. ap (λ x. x || touches b w) (among_range (λ k. list_any (touches k) ws) b (block_count c) (omega (arith, less)))
     ∙ sym (list_any-append (touches b) ws (w ∷ []) ∙ ap (λ x. list_any (touches b) ws || x) (or-false (touches b w))))
 
 -- a run has a sector of a block exactly if the two ranges meet
@@ -48,7 +39,7 @@ any_between : (low high base a n : ℕ) → list_any (λ p. leb low (base + p) &
 any_between low high base a zero = sym (le-ltb (max (base + a) low) (min (base + a + 0) high) (omega arith))
 any_between low high base a (suc n) = ap (λ x. (leb low (base + a) && ltb (base + a) high) || x) (any_between low high base (a + 1) n) ∙ grind (arith, nat_tests)
 
-any-or : (f g h : ℕ → Bool) (xs : List ℕ) → ((k : ℕ) → h k ≡ (f k || g k)) → list_any h xs ≡ (list_any f xs || list_any g xs)
+pub any-or : (f g h : ℕ → Bool) (xs : List ℕ) → ((k : ℕ) → h k ≡ (f k || g k)) → list_any h xs ≡ (list_any f xs || list_any g xs)
 any-or f g h [] same = refl
 any-or f g h (x ∷ xs) same = rw (same x, any-or f g h xs same) (four (f x) (g x) (list_any f xs) (list_any g xs))
   where
@@ -58,19 +49,19 @@ any-or f g h (x ∷ xs) same = rw (same x, any-or f g h xs same) (four (f x) (g 
     four false true false d = refl
     four false false c d = refl
 
+pub either_found : (a b : Option Sector) → is_some (option_or a b) ≡ (is_some b || is_some a)
+either_found None b = sym (or-false (is_some b))
+either_found (Some x) None = refl
+either_found (Some x) (Some y) = refl
+
 -- a block in which a run is written over what was found before
 pub has_more : (first : ℕ) (xs : List Sector) (block : ℕ) (old : ℕ → Option Sector)
     → list_any (λ p. is_some (option_or (run_at first xs (128 * block + p)) (old p))) (range_with_len 0 128)
     ≡ (list_any (λ p. is_some (old p)) (range_with_len 0 128) || touches block (record { first = first; sectors = xs }))
 has_more first xs block old =
     any-or (λ p. is_some (old p)) (λ p. leb first (128 * block + p) && ltb (128 * block + p) (first + length xs)) (λ p. is_some (option_or (run_at first xs (128 * block + p)) (old p))) (range_with_len 0 128)
-    (λ p. either (run_at first xs (128 * block + p)) (old p) ∙ ap (λ x. is_some (old p) || x) (some_at first xs (128 * block + p)))
+    (λ p. either_found (run_at first xs (128 * block + p)) (old p) ∙ ap (λ x. is_some (old p) || x) (some_at first xs (128 * block + p)))
     ∙ ap (λ x. list_any (λ p. is_some (old p)) (range_with_len 0 128) || x) (any_between first (first + length xs) (128 * block) 0 128 ∙ ends)
   where
-    either : (a b : Option Sector) → is_some (option_or a b) ≡ (is_some b || is_some a)
-    either None b = sym (or-false (is_some b))
-    either (Some x) None = refl
-    either (Some x) (Some y) = refl
-
     ends : ltb (max (128 * block + 0) first) (min (128 * block + 0 + 128) (first + length xs)) ≡ meets block first (length xs)
     ends = let e : 128 * block + 0 ≡ 128 * block = omega arith in ap (λ n. ltb (max n first) (min (n + 128) (first + length xs))) e

@@ -1,9 +1,9 @@
 -- What a chain holds: the contents now and at each live snapshot, the blocks that were written by
 -- then, and for which next call room was made. Layers are how it is kept, and no caller sees them.
-use Rattle.std.specs.Prelude.{◌≡◌, ℕ, ◌+◌, ◌==◌, nat_le, nat_eq, List, [], ◌∷◌, ◌++◌, filter, Bool, false, not, ◌&&◌, ◌||◌, Option, Some, None, is_some, is_none, option_map, Result, Ok, Err, ⊤, if◌then◌else◌}
-use Rattle.std.specs.List.{find, list_any, range_with_len}
+use Rattle.std.specs.Prelude.{◌≡◌, ℕ, ◌+◌, ◌==◌, List, [], ◌∷◌, ◌++◌, filter, Bool, false, not, Option, Some, None, is_some, is_none, option_map, Result, Ok, Err, ⊤, if◌then◌else◌}
+use Rattle.std.specs.List.{find}
 use Rattle.sector_model.specs.Disk.{Write, after_write, fresh_disk}
-use Rattle.sector_model.specs.Run.{block_count, touches}
+use Rattle.sector_model.specs.Run.{is_within, range_of, with_met}
 use Rattle.sector_model.specs.declared.sector.Sector.{Sector}
 use Rattle.snapshot_chain.specs.declared.chain.ChainRefused.{ChainRefused}
 use Rattle.snapshot_chain.specs.declared.chain.ChainRefused.TheVariants.{UnknownSnap, Range, NoMemory}
@@ -44,16 +44,10 @@ abbrev pub contents_of : Option ℕ → ChainState → Option (List Sector)
 contents_of None chain = Some chain.present
 contents_of (Some id) chain = option_map (λ s. s.contents) (snapshot_of id chain)
 
--- the blocks and those that a write touches
-abbrev pub with_touched : ℕ → Write → List ℕ → List ℕ
-with_touched c w blocks =
-    filter (λ b. list_any (nat_eq b) blocks || touches b w) (range_with_len 0 (block_count c))
-
 abbrev pub after_writing : Write → ChainState → ChainState
 after_writing w chain = record chain {
   present = after_write chain.present w;
-  blocks =
-      with_touched chain.capacity w chain.blocks;
+  blocks = with_met chain.capacity (range_of w) chain.blocks;
   merge_room = None;
 }
 
@@ -77,13 +71,9 @@ after_merging id chain = record chain {
   merge_room = None;
 }
 
--- `count` sectors from `first` on are some, and lie within the disk
-abbrev pub is_within : ChainState → (first count : ℕ) → Bool
-is_within chain first count = nat_le 1 count && nat_le (first + count) chain.capacity
-
 -- why a call is refused, but for want of memory
 abbrev pub write_refusal : ChainState → (first count : ℕ) → Option ChainRefused
-write_refusal chain first count = if is_within chain first count then None else Some Range
+write_refusal chain first count = if is_within chain.capacity first count then None else Some Range
 
 abbrev pub snapshot_refusal : ChainState → ℕ → Option ChainRefused
 snapshot_refusal chain id = if is_some (snapshot_of id chain) then None else Some UnknownSnap

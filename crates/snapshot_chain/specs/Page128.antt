@@ -3,6 +3,7 @@
 use Rattle.std.specs.Prelude.{◌≡◌, ℕ, ◌+◌, ◌-◌, ◌*◌, ◌<◌, ◌^◌, ◌%◌, ◌==◌, nat_le, List, [], ◌∷◌, ◌++◌, length, slice_get, Bool, Option, Some, None, IsSome, option_map, unwrap_or, count_ones, if◌then◌else◌}
 use Rattle.std.specs.Int.{bit_at}
 use Rattle.std.specs.Option.{option_or}
+use Rattle.basics.specs.Bits.{has_bit}
 use Rattle.sector_model.specs.declared.run.TheConstants.{BLOCK_SECTORS}
 use Rattle.sector_model.specs.declared.sector.Sector.{Sector}
 
@@ -14,10 +15,6 @@ pub record PageState : Type 0 where
 abbrev pub no_sectors : PageState
 no_sectors = record { mask = 0; sectors = [] }
 
--- the page has the sector at an offset
-abbrev pub has_offset : (mask offset : ℕ) → Bool
-has_offset mask offset = bit_at mask offset == 1
-
 -- how many sectors the page has before an offset
 abbrev pub rank : (mask offset : ℕ) → ℕ
 rank mask offset = count_ones (mask % 2 ^ offset)
@@ -25,7 +22,7 @@ rank mask offset = count_ones (mask % 2 ^ offset)
 -- what the page has at an offset
 abbrev pub sector_at : PageState → (offset : ℕ) → Option Sector
 sector_at page offset =
-    if has_offset page.mask offset then slice_get page.sectors (rank page.mask offset) else None
+    if has_bit page.mask offset then slice_get page.sectors (rank page.mask offset) else None
 
 -- what a run of sectors from sector `first` of a disk on has at a sector
 abbrev pub run_at : (first : ℕ) → List Sector → (sector : ℕ) → Option Sector

@@ -89,7 +89,8 @@ impl Model for Chain {
 }
 
 impl Chain {
-    ghost use Rattle.snapshot_chain.specs.Chain.{fresh, snapshot_of, contents_of, after_writing, after_freezing, after_merging, is_within, write_refusal, snapshot_refusal, read_refusal, IsKeptAfter};
+    ghost use Rattle.sector_model.specs.Run.{is_within};
+    ghost use Rattle.snapshot_chain.specs.Chain.{fresh, snapshot_of, contents_of, after_writing, after_freezing, after_merging, write_refusal, snapshot_refusal, read_refusal, IsKeptAfter};
     ghost use Rattle.snapshot_chain.specs.History.{DiskEvent, Written, Frozen, Merged, StandsFor, Takes, live_snapshots};
 
     /// The chain of a disk that was never written. It answers only want of memory.
@@ -321,7 +322,7 @@ impl Chain {
 
     /// Whether `count` sectors from sector `first` on are some and lie within the disk.
     fn is_within(&self, first: u64, count: usize) -> bool
-        ensures within { result ≡ is_within self.now first count }
+        ensures within { result ≡ is_within self.now.capacity first count }
         ensures fits { OnTrue result (first + count < 2 ^ 64) }
     {
         count != 0 && first <= self.capacity && count as u64 <= self.capacity - first

@@ -1,7 +1,8 @@
 //! Sectors of one block, and a mask of the offsets at which they stand.
 ghost use Rattle.std.specs.Prelude.{◌≡◌, ◌<◌, ◌^◌, IfOk, OnOk};
 ghost use Rattle.std.specs.Option.{option_copied};
-ghost use Rattle.snapshot_chain.specs.Page128.{PageState, IsPage, no_sectors, has_offset, rank, sector_at, with_sector, IsReplaced};
+ghost use Rattle.basics.specs.Bits.{has_bit};
+ghost use Rattle.snapshot_chain.specs.Page128.{PageState, IsPage, no_sectors, rank, sector_at, with_sector, IsReplaced};
 
 use sector_model::{BLOCK_SECTORS, NoMemory, Sector};
 use std::alloc::Global;
@@ -53,7 +54,7 @@ impl PlacedSectors {
     /// Whether the offset has a sector.
     fn has(&self, offset: u64) -> bool
         requires { offset < BLOCK_SECTORS }
-        ensures { result ≡ has_offset self.now.mask offset }
+        ensures { result ≡ has_bit self.now.mask offset }
     {
         self.mask & (1u128 << offset) != 0
     }

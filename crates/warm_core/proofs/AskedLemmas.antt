@@ -10,21 +10,13 @@ use Rattle.sector_model.proofs.Touched.{in_touched, any_below}
 use Rattle.log_model.specs.declared.entry.Entry.{Entry}
 use Rattle.log_model.specs.Entry.{writes_of, write_to}
 use Rattle.log_model.specs.PlainMachine.{is_touched}
-use Rattle.log_model.proofs.AreaLemmas.{any_write}
+use Rattle.log_model.proofs.AreaLemmas.{in_touched_blocks}
 use Rattle.warm_core.specs.declared.stage_state.StageState.{StageState}
 use Rattle.warm_core.specs.StageState.{has_to_write}
 use Rattle.warm_core.specs.Asked.{blocks_in, AreMet, AreMissed, AllAsked, NoneAsked, NothingLeft}
 
-and_true_right : (a k : Bool) → k ≡ true → (a && k) ≡ a
-and_true_right true k h = h
-and_true_right false k h = refl
-
 pub in-asked : (c d s : ℕ) (entries : List Entry) → s < c → in_blocks (blocks_in c d entries) s ≡ is_touched d s entries
-in-asked c d s entries less =
-    in_touched c s (writes_of d entries)
-    ∙ and_true_right (list_any (touches (s / 128)) (writes_of d entries)) (list_any (nat_eq (s / 128)) (range_with_len 0 (block_count c)))
-    (any_below (s / 128) 0 (block_count c) (omega arith) (let inside : s / 128 < 0 + block_count c = omega arith in inside))
-    ∙ any_write d s entries
+in-asked = in_touched_blocks
 
 -- a test that says one thing or the other
 pub both-ways : (b : Bool) (P Q : Type 0) → MatchBool b P Q → (P → Q → ⊥) → (IsTrue b → P) × (P → IsTrue b)

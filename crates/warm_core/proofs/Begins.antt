@@ -1,7 +1,7 @@
 -- What a stage that begins leaves of a sound world.
 use Rattle.std.proofs.Common.{◌≡◌, ℕ, ◌+◌, ◌<◌, ◌≤◌, ◌==◌, ◌^◌, List, [], ◌∷◌, length, Bool, true, false, not, cond, ◌||◌, eqb, Option, Some, None, refl, sym, ap, subst, ◌∙◌, arith, ◌⊎◌, inl, inr, IsSome}
 use Rattle.std.specs.Option.{is_some, is_none, IsSomeAnd, IfSome}
-use Rattle.std.proofs.lemmas.Bool.{false≢true, ne_eqb}
+use Rattle.std.proofs.lemmas.Bool.{false_from_ne_true, false≢true, ne_eqb}
 use Rattle.std.proofs.lemmas.Option.{same_Some, none-some}
 use Rattle.sector_model.specs.Run.{in_blocks}
 use Rattle.sector_model.specs.VolumeContents.{VolumeContents}
@@ -38,10 +38,6 @@ open-grows c d log b old new s unfinished low high inside =
     ap (λ x. in_blocks (cond x (touched c d b.mark new.mark log) []) s) unfinished ∙ touched_joins c d b.mark old.mark new.mark log s low high
     ∙ or-left (in_blocks (touched c d b.mark old.mark log) s) (in_blocks (touched c d old.mark new.mark log) s) early
 
-outside-old : (a b : Bool) → (a ≡ true → b ≡ true) → b ≡ false → a ≡ false
-outside-old true b grows none = absurd (false≢true (sym none ∙ grows refl))
-outside-old false b grows none = refl
-
 pub staged-grows : LaterSnapshotsStay
 staged-grows c d log None old new v unfinished after staged = tt
 staged-grows c d log (Some b) None new v unfinished after (inl on) = inl (record {
@@ -54,7 +50,7 @@ staged-grows c d log (Some b) (Some old) new v unfinished after (inl on) =
     let grows : (s : ℕ) → in_blocks (open_blocks c d log b (Some old)) s ≡ true → in_blocks (open_blocks c d log b (Some new)) s ≡ true =
     λ s. open-grows c d log b old new s unfinished (marks.0 b refl) marks.1 in
     inl (record {
-      as_base = λ s none. on.as_base s (outside-old (in_blocks (open_blocks c d log b (Some old)) s) (in_blocks (open_blocks c d log b (Some new)) s) (grows s) none);
+      as_base = λ s none. on.as_base s (false_from_ne_true (in_blocks (open_blocks c d log b (Some old)) s) (λ inside. false≢true (sym none ∙ grows s inside)));
       loose_inside = λ s loose. grows s (on.loose_inside s loose);
     })
 staged-grows c d log (Some b) (Some old) new v unfinished after (inr forgotten) = inr (record { unfinished = unfinished; reset = forgotten.reset })

@@ -7,18 +7,13 @@ use Rattle.log_model.specs.declared.entry.Entry.{Entry}
 use Rattle.log_model.specs.Entry.{writes_of}
 use Rattle.sector_model.proofs.NextRun.{Next, next_is, areas_from-none}
 use Rattle.log_model.proofs.AreaLemmas.{touched_runs}
-use Rattle.sector_model.proofs.PageMade.{last_pushed, full_page, last_page}
+use Rattle.sector_model.proofs.PageMade.{one_area_more, last_pushed, full_page, last_page}
 use Rattle.log_model.proofs.query.answer_page.Goals as goal
 
 next_facts : (top d at : ℕ) (log : List Entry) (r : Run) → top < 2 ^ 64 → next_run at (touched_runs top d log) ≡ Some r → Next (touched_runs top d log) at top r
 next_facts top d at log r fits next =
     let k : SpacedWithin 0 top (touched_runs top d log) = runs_of-spaced (in_blocks (touched_blocks top (writes_of d log))) top fits in
     next_is 0 top (touched_runs top d log) at r k.spaced k.ends next
-
--- the areas told, one more, and the rest
-goes_on : (start at : ℕ) (areas told : List Run) (r : Run) → areas_from start areas ≡ told ++ areas_from at areas → areas_from at areas ≡ r ∷ areas_from (end_of r) areas
-    → areas_from start areas ≡ told ++ r ∷ areas_from (end_of r) areas
-goes_on start at areas told r joined next = joined ∙ ap (λ (rest : List Run). told ++ rest) next
 
 pub overflow_add-at : goal.overflow_add-at
 overflow_add-at c =
@@ -39,7 +34,7 @@ loop-run-preserved c =
     let pushed : c.push.new.self.areas ≡ told ++ r ∷ [] = ap (λ (p : PageContents). p.areas) c.push.ensures in
     record {
       begins = ap (λ (p : PageContents). p.start) c.push.ensures ∙ c.loop-run.invariant.begins;
-      joined = goes_on c.args.start c.loop-run.at areas told r c.loop-run.invariant.joined facts.areas
+      joined = one_area_more c.args.start c.loop-run.at areas told r c.loop-run.invariant.joined facts.areas
           ∙ sym (append_assoc told (r ∷ []) (areas_from (end_of r) areas)) ∙ ap (λ (xs : List Run). xs ++ areas_from (end_of r) areas) (sym pushed);
       from = omega (arith, facts.is.from, c.loop-run.invariant.from);
       within = facts.is.inside;
@@ -55,7 +50,7 @@ returns-then-areas-eq-PAGE_AREAS c =
     let facts = next_facts c.args.capacity c.args.disk c.loop-run.at c.args.log.now r (omega arith) (sym c.in-Some.ensures) in
     let long : length told ≡ 1024 = sym (ap length c.areas.ensures) ∙ c.if-areas-eq-PAGE_AREAS.true in
     c.cover.ensures ∙ ap (λ n. record { start = n; length = c.loop-run.at - c.args.start; areas = told }) c.loop-run.invariant.begins
-    ∙ full_page c.args.capacity c.args.start c.loop-run.at areas told (areas_from (end_of r) areas) r (goes_on c.args.start c.loop-run.at areas told r c.loop-run.invariant.joined facts.areas) long c.loop-run.invariant.ended
+    ∙ full_page c.args.capacity c.args.start c.loop-run.at areas told (areas_from (end_of r) areas) r (one_area_more c.args.start c.loop-run.at areas told r c.loop-run.invariant.joined facts.areas) long c.loop-run.invariant.ended
 
 pub returns : goal.returns
 returns c =

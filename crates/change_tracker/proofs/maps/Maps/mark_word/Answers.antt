@@ -1,8 +1,8 @@
-use Rattle.std.proofs.Common.{◌≡◌, ℕ, subst, sym, refl, ap, bit_and, w64}
+use Rattle.std.proofs.Common.{◌≡◌, subst, sym, ap, bit_and, w64}
 use Rattle.std.specs.Int.{bit_not}
 use Rattle.change_tracker.specs.declared.maps.Maps.{Maps}
 use Rattle.change_tracker.specs.Touches.{TouchState, IsAdded}
-use Rattle.change_tracker.proofs.Marking.{Told, room_for_new, room_for_changes, none_added, first_marked, changes_marked}
+use Rattle.change_tracker.proofs.Marking.{Told, room_for_new, none_added, first_marked, changes_marked}
 use Rattle.change_tracker.proofs.maps.Maps.mark_word.Goals as goal
 use Rattle.change_tracker.proofs.maps.Maps.mark_word.Goals.{then-new-ne0, else-new-ne0}
 

@@ -1,4 +1,4 @@
-use Rattle.std.proofs.Common.{◌≡◌, ◌≢◌, ℕ, subst, sym, refl, ap, bit_and, w64, OnOk, Result}
+use Rattle.std.proofs.Common.{◌≢◌, subst, sym, refl, ap, bit_and, w64}
 use Rattle.std.specs.Int.{bit_not}
 use Rattle.change_tracker.specs.declared.maps.Maps.{Maps}
 use Rattle.change_tracker.specs.Touches.{TouchState, HasSame, HasRoom}

@@ -1,20 +1,12 @@
-use Rattle.std.proofs.Common.{◌≡◌, ℕ, ◌-◌, ◌<◌, ◌^◌, List, [], ◌∷◌, ◌++◌, length, get_or, Some, append_assoc, length-append, sym, ap, ◌∙◌, arith}
-use Rattle.sector_model.specs.Run.{end_of, in_blocks, next_run}
+use Rattle.std.proofs.Common.{◌≡◌, ℕ, ◌-◌, List, [], ◌∷◌, ◌++◌, length, get_or, append_assoc, length-append, sym, ap, ◌∙◌, arith}
+use Rattle.sector_model.specs.Run.{end_of}
 use Rattle.sector_model.specs.Page.{PageContents, areas_from}
 use Rattle.sector_model.specs.declared.run.Run.{Run}
-use Rattle.sector_model.proofs.Spacing.{SpacedWithin, runs_of-spaced}
-use Rattle.sector_model.proofs.NextRun.{Next, next_is, areas_from-none}
-use Rattle.sector_model.proofs.PageMade.{last_pushed, full_page, last_page}
-use Rattle.change_tracker.specs.declared.word.Window.{Window}
-use Rattle.change_tracker.specs.Touches.{TouchState, blocks_in, areas_in}
+use Rattle.sector_model.proofs.PageMade.{one_area_more, last_pushed}
+use Rattle.change_tracker.specs.Touches.{areas_in}
 use Rattle.change_tracker.proofs.AreasIn.{next_facts, full_then, full_last}
 use Rattle.change_tracker.proofs.touches.Touches.fill_page.Goals as goal
 use Rattle.change_tracker.proofs.touches.Touches.fill_page.Goals.{in-Some-next_block, in-None}
-
--- the areas told, one more, and the rest
-goes_on : (start at : ℕ) (areas told : List Run) (r : Run) → areas_from start areas ≡ told ++ areas_from at areas → areas_from at areas ≡ r ∷ areas_from (end_of r) areas
-    → areas_from start areas ≡ told ++ r ∷ areas_from (end_of r) areas
-goes_on start at areas told r joined next = joined ∙ ap (λ (rest : List Run). told ++ rest) next
 
 pub overflow_add-at : goal.overflow_add-at
 overflow_add-at c =
@@ -36,7 +28,7 @@ loop-seen-preserved c =
     record {
       seen = c.next_area.ensures.seen;
       begins = ap (λ (p : PageContents). p.start) c.push.ensures ∙ c.loop-seen.invariant.begins;
-      joined = goes_on c.args.start c.loop-seen.at areas told r c.loop-seen.invariant.joined facts.areas
+      joined = one_area_more c.args.start c.loop-seen.at areas told r c.loop-seen.invariant.joined facts.areas
           ∙ sym (append_assoc told (r ∷ []) (areas_from (end_of r) areas)) ∙ ap (λ (xs : List Run). xs ++ areas_from (end_of r) areas) (sym pushed);
       from = omega (arith, facts.is.from, c.loop-seen.invariant.from);
       within = facts.is.inside;

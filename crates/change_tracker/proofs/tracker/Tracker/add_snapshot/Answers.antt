@@ -1,10 +1,10 @@
-use Rattle.std.proofs.Common.{◌≡◌, ℕ, ◌+◌, ◌≤◌, ◌∷◌, ◌++◌, [], List, length, Option, Some, None, option_map, unwrap_or, false, true, sym, ap, subst, refl, ◌∙◌, arith, rules, length-append}
+use Rattle.std.proofs.Common.{◌≡◌, ℕ, ◌+◌, ◌≤◌, ◌∷◌, ◌++◌, [], List, length, Option, Some, None, option_map, unwrap_or, false, sym, ap, subst, refl, ◌∙◌, arith, rules, length-append}
 use Rattle.std.proofs.lemmas.Bool.{false≢true}
-use Rattle.change_id.specs.ChangeId.{packed}
+use Rattle.change_id.specs.ChangeId.{id_of, packed}
 use Rattle.change_id.specs.declared.ChangeId.{ChangeId}
 use Rattle.change_tracker.specs.declared.kept.Kept.{Kept}
 use Rattle.change_tracker.specs.Tracker.{TrackerState, after_freezing}
-use Rattle.change_tracker.specs.Kept.{state_of, AreIds, NoLater, IsByNow}
+use Rattle.change_tracker.specs.Kept.{state_of, AreIds}
 use Rattle.change_tracker.proofs.States.{frozen_state, ids_push, by_now_more, no_later_more, none_later_more}
 use Rattle.change_tracker.proofs.tracker.Tracker.add_snapshot.Goals as goal
 
@@ -12,10 +12,7 @@ counts : (o : Option ℕ) (n : ℕ) → unwrap_or o 0 ≤ n → unwrap_or (optio
 counts None n le = omega arith
 counts (Some k) n le = omega (arith, le)
 
-abbrev make : ℕ → ℕ → ChangeId
-make u n = record { uuid = u; seq = n }
-
-numbered : (u : ℕ) (o : Option ℕ) → option_map (λ n. make u n) (option_map (λ n. n + 1) o) ≡ option_map (λ n. make u (n + 1)) o
+numbered : (u : ℕ) (o : Option ℕ) → option_map (λ n. id_of u n) (option_map (λ n. n + 1) o) ≡ option_map (λ n. id_of u (n + 1)) o
 numbered u None = refl
 numbered u (Some n) = refl
 

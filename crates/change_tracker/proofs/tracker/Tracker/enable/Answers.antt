@@ -1,7 +1,7 @@
-use Rattle.std.proofs.Common.{◌≡◌, ◌+◌, ◌∷◌, ◌++◌, [], List, Bool, false, true, Option, Some, None, is_none, unwrap_or, sym, ap, subst, refl, ◌∙◌, ℕ, rules}
+use Rattle.std.proofs.Common.{◌≡◌, ◌∷◌, ◌++◌, [], false, true, Option, Some, None, is_none, unwrap_or, sym, ap, subst, refl, ◌∙◌, ℕ, rules}
 use Rattle.std.proofs.lemmas.Bool.{false≢true}
 use Rattle.change_tracker.specs.Tracker.{TrackerState, after_enabling}
-use Rattle.change_tracker.specs.History.{TrackStep, Enabled, StandsFor}
+use Rattle.change_tracker.specs.History.{Enabled, StandsFor}
 use Rattle.change_tracker.specs.Kept.{state_of}
 use Rattle.change_tracker.proofs.Histories.{stands_enabled}
 use Rattle.change_tracker.proofs.tracker.Tracker.enable.Goals as goal

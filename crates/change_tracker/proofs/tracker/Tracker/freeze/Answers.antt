@@ -1,5 +1,4 @@
-use Rattle.std.proofs.Common.{◌≡◌, ◌∷◌, ◌++◌, [], Bool, true, Option, sym, ap, subst, refl, ◌∙◌}
-use Rattle.change_id.specs.declared.ChangeId.{ChangeId}
+use Rattle.std.proofs.Common.{◌≡◌, ◌∷◌, ◌++◌, [], sym, ap, subst, ◌∙◌}
 use Rattle.change_tracker.specs.Tracker.{TrackerState, next_id, after_freezing}
 use Rattle.change_tracker.specs.History.{Frozen, StandsFor}
 use Rattle.change_tracker.proofs.Histories.{named, stands_frozen}

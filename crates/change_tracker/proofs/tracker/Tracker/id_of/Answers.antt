@@ -1,9 +1,9 @@
-use Rattle.std.proofs.Common.{◌≡◌, ◌==◌, ◌+◌, ℕ, List, Bool, true, false, Some, is_some, refl, sym, ap, ◌∙◌}
+use Rattle.std.proofs.Common.{◌≡◌, ◌==◌, ◌+◌, List, Some, is_some, refl, sym, ap, ◌∙◌}
 use Rattle.std.specs.List.{list_any, slice_get}
 use Rattle.std.proofs.lemmas.Option.{get_or_from_slice_get}
 use Rattle.change_tracker.specs.declared.kept.Kept.{Kept}
 use Rattle.change_tracker.specs.Tracker.{TrackerState, snapshot_of}
-use Rattle.change_tracker.specs.History.{TrackStep, freezes, id_at, StandsFor}
+use Rattle.change_tracker.specs.History.{freezes, id_at}
 use Rattle.change_tracker.specs.Kept.{snapshot_at}
 use Rattle.change_tracker.proofs.States.{view_get, view_find}
 use Rattle.change_tracker.proofs.Lookups.{known_at, accept_known, refuse_unknown}

@@ -1,5 +1,4 @@
-use Rattle.std.proofs.Common.{◌≡◌, ℕ, ◌∷◌, ◌++◌, [], length, sym, ap, subst, refl, ◌∙◌, rules}
-use Rattle.change_tracker.specs.declared.maps.Maps.{Maps}
+use Rattle.std.proofs.Common.{◌≡◌, ℕ, ◌∷◌, ◌++◌, [], length, sym, ap, subst, ◌∙◌, rules}
 use Rattle.change_tracker.specs.Tracker.{TrackerState, after_marking}
 use Rattle.change_tracker.specs.Maps.{IsTouchedWhere, is_met_by}
 use Rattle.change_tracker.specs.History.{Marked, StandsFor}

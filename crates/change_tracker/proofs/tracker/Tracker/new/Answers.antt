@@ -1,4 +1,4 @@
-use Rattle.std.proofs.Common.{◌≡◌, [], sym, ap, subst, ◌∙◌, List, None, Option, false}
+use Rattle.std.proofs.Common.{[], sym, ap, subst, ◌∙◌, List, None, false}
 use Rattle.change_tracker.specs.declared.kept.Kept.{Kept}
 use Rattle.change_tracker.specs.declared.maps.Maps.{Maps}
 use Rattle.change_tracker.specs.Tracker.{TrackerState}

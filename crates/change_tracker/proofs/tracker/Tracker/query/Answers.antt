@@ -1,16 +1,15 @@
-use Rattle.std.proofs.Common.{◌≡◌, ◌==◌, ◌+◌, ◌<◌, ℕ, List, Bool, true, false, Option, Some, None, Result, Ok, Err, IfOk, IsOk, get_or, refl, sym, ap, subst, ◌∙◌, arith, rules}
+use Rattle.std.proofs.Common.{◌≡◌, ◌==◌, ℕ, List, Bool, true, false, Option, Some, Result, Ok, Err, IfOk, get_or, refl, sym, ap, subst, ◌∙◌, arith}
 use Rattle.std.specs.List.{list_any, slice_get}
 use Rattle.std.proofs.lemmas.Option.{get_or_from_slice_get, slice_get_within}
 use Rattle.basics.specs.Refusal.{IsRefusedBy}
-use Rattle.sector_model.specs.Page.{PageContents, page_from}
+use Rattle.sector_model.specs.Page.{page_from}
 use Rattle.change_id.specs.ChangeId.{packed}
 use Rattle.change_id.specs.declared.ChangeId.{ChangeId}
 use Rattle.change_tracker.specs.declared.kept.Kept.{Kept}
-use Rattle.change_tracker.specs.declared.word.Window.{Window}
 use Rattle.change_tracker.specs.declared.refusals.TrackRefused.{TrackRefused}
 use Rattle.change_tracker.specs.declared.refusals.TrackRefused.TheVariants.{UnknownSnap, Range, Strange}
 use Rattle.change_tracker.specs.Tracker.{TrackerState}
-use Rattle.change_tracker.specs.History.{TrackStep, answered, query_refusal, StandsFor}
+use Rattle.change_tracker.specs.History.{answered, query_refusal, StandsFor}
 use Rattle.change_tracker.specs.Kept.{is_accepted, window_from, in_force_of}
 use Rattle.change_tracker.proofs.Queries.{all_page, all_accepts, since_page, since_accepts, since_refuses, outside_refuses, unknown_refuses, some_window, no_window}
 use Rattle.change_tracker.proofs.tracker.Tracker.query.Goals as goal

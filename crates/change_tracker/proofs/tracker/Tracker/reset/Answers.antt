@@ -1,6 +1,6 @@
-use Rattle.std.proofs.Common.{◌≡◌, ◌+◌, ◌∷◌, ◌++◌, [], List, Option, option_map, None, sym, ap, subst, refl, ◌∙◌, ℕ, rules}
+use Rattle.std.proofs.Common.{◌≡◌, ◌+◌, ◌∷◌, ◌++◌, [], Option, option_map, None, sym, ap, subst, refl, ◌∙◌, ℕ, rules}
 use Rattle.change_tracker.specs.Tracker.{TrackerState, after_reset}
-use Rattle.change_tracker.specs.History.{TrackStep, Reset, StandsFor}
+use Rattle.change_tracker.specs.History.{Reset, StandsFor}
 use Rattle.change_tracker.specs.Kept.{state_of}
 use Rattle.change_tracker.specs.declared.maps.Maps.{Maps}
 use Rattle.change_tracker.proofs.States.{reset_state}

@@ -1,5 +1,6 @@
-use Rattle.std.proofs.Common.{◌≡◌, ℕ, Bool, true, false, ◌||◌, ◌&&◌, subst, ap, ◌∙◌, refl, bit_or}
-use Rattle.change_tracker.specs.Touches.{WordState, is_inside, has_bit, is_of, touched_at}
+use Rattle.std.proofs.Common.{◌≡◌, Bool, true, false, ◌||◌, ◌&&◌, subst, ap, ◌∙◌, refl, bit_or}
+use Rattle.basics.specs.Bits.{has_bit}
+use Rattle.change_tracker.specs.Touches.{WordState, is_inside, is_of, touched_at}
 use Rattle.std.specs.List.{list_any}
 use Rattle.change_tracker.proofs.Bits.{or_has}
 use Rattle.change_tracker.proofs.word.Word.add.Goals as goal

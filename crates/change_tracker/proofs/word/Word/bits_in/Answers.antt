@@ -1,11 +1,12 @@
-use Rattle.std.proofs.Common.{◌≡◌, ℕ, ◌+◌, ◌<◌, ◌≤◌, Bool, true, false, ◌||◌, ◌&&◌, bit_or, get_or, take, length, List, ◌++◌, ◌∷◌, [], ap, sym, ◌∙◌, refl, arith}
+use Rattle.std.proofs.Common.{◌≡◌, ℕ, ◌+◌, ◌<◌, Bool, true, false, ◌||◌, bit_or, get_or, take, length, List, ◌∷◌, [], ap, sym, ◌∙◌, refl, arith}
 use Rattle.std.specs.List.{list_any}
 use Rattle.std.proofs.Math.Bool.{or-false}
 use Rattle.std.proofs.lemmas.List.{take_more, take_all}
 use Rattle.std.proofs.lemmas.List.Folds.{list_any-append}
 use Rattle.change_tracker.specs.declared.word.Touch.{Touch}
 use Rattle.change_tracker.specs.declared.word.Window.{Window}
-use Rattle.change_tracker.specs.Touches.{WordState, has_bit, is_of, touched_at}
+use Rattle.basics.specs.Bits.{has_bit}
+use Rattle.change_tracker.specs.Touches.{is_of}
 use Rattle.change_tracker.proofs.Bits.{or_has}
 use Rattle.change_tracker.proofs.word.Word.bits_in.Goals as goal
 

@@ -1,6 +1,7 @@
 use Rattle.std.proofs.Common.{◌≡◌, ◌||◌, ℕ, take}
 use Rattle.std.specs.List.{list_any}
-use Rattle.change_tracker.specs.Touches.{is_of, has_bit}
+use Rattle.basics.specs.Bits.{has_bit}
+use Rattle.change_tracker.specs.Touches.{is_of}
 use Rattle.change_tracker.proofs.word.Word.bits_in.Given as goal
 
 -- the blocks of the latest touch, and of the earlier ones so far
