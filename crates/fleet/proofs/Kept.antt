@@ -1,11 +1,11 @@
 -- What a fleet keeps stays what its definition asks, and shows what callers see.
-use Rattle.std.proofs.Common.{◌≡◌, ℕ, ◌+◌, ◌<◌, ◌≤◌, List, [], ◌∷◌, ◌++◌, map, length, Option, Some, None, refl, ap, ◌∙◌, sym, subst, slice_get, arith}
+use Rattle.std.proofs.Common.{◌≡◌, ℕ, ◌+◌, ◌<◌, ◌≤◌, List, [], ◌∷◌, ◌++◌, map, length, Option, Some, None, refl, ap, ◌∙◌, sym, subst, slice_get, true, arith}
 use Rattle.std.proofs.lemmas.List.{map-append, length-map}
 use Rattle.std.specs.List.{position}
 use Rattle.std.specs.Str.{bytes_eq}
 use Rattle.basics.specs.Spelled.{IsName}
 use Rattle.basics.specs.declared.limits.TheConstants.{MAX_HOST_LIMIT}
-use Rattle.source_vm.specs.Machine.{MayHaveDisks, fresh}
+use Rattle.source_vm.specs.Machine.{may_have_disks, fresh}
 use Rattle.fleet.specs.declared.limits.TheConstants.{MAX_HOSTS, MAX_VMS}
 use Rattle.fleet.specs.declared.vm.Host.{Host}
 use Rattle.fleet.specs.declared.vm.Vm.{Vm}
@@ -49,7 +49,7 @@ module _ (hosts : List (List ℕ × Host)) (vms : List (List ℕ × Vm)) where
     shows_vm = rw (map-append vm_state vms ((name, vm) ∷ []), hosted, new_one) refl
 
     pub IsKept-vm : IsKept hosts vms → IsName name → place < length hosts
-        → MayHaveDisks capacities → place_of name vms ≡ None → length vms < MAX_VMS
+        → may_have_disks capacities ≡ true → place_of name vms ≡ None → length vms < MAX_VMS
         → IsKept hosts (vms ++ (name, vm) ∷ [])
     IsKept-vm is named there disks new room = record {
       sound = rw shows_vm (IsFleet-with_vm name place capacities (fleet_state hosts vms) is.sound

@@ -3,7 +3,7 @@ pub mod Names
 pub mod Each
 pub mod StaysSound
 pub mod Kept
-pub mod MayHave
 pub mod Refused
 pub mod Replacing
-pub mod Going
+pub mod Logs
+pub mod Found

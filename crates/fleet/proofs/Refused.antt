@@ -2,13 +2,14 @@
 use Rattle.std.proofs.Common.{◌≡◌, ℕ, ◌+◌, ◌<◌, ◌≤◌, Bool, true, false, not, cond, List, length, nat_le, Option, Some, None, Result, Ok, Err, IfErr, IsErrAnd, is_some, option_map, refl, ap, ◌∙◌, sym, subst, arith}
 use Rattle.std.proofs.lemmas.List.{length-map}
 use Rattle.basics.specs.Refusal.{IsRefusedOr}
+use Rattle.source_vm.specs.Machine.{may_have_disks}
 use Rattle.fleet.specs.declared.limits.TheConstants.{MAX_HOSTS, MAX_VMS}
 use Rattle.fleet.specs.declared.vm.Host.{Host}
 use Rattle.fleet.specs.declared.vm.Vm.{Vm}
 use Rattle.fleet.specs.declared.refusals.FleetRefused.{FleetRefused}
 use Rattle.fleet.specs.declared.refusals.FleetRefused.TheVariants.{NameTaken, UnknownHost, TooMany, BadSize, NoMemory}
 use Rattle.fleet.specs.Fleet.{FleetState, host_place, vm_number}
-use Rattle.fleet.specs.Refusals.{add_host_refusal, add_vm_refusal, may_be_disks}
+use Rattle.fleet.specs.Refusals.{add_host_refusal, add_vm_refusal}
 use Rattle.fleet.specs.NameMap.{place_of}
 use Rattle.fleet.specs.Kept.{host_state, vm_state, fleet_state}
 use Rattle.fleet.proofs.Kept.{host_place-kept, vm_place-kept}
@@ -81,14 +82,14 @@ module _ (hosts : List (List ℕ × Host)) (vms : List (List ℕ × Vm)) (fleet 
       at : host_place host fleet ≡ Some place
       at = ap (host_place host) (sym shown) ∙ host_place-kept hosts vms host ∙ known
 
-      pub bad_size : may_be_disks capacities ≡ false
+      pub bad_size : may_have_disks capacities ≡ false
           → add_vm_refusal name host capacities fleet ≡ Some BadSize
       bad_size bad = rw (is_vm false new, at, bad) refl
 
-      pub vms_full : may_be_disks capacities ≡ true → MAX_VMS ≤ length vms
+      pub vms_full : may_have_disks capacities ≡ true → MAX_VMS ≤ length vms
           → add_vm_refusal name host capacities fleet ≡ Some TooMany
       vms_full good full = rw (is_vm false new, at, good, vm_count, le_told MAX_VMS (length vms) full) refl
 
-      pub vm_fits : may_be_disks capacities ≡ true → length vms < MAX_VMS
+      pub vm_fits : may_have_disks capacities ≡ true → length vms < MAX_VMS
           → add_vm_refusal name host capacities fleet ≡ None
       vm_fits good room = rw (is_vm false new, at, good, vm_count, lt_told MAX_VMS (length vms) room) refl

@@ -1,5 +1,5 @@
 -- A fleet stays sound where a host or a machine is added, and where one machine changes.
-use Rattle.std.proofs.Common.{◌≡◌, ◌≢◌, ℕ, ◌+◌, ◌-◌, ◌<◌, ◌≤◌, List, [], ◌∷◌, ◌++◌, map, length, get_or, set, Option, Some, None, All, AllPairs, false, refl, ap, ◌∙◌, sym, subst, slice_get, arith, length-append}
+use Rattle.std.proofs.Common.{◌≡◌, ◌≢◌, ℕ, ◌+◌, ◌-◌, ◌<◌, ◌≤◌, List, [], ◌∷◌, ◌++◌, map, length, get_or, set, Option, Some, None, All, AllPairs, true, false, refl, ap, ◌∙◌, sym, subst, slice_get, arith, length-append}
 use Rattle.std.proofs.lemmas.List.{map-append, length-set}
 use Rattle.std.proofs.Math.Seq.{map-set_same}
 use Rattle.std.proofs.lemmas.Option.{none-some, slice_get_within, get_or_from_slice_get}
@@ -11,7 +11,7 @@ use Rattle.basics.specs.Spelled.{IsName}
 use Rattle.basics.specs.declared.limits.TheConstants.{MAX_HOST_LIMIT}
 use Rattle.log_model.specs.Legal.{Legal, all_of}
 use Rattle.log_model.specs.declared.entry.TheConstants.{MAX_LOG_ENTRIES}
-use Rattle.source_vm.specs.Machine.{MayHaveDisks}
+use Rattle.source_vm.specs.Machine.{may_have_disks}
 use Rattle.fleet.specs.declared.limits.TheConstants.{MAX_HOSTS, MAX_VMS}
 use Rattle.fleet.specs.Fleet.{HostState, VmState, FleetState, host_place, with_host, with_vm}
 use Rattle.fleet.specs.Sound.{IsHost, IsVm, IsFleet}
@@ -57,7 +57,7 @@ pub empty_is_legal : (capacities : List ℕ) → Legal (all_of capacities) []
 empty_is_legal capacities = record { short = omega arith; each = λ place e h. absurd (none-some e h) }
 
 pub IsFleet-with_vm : (name : List ℕ) (place : ℕ) (capacities : List ℕ) (fleet : FleetState)
-    → IsFleet fleet → IsName name → place < length fleet.hosts → MayHaveDisks capacities
+    → IsFleet fleet → IsName name → place < length fleet.hosts → may_have_disks capacities ≡ true
     → position (λ (vm : VmState). bytes_eq name vm.name) fleet.vms ≡ None
     → length fleet.vms < MAX_VMS → IsFleet (with_vm name place capacities fleet)
 IsFleet-with_vm name place capacities fleet is named hosted disks new room =

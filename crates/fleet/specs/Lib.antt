@@ -3,6 +3,7 @@ pub mod Sound
 pub mod Refusals
 pub mod Lending
 pub mod Laws
+pub mod Finding
 pub mod NameMap
 pub mod Vm
 pub mod Kept

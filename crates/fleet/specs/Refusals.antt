@@ -1,8 +1,7 @@
 -- Why a host or a machine isn't added, the reasons in order. None stands where it is added. Want of
 -- memory is no reason here: it may come where no other one stands.
-use Rattle.std.specs.Prelude.{ℕ, List, length, Bool, not, ◌&&◌, nat_le, Option, Some, None, is_some, is_none, if◌then◌else◌}
-use Rattle.std.specs.List.{list_all}
-use Rattle.basics.specs.declared.limits.TheConstants.{MAX_DISKS, MAX_DISK_SECTORS}
+use Rattle.std.specs.Prelude.{ℕ, List, length, not, nat_le, Option, Some, None, is_some, is_none, if◌then◌else◌}
+use Rattle.source_vm.specs.Machine.{may_have_disks}
 use Rattle.fleet.specs.declared.limits.TheConstants.{MAX_HOSTS, MAX_VMS}
 use Rattle.fleet.specs.declared.refusals.FleetRefused.{FleetRefused}
 use Rattle.fleet.specs.declared.refusals.FleetRefused.TheVariants.{NameTaken, UnknownHost, TooMany, BadSize, NoMemory}
@@ -21,17 +20,9 @@ add_host_refusal name fleet =
     if is_some (host_place name fleet) then Some NameTaken
     else if nat_le MAX_HOSTS (length fleet.hosts) then Some TooMany else None
 
-abbrev pub is_capacity : ℕ → Bool
-is_capacity capacity = nat_le 1 capacity && nat_le capacity MAX_DISK_SECTORS
-
--- a machine may have disks of these capacities, in sectors
-abbrev pub may_be_disks : (capacities : List ℕ) → Bool
-may_be_disks capacities = nat_le 1 (length capacities) && nat_le (length capacities) MAX_DISKS
-    && list_all is_capacity capacities
-
 abbrev pub add_vm_refusal : (name host capacities : List ℕ) → FleetState → Option FleetRefused
 add_vm_refusal name host capacities fleet =
     if is_some (vm_number name fleet) then Some NameTaken
     else if is_none (host_place host fleet) then Some UnknownHost
-    else if not (may_be_disks capacities) then Some BadSize
+    else if not (may_have_disks capacities) then Some BadSize
     else if nat_le MAX_VMS (length fleet.vms) then Some TooMany else None

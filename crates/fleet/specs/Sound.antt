@@ -1,10 +1,10 @@
 -- What is true of every fleet: its hosts and machines have names that are told apart, hosts have
 -- limits, and each machine has a host and a log that may be.
-use Rattle.std.specs.Prelude.{◌≡◌, ◌≢◌, ℕ, ◌<◌, ◌≤◌, length, map, All, AllPairs, false}
+use Rattle.std.specs.Prelude.{◌≡◌, ◌≢◌, ℕ, ◌<◌, ◌≤◌, length, map, All, AllPairs, true, false}
 use Rattle.basics.specs.Spelled.{IsName}
 use Rattle.basics.specs.declared.limits.TheConstants.{MAX_HOST_LIMIT}
 use Rattle.log_model.specs.Legal.{Legal, all_of}
-use Rattle.source_vm.specs.Machine.{MayHaveDisks}
+use Rattle.source_vm.specs.Machine.{may_have_disks}
 use Rattle.fleet.specs.declared.limits.TheConstants.{MAX_HOSTS, MAX_VMS}
 use Rattle.fleet.specs.Fleet.{HostState, VmState, FleetState}
 
@@ -17,7 +17,7 @@ pub record IsHost (host : HostState) : Type 0 where
 pub record IsVm (hosts : ℕ) (vm : VmState) : Type 0 where
   pub named : IsName vm.name
   pub hosted : vm.host < hosts
-  pub disks : MayHaveDisks vm.capacities
+  pub disks : may_have_disks vm.capacities ≡ true
   pub legal : Legal (all_of vm.capacities) vm.log
 
 pub record IsFleet (fleet : FleetState) : Type 0 where

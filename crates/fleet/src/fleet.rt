@@ -10,15 +10,16 @@ ghost use Rattle.fleet.specs.Refusals.{add_host_refusal, add_vm_refusal};
 ghost use Rattle.fleet.specs.Lending.{lifted, after_lift, MayGoBack, after_lower};
 
 use crate::name_map::NameMap;
-use crate::sizes::may_be_disks;
 use crate::vm::{Host, Vm};
 use crate::{FleetRefused, MAX_HOSTS, MAX_VMS};
-use source_vm::{Machine, PlainLink};
+use source_vm::{Machine, PlainLink, may_have_disks};
 use std::alloc::Global;
+use std::fmt;
 use std::marker::Model;
 
 /// Hosts and machines by their names, in the order in which they were added. Hosts have places
-/// from 0 on, machines have numbers from 1 on. A host and a machine may have one name.
+/// from 0 on, machines have numbers from 1 on. A host and a machine may have one name. What is true
+/// of every fleet, the calls that find a name tell as `sound`.
 #[derive(Drop)]
 pub struct Fleet {
     alloc: Global,
@@ -48,13 +49,6 @@ impl Fleet {
             hosts: NameMap::new(alloc),
             vms: NameMap::new(alloc),
         }
-    }
-
-    /// What is true of every fleet. The fact is the contract; there is nothing to do.
-    pub fn is_sound(&self)
-        ensures { IsFleet self.now }
-    {
-        let _ = &self.hosts;
     }
 
     /// Adds a host. `name` is a name of 1 to 32 bytes of `a` to `z`, `0` to `9` and `-`, and
@@ -109,7 +103,7 @@ impl Fleet {
         let Some(place) = self.hosts.place_of(host) else {
             return Err(FleetRefused::UnknownHost);
         };
-        if !may_be_disks(capacities) {
+        if !may_have_disks(capacities) {
             return Err(FleetRefused::BadSize);
         }
         if self.vms.len() >= MAX_VMS {
@@ -124,7 +118,8 @@ impl Fleet {
 
     /// The number of the machine of a name, if there is one.
     pub fn number_of(&self, name: &str) -> Option<u32>
-        ensures { result ≡ vm_number name.now self.now }
+        ensures number { result ≡ vm_number name.now self.now }
+        ensures sound { IsFleet self.now }
     {
         let place = self.vms.place_of(name)?;
         Some(place as u32 + 1)
@@ -141,8 +136,10 @@ impl Fleet {
 
     /// The name and the limit of a host, if there is one at this place, from 0 on.
     pub fn host_at(&self, place: u32) -> Option<(&str, u32)>
-        ensures { option_map {U = HostState} (λ p. record { name = p.0.now; limit = p.1 }) result
+        ensures host { option_map {U = HostState}
+            (λ p. record { name = p.0.now; limit = p.1 }) result
             ≡ slice_get self.now.hosts place }
+        ensures sound { IsFleet self.now }
     {
         let name = self.hosts.name_at(place as usize)?;
         let host = self.hosts.at(place as usize)?;
@@ -152,8 +149,9 @@ impl Fleet {
     /// The name of a machine and the place of its host, if there is one at this place, from 0 on:
     /// that of the number 1 is at place 0.
     pub fn vm_at(&self, place: u32) -> Option<(&str, u32)>
-        ensures { option_map {U = List ℕ × ℕ} (λ p. (p.0.now, p.1)) result
+        ensures vm { option_map {U = List ℕ × ℕ} (λ p. (p.0.now, p.1)) result
             ≡ option_map (λ vm. (vm.name, vm.host)) (slice_get self.now.vms place) }
+        ensures sound { IsFleet self.now }
     {
         let name = self.vms.name_at(place as usize)?;
         let vm = self.vms.at(place as usize)?;
@@ -184,5 +182,16 @@ impl Fleet {
         let host = self.vms.at(place).unwrap().host;
         let vm = Vm::of(host, machine);
         let _ = self.vms.replace(place, vm);
+    }
+}
+
+impl fmt::Debug for Fleet {
+    fn fmt<W: fmt::Write>(&self, f: &mut fmt::Formatter<W>) -> fmt::Result {
+        write!(
+            f,
+            "Fleet {{ hosts: {}, vms: {} }}",
+            self.hosts.len(),
+            self.vms.len()
+        )
     }
 }

@@ -7,10 +7,12 @@ mod laws;
 mod limits;
 mod name_map;
 mod refusals;
-mod sizes;
 mod vm;
 
 pub use fleet::Fleet;
-pub use laws::{fleets_go_on, lowers_what_was_lifted};
+pub use laws::{
+    fleets_go_on, found_after_adding, lowers_what_was_lifted, machines_stay_in, names_lead_there,
+    others_stay,
+};
 pub use limits::{MAX_HOSTS, MAX_VMS};
 pub use refusals::FleetRefused;

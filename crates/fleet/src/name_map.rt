@@ -2,8 +2,8 @@
 ghost use Rattle.std.specs.Prelude.{◌≡◌, ◌<◌, [], ◌∷◌, ◌++◌, length, None, option_copied, option_map, slice_get, slice_set, OnErr, OnOk};
 ghost use Rattle.fleet.specs.NameMap.{place_of, value_at, with_value_at};
 
-use basics::NoMemory;
 use indexmap::IndexMap;
+use sector_model::NoMemory;
 use std::alloc::Global;
 use std::marker::Model;
 use std::mem;

@@ -3,8 +3,7 @@ ghost use Rattle.std.specs.Prelude.{◌≡◌};
 ghost use Rattle.fleet.specs.Refusals.{refusal_number};
 ghost use Rattle.fleet.specs.declared.refusals.FleetRefused.TheVariants.{NoMemory as Wanted};
 
-use basics::NoMemory;
-use std::alloc::{AllocError, AllocFailed};
+use sector_model::NoMemory;
 use std::error::Error;
 use std::fmt;
 
@@ -57,22 +56,6 @@ impl From<NoMemory> for FleetRefused {
     ghost from_gives = { λ _ refusal. refusal ≡ Wanted };
 
     fn from(_refused: NoMemory) -> Self {
-        FleetRefused::NoMemory
-    }
-}
-
-impl From<AllocError> for FleetRefused {
-    ghost from_gives = { λ _ refusal. refusal ≡ Wanted };
-
-    fn from(_refused: AllocError) -> Self {
-        FleetRefused::NoMemory
-    }
-}
-
-impl<T: Drop> From<AllocFailed<T>> for FleetRefused {
-    ghost from_gives = { λ _ refusal. refusal ≡ Wanted };
-
-    fn from(_refused: AllocFailed<T>) -> Self {
         FleetRefused::NoMemory
     }
 }

@@ -1,15 +1,13 @@
 -- Each refusal is the one that the tests before it leave, and the fleet stays sound.
 use Rattle.std.proofs.Common.{◌≡◌, ◌+◌, ◌<◌, true, false, is_some, None, Some, length, refl, ap, ◌∙◌, sym}
 use Rattle.std.proofs.lemmas.List.Quantifiers.{position-Some}
-use Rattle.source_vm.specs.Machine.{fresh}
+use Rattle.source_vm.specs.Machine.{fresh, may_have_disks}
 use Rattle.fleet.specs.NameMap.{place_of}
 use Rattle.fleet.specs.Fleet.{host_place, with_vm, with_vm_under}
 use Rattle.fleet.specs.Kept.{fleet_state}
-use Rattle.fleet.specs.Refusals.{may_be_disks}
 use Rattle.fleet.proofs.Kept.{IsKept-vm, shows_vm, host_place-kept}
 use Rattle.fleet.proofs.Places.{none_is}
 use Rattle.fleet.proofs.Refused.{vm_taken, no_host, bad_size, vms_full, vm_fits, none_stands}
-use Rattle.fleet.proofs.MayHave.{may_have}
 use Rattle.fleet.proofs.fleet.Fleet.add_vm.Goals as goal
 
 pub returns-then-is_some-clause-refused : goal.returns-then-is_some-clause-refused
@@ -27,14 +25,14 @@ returns-in_default-clause-refused c =
     c.args.name.now c.args.host.now c.args.capacities.now new
     (sym c.place_of-2.ensures ∙ c.in_default.is)) refl
 
-pub returns-then-not-may_be_disks-clause-refused : goal.returns-then-not-may_be_disks-clause-refused
-returns-then-not-may_be_disks-clause-refused c =
+pub returns-then-not-may_have_disks-clause-refused : goal.returns-then-not-may_have_disks-clause-refused
+returns-then-not-may_have_disks-clause-refused c =
     let new : is_some (place_of c.args.name.now c.self.inside.vms) ≡ false =
         ap is_some (sym c.place_of.ensures) ∙ sym c.is_some.ensures ∙ c.if-is_some.false in
     rw (bad_size c.self.inside.hosts c.self.inside.vms c.args.self.now c.self.view_is
     c.args.name.now c.args.host.now c.args.capacities.now c.in-Some.place new
     (sym c.place_of-2.ensures ∙ c.in-Some.is)
-    (sym c.may_be_disks.ensures ∙ c.if-not-may_be_disks.true)) refl
+    (sym c.may_have_disks.ensures ∙ c.if-not-may_have_disks.true)) refl
 
 pub returns-then-len-ge-MAX_VMS-clause-refused : goal.returns-then-len-ge-MAX_VMS-clause-refused
 returns-then-len-ge-MAX_VMS-clause-refused c =
@@ -43,7 +41,7 @@ returns-then-len-ge-MAX_VMS-clause-refused c =
     rw (vms_full c.self.inside.hosts c.self.inside.vms c.args.self.now c.self.view_is
     c.args.name.now c.args.host.now c.args.capacities.now c.in-Some.place new
     (sym c.place_of-2.ensures ∙ c.in-Some.is)
-    (sym c.may_be_disks.ensures ∙ c.if-not-may_be_disks.false)
+    (sym c.may_have_disks.ensures ∙ c.if-not-may_have_disks.false)
     (rw (← c.len.ensures) c.if-len-ge-MAX_VMS.true)) refl
 
 pub returns-in_err-machine-clause-refused : goal.returns-in_err-machine-clause-refused
@@ -54,7 +52,7 @@ returns-in_err-machine-clause-refused c =
     (vm_fits c.self.inside.hosts c.self.inside.vms c.args.self.now c.self.view_is
     c.args.name.now c.args.host.now c.args.capacities.now c.in-Some.place new
     (sym c.place_of-2.ensures ∙ c.in-Some.is)
-    (sym c.may_be_disks.ensures ∙ c.if-not-may_be_disks.false)
+    (sym c.may_have_disks.ensures ∙ c.if-not-may_have_disks.false)
     (rw (← c.len.ensures) c.if-len-ge-MAX_VMS.false)) c.from_residual.ensures.1
 
 pub returns-in_err-push-clause-refused : goal.returns-in_err-push-clause-refused
@@ -65,7 +63,7 @@ returns-in_err-push-clause-refused c =
     (vm_fits c.self.inside.hosts c.self.inside.vms c.args.self.now c.self.view_is
     c.args.name.now c.args.host.now c.args.capacities.now c.in-Some.place new
     (sym c.place_of-2.ensures ∙ c.in-Some.is)
-    (sym c.may_be_disks.ensures ∙ c.if-not-may_be_disks.false)
+    (sym c.may_have_disks.ensures ∙ c.if-not-may_have_disks.false)
     (rw (← c.len.ensures) c.if-len-ge-MAX_VMS.false)) c.from_residual-in_err-push.ensures.1
 
 pub invariant_of-self-2 : goal.invariant_of-self-2
@@ -81,7 +79,7 @@ invariant_of-self-2 c =
     (IsKept-vm c.self.inside.hosts c.self.inside.vms c.args.name.now c.of-vm.result c.in-Some.place
     c.args.capacities.now c.of-vm.ensures.host made c.self.invariant c.requires
     (position-Some _ c.self.inside.hosts c.in-Some.place (c.args.name.now, record { limit = 0 }) known).0
-    (may_have c.args.capacities.now (sym c.may_be_disks.ensures ∙ c.if-not-may_be_disks.false))
+    (sym c.may_have_disks.ensures ∙ c.if-not-may_have_disks.false)
     (none_is _ new) (rw (← c.len.ensures) c.if-len-ge-MAX_VMS.false))
 
 pub returns-clause-ok : goal.returns-clause-ok
@@ -105,5 +103,5 @@ returns-clause-refused c =
     rw (vm_fits c.self.inside.hosts c.self.inside.vms c.args.self.now c.self.view_is
     c.args.name.now c.args.host.now c.args.capacities.now c.in-Some.place new
     (sym c.place_of-2.ensures ∙ c.in-Some.is)
-    (sym c.may_be_disks.ensures ∙ c.if-not-may_be_disks.false)
+    (sym c.may_have_disks.ensures ∙ c.if-not-may_have_disks.false)
     (rw (← c.len.ensures) c.if-len-ge-MAX_VMS.false)) tt
