@@ -2,10 +2,10 @@
 -- that were touched between two freezes, beside how many freezes came before.
 use Rattle.std.specs.Prelude.{◌≡◌, ℕ, ◌/◌, ◌%◌, ◌<◌, ◌≤◌, ◌==◌, ◌&&◌, ◌||◌, nat_lt, nat_le, List, Bool, true, false, Option, Some, None, IsSomeAnd, IfSome}
 use Rattle.std.specs.List.{list_any}
-use Rattle.std.specs.Int.{bit_at}
 use Rattle.std.specs.Map.{lookup}
 use Rattle.std.specs.Ordering.{nat_cmp}
 use Rattle.std.specs.BTreeMap.{is_at}
+use Rattle.basics.specs.Bits.{has_bit}
 use Rattle.sector_model.specs.Run.{blocks_where, areas_of}
 use Rattle.sector_model.specs.declared.run.Run.{Run}
 use Rattle.change_tracker.specs.declared.word.Touch.{Touch}
