@@ -1,8 +1,7 @@
 //! The rows of a listing, each a copy of what the fleet has.
-ghost use Rattle.std.specs.Prelude.{◌≡◌, ◌+◌, IfOk, IfSome, IsSomeAnd, Some, slice_get};
-ghost use Rattle.fleet.specs.Fleet.{vm_in, machine_of};
+ghost use Rattle.std.specs.Prelude.{◌≡◌, ◌<◌, length, slice_get, IfOk};
 ghost use Rattle.fleet.specs.Sound.{AllAreIn};
-ghost use Rattle.inventory.specs.Rows.{host_rows, vm_row, vm_rows};
+ghost use Rattle.inventory.specs.Rows.{host_rows, vm_rows};
 
 use basics::{NoMemory, Sequence, Text};
 use fleet::Fleet;
@@ -39,7 +38,6 @@ pub struct VmRow {
 pub fn hosts(alloc: Global, fleet: &Fleet) -> Result<Sequence<HostRow>, NoMemory>
     ensures { IfOk result (λ rows. rows ≡ host_rows fleet.now) }
 {
-    fleet.is_sound();
     let mut rows = Vec::new(alloc);
     let mut place = 0;
     while let Some((name, limit)) = fleet.host_at(place) {
@@ -56,34 +54,29 @@ pub fn machines(alloc: Global, fleet: &Fleet) -> Result<Sequence<VmRow>, NoMemor
     requires { AllAreIn fleet.now }
     ensures { IfOk result (λ rows. rows ≡ vm_rows fleet.now) }
 {
-    fleet.is_sound();
     let mut rows = Vec::new(alloc);
-    let mut number = 1;
-    while let Some(machine) = fleet.machine(number) {
-        rows.push(row_of(alloc, fleet, number, machine)?)?;
-        number += 1;
+    let mut place = 0;
+    while fleet.vm_at(place).is_some() {
+        let row = row_of(alloc, fleet, place)?;
+        rows.push(row)?;
+        place += 1;
     }
     Ok(Sequence::from_vec(rows))
 }
 
-/// The row of the machine with a number, which is in.
-fn row_of(
-    alloc: Global,
-    fleet: &Fleet,
-    number: u32,
-    machine: &Machine,
-) -> Result<VmRow, NoMemory>
-    requires { machine_of number fleet.now ≡ Some machine.now }
-    ensures { IfOk result (λ row. IsSomeAnd (vm_in number fleet.now)
-        (λ vm. row ≡ vm_row fleet.now.hosts number vm)) }
+/// The row of the machine at a place, from 0 on.
+fn row_of(alloc: Global, fleet: &Fleet, place: u32) -> Result<VmRow, NoMemory>
+    requires place { place < length fleet.now.vms }
+    requires all_in { AllAreIn fleet.now }
+    ensures { IfOk result (λ row. slice_get (vm_rows fleet.now) place ≡ Some row) }
 {
-    fleet.is_sound();
-    let (name, host) = fleet.vm_at(number - 1).unwrap();
+    let (name, host) = fleet.vm_at(place).unwrap();
     let (host, _) = fleet.host_at(host).unwrap();
+    let machine = fleet.machine(place + 1).unwrap();
     let facts = machine.look();
     Ok(VmRow {
         name: Text::of(alloc, name)?,
-        number,
+        number: place + 1,
         host: Text::of(alloc, host)?,
         capacities: capacities_of(alloc, machine)?,
         on: facts.on,
