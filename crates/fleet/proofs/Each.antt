@@ -1,5 +1,5 @@
--- What is true of the item at each place of a list stays so, where one is added behind and where one
--- is replaced.
+-- What is true of the item at each place of a list stays so, where one is added behind and where
+-- one is replaced.
 use Rattle.std.proofs.Common.{◌≡◌, ℕ, zero, suc, List, [], ◌∷◌, ◌++◌, length, set, Some, subst, slice_get}
 use Rattle.std.proofs.lemmas.Option.{none-some, same_Some}
 

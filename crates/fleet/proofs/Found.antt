@@ -23,9 +23,11 @@ named_at : {X : Type 0} (name_of : X → List ℕ) (name : List ℕ) (xs : List 
     → position (λ x. bytes_eq name (name_of x)) xs ≡ Some place
     → (x : X) × (slice_get xs place ≡ Some x) × (name_of x ≡ name)
 named_at name_of name xs place d at =
-    let found = position-Some (λ x. bytes_eq name (name_of x)) xs place d at in
-    (get_or xs place d, slice_get-get_or xs place d found.0,
-    sym ((bytes_eq-Decides name (name_of (get_or xs place d))).0 found.1))
+    let found = position-Some (λ x. bytes_eq name (name_of x)) xs place d at in (
+      get_or xs place d,
+      slice_get-get_or xs place d found.0,
+      sym ((bytes_eq-Decides name (name_of (get_or xs place d))).0 found.1),
+    )
 
 pub names_lead_to_hosts : (name : List ℕ) (place : ℕ) (fleet : FleetState)
     → host_place name fleet ≡ Some place
@@ -57,11 +59,15 @@ numbers_stay number log name fleet = by (vm_of number fleet) refl
     by (Some vm) is =
         let new : VmState = record vm { log = log } in
         let same : bytes_eq name new.name ≡ bytes_eq name (get_or fleet.vms (number - 1) vm).name =
-            ap (λ (v : VmState). bytes_eq name v.name)
-            (sym (get_or_from_slice_get fleet.vms (number - 1) vm vm (at_place number vm fleet is))) in
-        rw (log_is number vm fleet is log,
-        position_or_len-set (λ (v : VmState). bytes_eq name v.name) fleet.vms (number - 1) new vm same,
-        length-set fleet.vms (number - 1) new) refl
+        ap (λ (v : VmState). bytes_eq name v.name)
+        (sym (get_or_from_slice_get fleet.vms (number - 1) vm vm
+        (at_place number vm fleet is))) in
+        rw (
+          log_is number vm fleet is log,
+          position_or_len-set (λ (v : VmState). bytes_eq name v.name) fleet.vms (number - 1) new vm
+              same,
+          length-set fleet.vms (number - 1) new,
+        ) refl
 
 -- ---- taken out
 
@@ -75,7 +81,8 @@ lifted_is number before fleet h = by (vm_of number fleet) refl h
         → option_map (link_of MIGRATION_CALLER) (option_map {T = VmState} {U = MachineState}
         (λ vm. record { number = number; capacities = vm.capacities; log = vm.log })
         (option_and_then (λ vm. if vm.out then None else Some vm) o)) ≡ Some before
-        → (vm : VmState) × (vm_of number fleet ≡ Some vm) × (vm.out ≡ false) × (before.machine ≡ number)
+        → (vm : VmState) × (vm_of number fleet ≡ Some vm) × (vm.out ≡ false)
+        × (before.machine ≡ number)
     by None is e = absurd (none-some before e)
     by (Some vm) is e = in_or_out vm.out refl e
       where
@@ -103,7 +110,7 @@ lowers_what_was_lifted number before after fleet out same =
     let back : VmState = record vm { log = after.seen; out = false } in
     let number_is : after.machine ≡ number = same ∙ l.3 in
     let found : vm_of number (with_vm_at number there fleet) ≡ Some there =
-        found_changed number vm fleet l.1 there in
+    found_changed number vm fleet l.1 there in
     ap (after_lower after) (after_lift_is number vm fleet l.1 l.2)
     ∙ rw (number_is, found) (later_counts number vm fleet l.1 there back)
     ∙ ap (λ out. with_vm_at number (record vm { log = after.seen; out = out }) fleet) (sym l.2)

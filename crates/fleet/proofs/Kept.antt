@@ -37,8 +37,8 @@ module _ (hosts : List (List ℕ × Host)) (vms : List (List ℕ × Vm)) where
       → length hosts < MAX_HOSTS → IsKept (hosts ++ (name, host) ∷ []) vms
   IsKept-host name host is named at_least at_most new room = record {
     sound = rw (shows_host name host) (IsFleet-with_host name host.limit (fleet_state hosts vms)
-      is.sound named at_least at_most (host_place-kept name ∙ new)
-      (rw (length-map hosts host_state) room));
+        is.sound named at_least at_most (host_place-kept name ∙ new)
+        (rw (length-map hosts host_state) room));
     numbered = is.numbered;
   }
 
@@ -53,8 +53,8 @@ module _ (hosts : List (List ℕ × Host)) (vms : List (List ℕ × Vm)) where
         → IsKept hosts (vms ++ (name, vm) ∷ [])
     IsKept-vm is named there disks new room = record {
       sound = rw shows_vm (IsFleet-with_vm name place capacities (fleet_state hosts vms) is.sound
-        named (rw (length-map hosts host_state) there) disks (vm_place-kept name ∙ new)
-        (rw (length-map vms vm_state) room));
+          named (rw (length-map hosts host_state) there) disks (vm_place-kept name ∙ new)
+          (rw (length-map vms vm_state) room));
       numbered = Each-push (λ k entry. (machine_under entry.1).number ≡ k + 1) vms (name, vm)
-        is.numbered (rw new_one refl);
+          is.numbered (rw new_one refl);
     }

@@ -54,7 +54,8 @@ module _ (number : ℕ) (vm : VmState) (fleet : FleetState) (is : vm_of number f
       (set_else fleet.vms (number - 1) (suc other - 1) new apart)
 
   pub same_is_nothing : with_vm_at number vm fleet ≡ fleet
-  same_is_nothing = ap (λ vms. record fleet { vms = vms }) (set_back fleet.vms (number - 1) vm at_place)
+  same_is_nothing =
+      ap (λ vms. record fleet { vms = vms }) (set_back fleet.vms (number - 1) vm at_place)
 
   pub later_counts : (new later : VmState)
       → with_vm_at number later (with_vm_at number new fleet) ≡ with_vm_at number later fleet
@@ -106,7 +107,8 @@ later_log number log later fleet = by (vm_of number fleet) refl
     by (Some vm) is =
         let new : VmState = record vm { log = log } in
         ap (with_log number later) (log_is number vm fleet is log)
-        ∙ log_is number new (with_vm_at number new fleet) (found_changed number vm fleet is new) later
+        ∙ log_is number new (with_vm_at number new fleet) (found_changed number vm fleet is new)
+        later
         ∙ later_counts number vm fleet is new (record vm { log = later })
         ∙ sym (log_is number vm fleet is later)
 

@@ -33,9 +33,11 @@ with_bytes-set {Z} {V} (e ∷ entries) (suc place) value =
   where
     outside : (found : Option (List ℕ × V))
         → (string_bytes e.0, e.1)
-        ∷ option_map_or (λ x. slice_set (with_bytes entries) place (x.0, value)) found (with_bytes entries)
-        ≡ option_map_or (λ x. (string_bytes e.0, e.1) ∷ slice_set (with_bytes entries) place (x.0, value))
-        found ((string_bytes e.0, e.1) ∷ with_bytes entries)
+        ∷ option_map_or (λ x. slice_set (with_bytes entries) place (x.0, value)) found
+        (with_bytes entries)
+        ≡ option_map_or
+        (λ x. (string_bytes e.0, e.1) ∷ slice_set (with_bytes entries) place (x.0, value)) found
+        ((string_bytes e.0, e.1) ∷ with_bytes entries)
     outside None = refl
     outside (Some x) = refl
 
@@ -65,8 +67,8 @@ pub with_bytes-insert : {Z V : Type 0} (entries : List (String Z × V)) (key : S
     ≡ with_bytes entries ++ (string_bytes key, value) ∷ []
 with_bytes-insert {Z} {V} entries key value h =
     let gone : lookup (string_eq key) entries ≡ None =
-        none_is _ (sym (some_index (string_eq key) entries)
-        ∙ ap is_some (place_of-keys (string_bytes key) entries ∙ h)) in
+    none_is _ (sym (some_index (string_eq key) entries)
+    ∙ ap is_some (place_of-keys (string_bytes key) entries ∙ h)) in
     ap with_bytes (insert_entry-absent string_eq key value entries
     (absent_from_lookup (string_eq key) entries gone))
     ∙ map-append _ entries ((key, value) ∷ [])

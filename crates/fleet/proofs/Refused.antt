@@ -88,8 +88,10 @@ module _ (hosts : List (List ℕ × Host)) (vms : List (List ℕ × Vm)) (fleet 
 
       pub vms_full : may_have_disks capacities ≡ true → MAX_VMS ≤ length vms
           → add_vm_refusal name host capacities fleet ≡ Some TooMany
-      vms_full good full = rw (is_vm false new, at, good, vm_count, le_told MAX_VMS (length vms) full) refl
+      vms_full good full =
+          rw (is_vm false new, at, good, vm_count, le_told MAX_VMS (length vms) full) refl
 
       pub vm_fits : may_have_disks capacities ≡ true → length vms < MAX_VMS
           → add_vm_refusal name host capacities fleet ≡ None
-      vm_fits good room = rw (is_vm false new, at, good, vm_count, lt_told MAX_VMS (length vms) room) refl
+      vm_fits good room =
+          rw (is_vm false new, at, good, vm_count, lt_told MAX_VMS (length vms) room) refl

@@ -66,28 +66,28 @@ module _ (hosts : List (List ℕ × Host)) (vms : List (List ℕ × Vm)) (fleet 
     IsKept-replaced is host number capacities legal =
         let before = fleet_state hosts vms in
         let at : slice_get before.vms place ≡ Some (vm_state (name, old)) =
-            slice_get-map vm_state vms place ∙ ap (option_map vm_state) entry in
+        slice_get-map vm_state vms place ∙ ap (option_map vm_state) entry in
         let was = IsVm-at place (vm_state (name, old)) before is.sound at in
         let same : fleet_state hosts (with_value_at place new vms)
-            ≡ record before { vms = set before.vms place (vm_state (name, new)) } =
-            rw (entry, map-set vm_state vms place (name, new)) refl in
+        ≡ record before { vms = set before.vms place (vm_state (name, new)) } =
+        rw (entry, map-set vm_state vms place (name, new)) refl in
         record {
           sound = rw same (IsFleet-set place (vm_state (name, old)) (vm_state (name, new)) before
-            is.sound at refl (record {
-              named = was.named;
-              hosted = rw host was.hosted;
-              disks = rw capacities was.disks;
-              legal = legal;
-            }));
+              is.sound at refl (record {
+                named = was.named;
+                hosted = rw host was.hosted;
+                disks = rw capacities was.disks;
+                legal = legal;
+              }));
           numbered = rw entry (Each-set (λ k e. (machine_under e.1).number ≡ k + 1) vms place
-            (name, new) is.numbered (number ∙ is.numbered place (name, old) entry));
+              (name, new) is.numbered (number ∙ is.numbered place (name, old) entry));
         }
 
   same_log : (machine : MachineState) → machine_under old ≡ machine → IsKept hosts vms
       → Legal (all_of machine.capacities) machine.log
   same_log machine same is =
       let at : slice_get (map vm_state vms) place ≡ Some (vm_state (name, old)) =
-          slice_get-map vm_state vms place ∙ ap (option_map vm_state) entry in
+      slice_get-map vm_state vms place ∙ ap (option_map vm_state) entry in
       subst (λ (m : MachineState). Legal (all_of m.capacities) m.log) same
       (IsVm-at place (vm_state (name, old)) (fleet_state hosts vms) is.sound at).legal
 
@@ -103,7 +103,7 @@ module _ (hosts : List (List ℕ × Host)) (vms : List (List ℕ × Vm)) (fleet 
     pub lifts : IsKept hosts vms → lifted number fleet ≡ Some (link_of MIGRATION_CALLER machine)
     lifts is =
         let same : machine.number ≡ number = ap (λ (m : MachineState). m.number) (sym was)
-            ∙ is.numbered place (name, old) entry ∙ sym is_number in
+        ∙ is.numbered place (name, old) entry ∙ sym is_number in
         rw (is_in, has, same) refl
 
     pub shows_lifted : (new : Vm) → new.host ≡ old.host → new.machine ≡ None
@@ -124,7 +124,10 @@ module _ (hosts : List (List ℕ × Host)) (vms : List (List ℕ × Vm)) (fleet 
   module _ (link : LinkState) (is_number : link.machine ≡ place + 1)
       (may : MayGoBack link fleet) (new : Vm) (host : new.host ≡ old.host)
       (has : new.machine ≡ Some (record {
-        number = link.machine; capacities = link.capacities; log = link.seen })) where
+        number = link.machine;
+        capacities = link.capacities;
+        log = link.seen;
+      })) where
     is_over : IsOver (vm_state (name, old)) link
     is_over = rw (vm_of-at link.machine place fleet is_number ∙ shows_old) at may
 
@@ -132,7 +135,7 @@ module _ (hosts : List (List ℕ × Host)) (vms : List (List ℕ × Vm)) (fleet 
     shows_lowered =
         let back : link.machine - 1 ≡ place = omega (arith, is_number) in
         let found : vm_of link.machine fleet ≡ Some (vm_state (name, old)) =
-            vm_of-at link.machine place fleet is_number ∙ shows_old in
+        vm_of-at link.machine place fleet is_number ∙ shows_old in
         shows_new new ∙ rw (found, has, host, back, is_over.capacities) refl
 
     pub IsKept-lowered : Legal (all_of link.capacities) link.seen → IsKept hosts vms

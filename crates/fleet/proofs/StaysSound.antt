@@ -41,12 +41,12 @@ pub IsFleet-with_host : (name : List ℕ) (limit : ℕ) (fleet : FleetState) →
 IsFleet-with_host name limit fleet is named at_least at_most new room =
     let host : HostState = record { name = name; limit = limit } in
     let longer : length (fleet.hosts ++ host ∷ []) ≡ length fleet.hosts + 1 =
-        length-append fleet.hosts (host ∷ []) in
+    length-append fleet.hosts (host ∷ []) in
     record {
       hosts = All-push IsHost fleet.hosts host is.hosts
-        (record { named = named; at_least = at_least; at_most = at_most });
+          (record { named = named; at_least = at_least; at_most = at_most });
       vms = λ k d within. more_hosts (length fleet.hosts) (length (fleet.hosts ++ host ∷ [])) _
-        (omega (arith, longer)) (is.vms k d within);
+          (omega (arith, longer)) (is.vms k d within);
       host_names = new_behind (λ (h : HostState). h.name) fleet.hosts host new is.host_names;
       vm_names = is.vm_names;
       few_hosts = omega (arith, longer, room);
@@ -54,7 +54,8 @@ IsFleet-with_host name limit fleet is named at_least at_most new room =
     }
 
 pub empty_is_legal : (capacities : List ℕ) → Legal (all_of capacities) []
-empty_is_legal capacities = record { short = omega arith; each = λ place e h. absurd (none-some e h) }
+empty_is_legal capacities =
+    record { short = omega arith; each = λ place e h. absurd (none-some e h) }
 
 pub IsFleet-with_vm : (name : List ℕ) (place : ℕ) (capacities : List ℕ) (fleet : FleetState)
     → IsFleet fleet → IsName name → place < length fleet.hosts → may_have_disks capacities ≡ true
@@ -62,13 +63,22 @@ pub IsFleet-with_vm : (name : List ℕ) (place : ℕ) (capacities : List ℕ) (f
     → length fleet.vms < MAX_VMS → IsFleet (with_vm name place capacities fleet)
 IsFleet-with_vm name place capacities fleet is named hosted disks new room =
     let vm : VmState = record {
-      name = name; host = place; capacities = capacities; log = []; out = false } in
+      name = name;
+      host = place;
+      capacities = capacities;
+      log = [];
+      out = false;
+    } in
     let longer : length (fleet.vms ++ vm ∷ []) ≡ length fleet.vms + 1 =
-        length-append fleet.vms (vm ∷ []) in
+    length-append fleet.vms (vm ∷ []) in
     record {
       hosts = is.hosts;
       vms = All-push (IsVm (length fleet.hosts)) fleet.vms vm is.vms (record {
-        named = named; hosted = hosted; disks = disks; legal = empty_is_legal capacities });
+        named = named;
+        hosted = hosted;
+        disks = disks;
+        legal = empty_is_legal capacities;
+      });
       host_names = is.host_names;
       vm_names = new_behind (λ (v : VmState). v.name) fleet.vms vm new is.vm_names;
       few_hosts = is.few_hosts;
@@ -91,9 +101,10 @@ IsFleet-set place old vm fleet is at same is_vm = record {
   vms = All-set (IsVm (length fleet.hosts)) fleet.vms place vm is_vm is.vms;
   host_names = is.host_names;
   vm_names = let names : map (λ (v : VmState). v.name) (set fleet.vms place vm)
-          ≡ map (λ (v : VmState). v.name) fleet.vms =
-        map-set_same (λ (v : VmState). v.name) fleet.vms place vm vm
-        (same ∙ sym (ap (λ (v : VmState). v.name) (get_or_from_slice_get fleet.vms place old vm at))) in
+      ≡ map (λ (v : VmState). v.name) fleet.vms =
+      map-set_same (λ (v : VmState). v.name) fleet.vms place vm vm
+      (same ∙ sym (ap (λ (v : VmState). v.name)
+      (get_or_from_slice_get fleet.vms place old vm at))) in
       rw names is.vm_names;
   few_hosts = is.few_hosts;
   few_vms = rw (length-set fleet.vms place vm) is.few_vms;

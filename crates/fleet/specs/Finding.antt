@@ -54,7 +54,12 @@ abbrev pub NewIsFound : Type 0
 NewIsFound = (name host capacities : List ℕ) (place : ℕ) (fleet : FleetState)
     → host_place host fleet ≡ Some place
     → vm_of (length fleet.vms + 1) (with_vm_under name host capacities fleet) ≡ Some (record {
-      name = name; host = place; capacities = capacities; log = []; out = false })
+      name = name;
+      host = place;
+      capacities = capacities;
+      log = [];
+      out = false;
+    })
 
 abbrev pub KnownNamesStay : Type 0
 KnownNamesStay = (known : List ℕ) (number : ℕ) (name host capacities : List ℕ)

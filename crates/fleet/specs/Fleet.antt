@@ -1,6 +1,6 @@
 -- The hosts and machines of a fleet as plain data. Both stand in the order in which they were
--- added, which numbers them: hosts have places from 0 on, machines have numbers from 1 on. Hosts and
--- machines have names of their own kind, so a host and a machine may share one.
+-- added, which numbers them: hosts have places from 0 on, machines have numbers from 1 on. Hosts
+-- and machines have names of their own kind, so a host and a machine may share one.
 use Rattle.std.specs.Prelude.{◌≡◌, ℕ, ◌+◌, ◌-◌, List, [], ◌∷◌, ◌++◌, length, take, slice_get, slice_set, Bool, true, false, nat_le, if◌then◌else◌, Option, Some, None, option_map, option_and_then, position}
 use Rattle.std.specs.Option.{option_map_or}
 use Rattle.std.specs.Str.{bytes_eq}

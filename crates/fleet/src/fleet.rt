@@ -53,8 +53,8 @@ impl Fleet {
 
     /// Adds a host. `name` is a name of 1 to 32 bytes of `a` to `z`, `0` to `9` and `-`, and
     /// `limit` is how many disks that are copied from the host may be in flight, 1 to
-    /// [`MAX_HOST_LIMIT`](basics::MAX_HOST_LIMIT). [`FleetRefused::NameTaken`] where a host has that name, then
-    /// [`FleetRefused::TooMany`] where there are [`MAX_HOSTS`] hosts, and
+    /// [`MAX_HOST_LIMIT`](basics::MAX_HOST_LIMIT). [`FleetRefused::NameTaken`] where a host has
+    /// that name, then [`FleetRefused::TooMany`] where there are [`MAX_HOSTS`] hosts, and
     /// [`FleetRefused::NoMemory`]. A refused call changes nothing.
     pub fn add_host(&mut self, name: &str, limit: u32) -> Result<(), FleetRefused>
         requires named { IsName name.now }
@@ -79,8 +79,9 @@ impl Fleet {
     /// for the first one, then 2 and so on. `name` is a name as for [`Fleet::add_host`], and
     /// `capacities` are the sizes of its disks in sectors. [`FleetRefused::NameTaken`] where a
     /// machine has that name; [`FleetRefused::UnknownHost`] where no host has that one;
-    /// [`FleetRefused::BadSize`] where there aren't 1 to [`MAX_DISKS`](basics::MAX_DISKS) capacities of 1 to
-    /// [`MAX_DISK_SECTORS`](basics::MAX_DISK_SECTORS); [`FleetRefused::TooMany`] where there are [`MAX_VMS`] machines; and
+    /// [`FleetRefused::BadSize`] where there aren't 1 to [`MAX_DISKS`](basics::MAX_DISKS)
+    /// capacities of 1 to [`MAX_DISK_SECTORS`](basics::MAX_DISK_SECTORS);
+    /// [`FleetRefused::TooMany`] where there are [`MAX_VMS`] machines; and
     /// [`FleetRefused::NoMemory`]. A refused call changes nothing.
     pub fn add_vm(
         &mut self,

@@ -45,7 +45,10 @@ fn sixty_four_hosts(rt: HostRuntime) -> Result<(), Fail> {
         add_host(&mut fleet, name.as_str())?;
     }
     assert_eq!(rt; add_host(&mut fleet, "host-64"), Err(FleetRefused::TooMany));
-    assert_eq!(rt; add_host(&mut fleet, "host-63"), Err(FleetRefused::NameTaken));
+    assert_eq!(rt;
+        add_host(&mut fleet, "host-63"),
+        Err(FleetRefused::NameTaken)
+    );
     assert_eq!(rt; fleet.host_at(63), Some(("host-63", 20)));
     assert_eq!(rt; fleet.host_at(64), None);
     Ok(())
@@ -58,9 +61,18 @@ fn sixty_four_machines(rt: HostRuntime) -> Result<(), Fail> {
         let name = format!(in rt.alloc(); "vm-{place}")?;
         assert_eq!(rt; add_vm(&mut fleet, name.as_str(), &[1])?, place as u32 + 1);
     }
-    assert_eq!(rt; add_vm(&mut fleet, "vm-64", &[1]), Err(FleetRefused::TooMany));
-    assert_eq!(rt; add_vm(&mut fleet, "vm-64", &[]), Err(FleetRefused::BadSize));
-    assert_eq!(rt; add_vm(&mut fleet, "vm-63", &[1]), Err(FleetRefused::NameTaken));
+    assert_eq!(rt;
+        add_vm(&mut fleet, "vm-64", &[1]),
+        Err(FleetRefused::TooMany)
+    );
+    assert_eq!(rt;
+        add_vm(&mut fleet, "vm-64", &[]),
+        Err(FleetRefused::BadSize)
+    );
+    assert_eq!(rt;
+        add_vm(&mut fleet, "vm-63", &[1]),
+        Err(FleetRefused::NameTaken)
+    );
     assert_eq!(rt; fleet.number_of("vm-63"), Some(64));
     assert_eq!(rt; fleet.number_of("vm-64"), None);
     assert_eq!(rt; fleet.vm_at(63), Some(("vm-63", 0)));
@@ -72,9 +84,18 @@ fn sixty_four_machines(rt: HostRuntime) -> Result<(), Fail> {
 fn disks_of_a_machine(rt: HostRuntime) -> Result<(), Fail> {
     let mut fleet = with_host(rt.alloc())?;
     assert_eq!(rt; add_vm(&mut fleet, "a", &[]), Err(FleetRefused::BadSize));
-    assert_eq!(rt; add_vm(&mut fleet, "a", &[1; 17]), Err(FleetRefused::BadSize));
-    assert_eq!(rt; add_vm(&mut fleet, "a", &[1, 0]), Err(FleetRefused::BadSize));
-    assert_eq!(rt; add_vm(&mut fleet, "a", &[(1 << 29) + 1]), Err(FleetRefused::BadSize));
+    assert_eq!(rt;
+        add_vm(&mut fleet, "a", &[1; 17]),
+        Err(FleetRefused::BadSize)
+    );
+    assert_eq!(rt;
+        add_vm(&mut fleet, "a", &[1, 0]),
+        Err(FleetRefused::BadSize)
+    );
+    assert_eq!(rt;
+        add_vm(&mut fleet, "a", &[(1 << 29) + 1]),
+        Err(FleetRefused::BadSize)
+    );
     assert_eq!(rt; add_vm(&mut fleet, "a", &[1; 16])?, 1);
     assert_eq!(rt; add_vm(&mut fleet, "b", &[1 << 29])?, 2);
     Ok(())
@@ -83,13 +104,22 @@ fn disks_of_a_machine(rt: HostRuntime) -> Result<(), Fail> {
 #[test]
 fn names_of_hosts_and_machines(rt: HostRuntime) -> Result<(), Fail> {
     let mut fleet = with_host(rt.alloc())?;
-    assert_eq!(rt; add_vm_to(&mut fleet, "a", "g", &[]), Err(FleetRefused::UnknownHost));
+    assert_eq!(rt;
+        add_vm_to(&mut fleet, "a", "g", &[]),
+        Err(FleetRefused::UnknownHost)
+    );
     assert_eq!(rt; add_vm(&mut fleet, "h", &[1])?, 1);
-    assert_eq!(rt; add_vm_to(&mut fleet, "h", "g", &[]), Err(FleetRefused::NameTaken));
+    assert_eq!(rt;
+        add_vm_to(&mut fleet, "h", "g", &[]),
+        Err(FleetRefused::NameTaken)
+    );
     add_host(&mut fleet, "g")?;
     assert_eq!(rt; add_vm_to(&mut fleet, "a", "g", &[1])?, 2);
     assert_eq!(rt; fleet.vm_at(1), Some(("a", 1)));
-    assert_eq!(rt; format!(in rt.alloc(); "{fleet:?}")?.as_str(), "Fleet { hosts: 2, vms: 2 }");
+    assert_eq!(rt;
+        format!(in rt.alloc(); "{fleet:?}")?.as_str(),
+        "Fleet { hosts: 2, vms: 2 }"
+    );
     Ok(())
 }
 
@@ -125,7 +155,11 @@ fn refusals_have_numbers_and_texts(rt: HostRuntime) -> Result<(), Fail> {
         (FleetRefused::NameTaken, Some(1), "the name is taken"),
         (FleetRefused::UnknownHost, Some(2), "no such host"),
         (FleetRefused::TooMany, Some(3), "the fleet is full"),
-        (FleetRefused::BadSize, Some(4), "no such number or size of disks"),
+        (
+            FleetRefused::BadSize,
+            Some(4),
+            "no such number or size of disks",
+        ),
         (FleetRefused::NoMemory, None, "out of memory"),
     ];
     for (refused, number, text) in rows {

@@ -1,5 +1,5 @@
--- The rows of a listing, one after the other, and what the calls that find a machine's parts make of
--- its row.
+-- The rows of a listing, one after the other, and what the calls that find a machine's parts make
+-- of its row.
 use Rattle.std.proofs.Common.{◌≡◌, ℕ, zero, suc, ◌+◌, ◌-◌, ◌<◌, ◌≤◌, Bool, true, false, true≢false, is_some, List, [], ◌∷◌, ◌++◌, map, length, get_or, take, Option, Some, None, All, option_map, refl, ap, ◌∙◌, sym, subst, slice_get, arith, add-one}
 use Rattle.std.specs.List.{enumerate_from}
 use Rattle.std.specs.Option.{option_map_or}
@@ -61,14 +61,16 @@ none_there f g (Some x) there h same = absurd (true≢false h)
 pub row_at : (fleet : FleetState) (place : ℕ) (vm : VmState) → slice_get fleet.vms place ≡ Some vm
     → slice_get (vm_rows fleet) place ≡ Some (vm_row fleet.hosts (place + 1) vm)
 row_at fleet place vm at =
-    slice_get-map (λ numbered. vm_row fleet.hosts numbered.0 numbered.1) (enumerate_from 1 fleet.vms) place
+    slice_get-map (λ numbered. vm_row fleet.hosts numbered.0 numbered.1)
+    (enumerate_from 1 fleet.vms) place
     ∙ ap (option_map (λ numbered. vm_row fleet.hosts numbered.0 numbered.1))
     (numbered_at 1 fleet.vms place vm at)
 
 pub no_row_at : (fleet : FleetState) (place : ℕ) → slice_get fleet.vms place ≡ None
     → slice_get (vm_rows fleet) place ≡ None
 no_row_at fleet place none =
-    slice_get-map (λ numbered. vm_row fleet.hosts numbered.0 numbered.1) (enumerate_from 1 fleet.vms) place
+    slice_get-map (λ numbered. vm_row fleet.hosts numbered.0 numbered.1)
+    (enumerate_from 1 fleet.vms) place
     ∙ ap (option_map (λ numbered. vm_row fleet.hosts numbered.0 numbered.1))
     (none_numbered 1 fleet.vms place none)
 
@@ -99,11 +101,11 @@ row_is fleet place within all_in name host pair told host_at machine is row n k 
     let vm : VmState = get_or fleet.vms place none in
     let at : slice_get fleet.vms place ≡ Some vm = slice_get-get_or fleet.vms place none within in
     let parts = some_pair_parts name vm.name host vm.host
-        (pair ∙ ap (option_map {U = List ℕ × ℕ} (λ (v : VmState). (v.name, v.host))) at) in
+    (pair ∙ ap (option_map {U = List ℕ × ℕ} (λ (v : VmState). (v.name, v.host))) at) in
     let same = machine_is fleet place vm machine at (all_in place none within) is in
     let host_is : host_name vm.host fleet.hosts ≡ row.host =
-        ap (λ p. host_name p fleet.hosts) (sym parts.1)
-        ∙ ap (λ o. option_map_or (λ (found : HostState). found.name) o []) (sym host_at) ∙ sym h in
+    ap (λ p. host_name p fleet.hosts) (sym parts.1)
+    ∙ ap (λ o. option_map_or (λ (found : HostState). found.name) o []) (sym host_at) ∙ sym h in
     row_at fleet place vm at ∙ (λ i. Some (record {
       name = (sym parts.0 ∙ sym n) i;
       number = sym k i;

@@ -14,11 +14,12 @@ loop-name-preserved c =
     let row : HostRow = record { name = c.in_ok-name.name; limit = c.in-Some.limit } in
     let at : slice_get fleet.hosts place ≡ Some host = sym c.in-Some.ensures.host in
     let row_at : slice_get (host_rows fleet) place ≡ Some row =
-        slice_get-map host_row fleet.hosts place ∙ ap (option_map host_row) at
-        ∙ ap (λ name. Some (record { name = name; limit = c.in-Some.limit })) (sym c.in_ok-name.ensures) in
+    slice_get-map host_row fleet.hosts place ∙ ap (option_map host_row) at
+    ∙ ap (λ name. Some (record { name = name; limit = c.in-Some.limit }))
+    (sym c.in_ok-name.ensures) in
     record {
       rows = c.in_ok-push.ensures.items ∙ ap (λ rows. rows ++ row ∷ []) c.loop-name.invariant.rows
-        ∙ sym (more_taken (host_rows fleet) place row row_at);
+          ∙ sym (more_taken (host_rows fleet) place row row_at);
       within = omega (arith, slice_get_within fleet.hosts place host at);
     }
 

@@ -13,22 +13,23 @@ use Rattle.fleet.proofs.fleet.Fleet.add_vm.Goals as goal
 pub returns-then-is_some-clause-refused : goal.returns-then-is_some-clause-refused
 returns-then-is_some-clause-refused c =
     let there : is_some (place_of c.args.name.now c.self.inside.vms) ≡ true =
-        ap is_some (sym c.place_of.ensures) ∙ sym c.is_some.ensures ∙ c.if-is_some.true in
+    ap is_some (sym c.place_of.ensures) ∙ sym c.is_some.ensures ∙ c.if-is_some.true in
     rw (vm_taken c.self.inside.hosts c.self.inside.vms c.args.self.now c.self.view_is
     c.args.name.now c.args.host.now c.args.capacities.now there) refl
 
 pub returns-in_default-clause-refused : goal.returns-in_default-clause-refused
 returns-in_default-clause-refused c =
     let new : is_some (place_of c.args.name.now c.self.inside.vms) ≡ false =
-        ap is_some (sym c.place_of.ensures) ∙ sym c.is_some.ensures ∙ c.if-is_some.false in
+    ap is_some (sym c.place_of.ensures) ∙ sym c.is_some.ensures ∙ c.if-is_some.false in
     rw (no_host c.self.inside.hosts c.self.inside.vms c.args.self.now c.self.view_is
     c.args.name.now c.args.host.now c.args.capacities.now new
     (sym c.place_of-2.ensures ∙ c.in_default.is)) refl
 
-pub returns-then-not-may_have_disks-clause-refused : goal.returns-then-not-may_have_disks-clause-refused
+pub returns-then-not-may_have_disks-clause-refused :
+    goal.returns-then-not-may_have_disks-clause-refused
 returns-then-not-may_have_disks-clause-refused c =
     let new : is_some (place_of c.args.name.now c.self.inside.vms) ≡ false =
-        ap is_some (sym c.place_of.ensures) ∙ sym c.is_some.ensures ∙ c.if-is_some.false in
+    ap is_some (sym c.place_of.ensures) ∙ sym c.is_some.ensures ∙ c.if-is_some.false in
     rw (bad_size c.self.inside.hosts c.self.inside.vms c.args.self.now c.self.view_is
     c.args.name.now c.args.host.now c.args.capacities.now c.in-Some.place new
     (sym c.place_of-2.ensures ∙ c.in-Some.is)
@@ -37,7 +38,7 @@ returns-then-not-may_have_disks-clause-refused c =
 pub returns-then-len-ge-MAX_VMS-clause-refused : goal.returns-then-len-ge-MAX_VMS-clause-refused
 returns-then-len-ge-MAX_VMS-clause-refused c =
     let new : is_some (place_of c.args.name.now c.self.inside.vms) ≡ false =
-        ap is_some (sym c.place_of.ensures) ∙ sym c.is_some.ensures ∙ c.if-is_some.false in
+    ap is_some (sym c.place_of.ensures) ∙ sym c.is_some.ensures ∙ c.if-is_some.false in
     rw (vms_full c.self.inside.hosts c.self.inside.vms c.args.self.now c.self.view_is
     c.args.name.now c.args.host.now c.args.capacities.now c.in-Some.place new
     (sym c.place_of-2.ensures ∙ c.in-Some.is)
@@ -47,7 +48,7 @@ returns-then-len-ge-MAX_VMS-clause-refused c =
 pub returns-in_err-machine-clause-refused : goal.returns-in_err-machine-clause-refused
 returns-in_err-machine-clause-refused c =
     let new : is_some (place_of c.args.name.now c.self.inside.vms) ≡ false =
-        ap is_some (sym c.place_of.ensures) ∙ sym c.is_some.ensures ∙ c.if-is_some.false in
+    ap is_some (sym c.place_of.ensures) ∙ sym c.is_some.ensures ∙ c.if-is_some.false in
     none_stands _ _
     (vm_fits c.self.inside.hosts c.self.inside.vms c.args.self.now c.self.view_is
     c.args.name.now c.args.host.now c.args.capacities.now c.in-Some.place new
@@ -58,7 +59,7 @@ returns-in_err-machine-clause-refused c =
 pub returns-in_err-push-clause-refused : goal.returns-in_err-push-clause-refused
 returns-in_err-push-clause-refused c =
     let new : is_some (place_of c.args.name.now c.self.inside.vms) ≡ false =
-        ap is_some (sym c.place_of.ensures) ∙ sym c.is_some.ensures ∙ c.if-is_some.false in
+    ap is_some (sym c.place_of.ensures) ∙ sym c.is_some.ensures ∙ c.if-is_some.false in
     none_stands _ _
     (vm_fits c.self.inside.hosts c.self.inside.vms c.args.self.now c.self.view_is
     c.args.name.now c.args.host.now c.args.capacities.now c.in-Some.place new
@@ -69,28 +70,31 @@ returns-in_err-push-clause-refused c =
 pub invariant_of-self-2 : goal.invariant_of-self-2
 invariant_of-self-2 c =
     let new : is_some (place_of c.args.name.now c.self.inside.vms) ≡ false =
-        ap is_some (sym c.place_of.ensures) ∙ sym c.is_some.ensures ∙ c.if-is_some.false in
+    ap is_some (sym c.place_of.ensures) ∙ sym c.is_some.ensures ∙ c.if-is_some.false in
     let known : place_of c.args.host.now c.self.inside.hosts ≡ Some c.in-Some.place =
-        sym c.place_of-2.ensures ∙ c.in-Some.is in
-    let made : c.of-vm.result.machine ≡ Some (fresh (length c.self.inside.vms + 1) c.args.capacities.now) =
-        c.of-vm.ensures.machine ∙ ap Some c.in_ok-machine.ensures
-        ∙ ap (λ n. Some (fresh (n + 1) c.args.capacities.now)) c.len-2.ensures in
+    sym c.place_of-2.ensures ∙ c.in-Some.is in
+    let made : c.of-vm.result.machine
+    ≡ Some (fresh (length c.self.inside.vms + 1) c.args.capacities.now) =
+    c.of-vm.ensures.machine ∙ ap Some c.in_ok-machine.ensures
+    ∙ ap (λ n. Some (fresh (n + 1) c.args.capacities.now)) c.len-2.ensures in
     rw c.in_ok-push.ensures.ok
     (IsKept-vm c.self.inside.hosts c.self.inside.vms c.args.name.now c.of-vm.result c.in-Some.place
     c.args.capacities.now c.of-vm.ensures.host made c.self.invariant c.requires
-    (position-Some _ c.self.inside.hosts c.in-Some.place (c.args.name.now, record { limit = 0 }) known).0
+    (position-Some _ c.self.inside.hosts c.in-Some.place
+    (c.args.name.now, record { limit = 0 }) known).0
     (sym c.may_have_disks.ensures ∙ c.if-not-may_have_disks.false)
     (none_is _ new) (rw (← c.len.ensures) c.if-len-ge-MAX_VMS.false))
 
 pub returns-clause-ok : goal.returns-clause-ok
 returns-clause-ok c =
     let known : host_place c.args.host.now c.args.self.now ≡ Some c.in-Some.place =
-        ap (host_place c.args.host.now) (sym c.self.view_is)
-        ∙ host_place-kept c.self.inside.hosts c.self.inside.vms c.args.host.now
-        ∙ sym c.place_of-2.ensures ∙ c.in-Some.is in
-    let made : c.of-vm.result.machine ≡ Some (fresh (length c.self.inside.vms + 1) c.args.capacities.now) =
-        c.of-vm.ensures.machine ∙ ap Some c.in_ok-machine.ensures
-        ∙ ap (λ n. Some (fresh (n + 1) c.args.capacities.now)) c.len-2.ensures in
+    ap (host_place c.args.host.now) (sym c.self.view_is)
+    ∙ host_place-kept c.self.inside.hosts c.self.inside.vms c.args.host.now
+    ∙ sym c.place_of-2.ensures ∙ c.in-Some.is in
+    let made : c.of-vm.result.machine
+    ≡ Some (fresh (length c.self.inside.vms + 1) c.args.capacities.now) =
+    c.of-vm.ensures.machine ∙ ap Some c.in_ok-machine.ensures
+    ∙ ap (λ n. Some (fresh (n + 1) c.args.capacities.now)) c.len-2.ensures in
     rw (known, c.in_ok-push.ensures.ok)
     (shows_vm c.self.inside.hosts c.self.inside.vms c.args.name.now c.of-vm.result c.in-Some.place
     c.args.capacities.now c.of-vm.ensures.host made
@@ -99,7 +103,7 @@ returns-clause-ok c =
 pub returns-clause-refused : goal.returns-clause-refused
 returns-clause-refused c =
     let new : is_some (place_of c.args.name.now c.self.inside.vms) ≡ false =
-        ap is_some (sym c.place_of.ensures) ∙ sym c.is_some.ensures ∙ c.if-is_some.false in
+    ap is_some (sym c.place_of.ensures) ∙ sym c.is_some.ensures ∙ c.if-is_some.false in
     rw (vm_fits c.self.inside.hosts c.self.inside.vms c.args.self.now c.self.view_is
     c.args.name.now c.args.host.now c.args.capacities.now c.in-Some.place new
     (sym c.place_of-2.ensures ∙ c.in-Some.is)

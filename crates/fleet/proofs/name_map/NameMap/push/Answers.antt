@@ -9,7 +9,7 @@ returns-clause-ok g c =
     let entries = c.self.inside.entries.entries in
     let named : string_bytes key ≡ c.args.name.now = c.in_ok-name.ensures.ok in
     let absent : place_of (string_bytes key) (with_bytes entries) ≡ None =
-        rw (named, c.self.view_is) c.requires in
+    rw (named, c.self.view_is) c.requires in
     ap with_bytes c.in_ok-insert.ensures.entries
     ∙ with_bytes-insert entries key c.args.value absent
     ∙ (rw (named, c.self.view_is) refl)
