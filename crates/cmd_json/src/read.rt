@@ -21,7 +21,7 @@ use std::alloc::Global;
 
 /// The names of the commands that the program carries out by now. A command whose name isn't among
 /// them is refused before its members are tested.
-pub const BUILT: [&str; 1] = ["move"];
+pub const BUILT: [&str; 2] = ["move", "quit"];
 
 /// The command that a line asks for, or why it asks for none. The line comes without its line feed.
 /// In this order: [`CmdRefused::Json`] where it isn't JSON in UTF-8 or nests deeper than 127;

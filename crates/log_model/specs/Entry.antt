@@ -1,7 +1,7 @@
 -- What an entry does, and the writes that a log has for a disk. Each definition names each act, so
 -- that an act that comes later has to be thought of here.
-use Rattle.std.specs.Prelude.{ℕ, ◌==◌, List, length, Bool, true, false, Option, Some, None, if◌then◌else◌}
-use Rattle.std.specs.List.{filter_map}
+use Rattle.std.specs.Prelude.{ℕ, ◌==◌, List, length, take, Bool, true, false, Option, Some, None, if◌then◌else◌}
+use Rattle.std.specs.List.{filter_map, count_by}
 use Rattle.sector_model.specs.Disk.{Write as Replacement, fold_writes}
 use Rattle.sector_model.specs.declared.sector.Sector.{Sector}
 use Rattle.log_model.specs.declared.entry.Act.{Act}
@@ -117,3 +117,7 @@ writes_of disk log = filter_map (λ e. write_to disk e.act) log
 -- range
 abbrev pub contents : (capacity disk : ℕ) → List Entry → List Sector
 contents capacity disk log = fold_writes capacity (writes_of disk log)
+
+-- how many writes, of whatever disk, stand before a place of the log
+abbrev pub writes_before : (place : ℕ) → List Entry → ℕ
+writes_before place log = count_by (λ e. is_write e.act) (take place log)

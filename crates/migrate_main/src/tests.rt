@@ -145,7 +145,7 @@ fn an_input_may_have_two_to_the_twenty_eighth_bytes(rt: HostRuntime) -> Result<(
     assert_eq!(rt; exit_of(&rt, Zeros { left: 1 << 28 }, &mut held), 0);
     assert_eq!(rt;
         held.as_slice(),
-        b"{\"error\":\"command\",\"ok\":false}\n".as_slice()
+        b"{\"error\":\"long\",\"ok\":false}\n".as_slice()
     );
     Ok(())
 }

@@ -1,6 +1,6 @@
 -- A volume that was complete once is so at the end, and over a sound store no command is refused as `volume`.
-use Rattle.std.proofs.Common.{◌≡◌, ◌≢◌, ℕ, true, List, [], ◌∷◌, Option, Some, None, option_map, if◌then◌else◌, inl, inr, refl, sym, ap, subst, ◌∙◌, arith}
-use Rattle.std.specs.Prelude.{IfSome, IsSome, IsSomeAnd, IsTrue, All, is_some}
+use Rattle.std.proofs.Common.{◌≡◌, ◌≢◌, ℕ, Bool, true, false, nat_le, length, List, [], ◌∷◌, Option, Some, None, Result, Ok, Err, option_map, if◌then◌else◌, inl, inr, refl, sym, ap, subst, ◌∙◌, arith}
+use Rattle.std.specs.Prelude.{MatchOption, IfSome, IsSome, IsSomeAnd, IsTrue, All, is_some}
 use Rattle.std.proofs.lemmas.Bool.{false≢true, true≢false}
 use Rattle.std.proofs.lemmas.List.Elements.{All-cons}
 use Rattle.target_volume.specs.VolumeName.{find_volume, with_volume}
@@ -8,18 +8,23 @@ use Rattle.target_volume.specs.VolumeStore.{StoreState, StoredVolume}
 use Rattle.target_volume.specs.declared.volume_name.VolumeName.{VolumeName}
 use Rattle.target_volume.specs.declared.volume_name.VolumeName.TheVariants.{Given}
 use Rattle.target_volume.proofs.NameLemmas.{find-with_same, find-with_other}
-use Rattle.migrate_server.specs.declared.command.Command.{Command}
-use Rattle.migrate_server.specs.declared.command.Command.TheVariants.{Move}
+use Rattle.cmd_json.specs.Line.{command_of}
+use Rattle.cmd_json.specs.declared.command.Command.{Command}
+use Rattle.cmd_json.specs.declared.command.Command.TheVariants.{Move, Quit, Host, Vm, Enable, Write, Snapshot, Remove, Query, Read, Power, Reset, Inventory, Plan, Start, Run, Cutover, Cancel, Status, Target, Digest, Restart}
 use Rattle.migrate_server.specs.declared.line.Line.{Line}
 use Rattle.migrate_server.specs.declared.line.Line.TheVariants.{Blank, Asks, Refuses}
-use Rattle.migrate_server.specs.declared.reply.Refusal.{Refusal}
-use Rattle.migrate_server.specs.declared.reply.Refusal.TheVariants.{NotBuilt, NameTaken, Volume}
-use Rattle.migrate_server.specs.declared.reply.Reply.{Reply}
-use Rattle.migrate_server.specs.declared.reply.Reply.TheVariants.{Moved, Refused}
-use Rattle.migrate_server.specs.Line.{Means, Spells}
-use Rattle.migrate_server.specs.Moves.{MoveRefusal, name_refusal, moved_volume}
+use Rattle.cmd_json.specs.declared.refusal.CmdRefused.{CmdRefused}
+use Rattle.cmd_json.specs.declared.refusal.CmdRefused.TheVariants.{Json, Command as CmdCommand, Field, Number, NoMemory}
+use Rattle.reply_json.specs.declared.reply.Reply.{Reply}
+use Rattle.migrate_server.specs.declared.line.TheConstants.{LINE_LIMIT}
+use Rattle.migrate_server.specs.declared.refusal.Refusal.{Refusal}
+use Rattle.migrate_server.specs.declared.refusal.Refusal.TheVariants as refusal
+use Rattle.migrate_server.specs.declared.refusal.Refusal.TheVariants.{Range, LogFull, NameTaken, Volume}
+use Rattle.migrate_server.specs.Answer.{Answer}
+use Rattle.migrate_server.specs.Line.{AsksFor, Means, refusal_told, refused_by, line_refusal}
+use Rattle.migrate_server.specs.commands.Moves.{MoveRefusal, move_refusal, name_refusal, moved_volume}
 use Rattle.migrate_server.specs.NewVolume.{IsFree, FailsInCopy, with_new_volume}
-use Rattle.migrate_server.specs.Session.{State, Answers, LineAnswers, Session, Stands, IsComplete, AllComplete}
+use Rattle.migrate_server.specs.Session.{State, HasRefusal, StoreRefusal, refusal_of, state_after, Fails, Answers, LineAnswers, Session, Stands, IsComplete, AllComplete}
 
 abbrev Volumes : Type 0
 Volumes = List (VolumeName × StoredVolume)
@@ -71,17 +76,50 @@ fails_keep name capacity old new h =
 same_keeps : (old new : State) → new ≡ old → Keeps old.store.volumes new.store.volumes
 same_keeps old new same = subst (λ (s : State). Keeps old.store.volumes s.store.volumes) (sym same) (keeps_same old.store.volumes)
 
-answers_keep : (command : Command) (reply : Reply) (old new : State) → Answers command reply old new → Keeps old.store.volumes new.store.volumes
-answers_keep (Move name sectors writes) (Moved n written) old new h =
-    subst (λ (s : State). Keeps old.store.volumes s.store.volumes) (sym h.2)
-    (keeps_made (Given name) (moved_volume sectors writes) old.store (free_name name old.store.volumes h.0.1))
-answers_keep (Move name sectors writes) (Refused why) old new h =
-    elim h [ inl same ↦ same_keeps old new same.1 | inr fails ↦ fails_keep (Given name) sectors old.store new.store fails.1 ]
+-- nothing refuses the command, so nothing does by what it asks for, and the store doesn't
+not_refused : (refusal : Option Refusal) (P : Type 0) → MatchOption refusal P (λ why. None ≡ Some why) → P
+not_refused None P h = h
+not_refused (Some why) P h = let e = h in cc
 
-line_keeps : (what : Line) (reply : Reply) (old new : State) → LineAnswers what reply old new → Keeps old.store.volumes new.store.volumes
-line_keeps Blank reply old new h = absurd h
-line_keeps (Asks command) reply old new h = answers_keep command reply old new h
-line_keeps (Refuses why) reply old new h = same_keeps old new h.1
+after_keeps : (command : Command) (old : State) → HasRefusal command None old → Keeps old.store.volumes (state_after command old).store.volumes
+after_keeps (Move name sectors writes) old h =
+    keeps_made (Given name) (moved_volume sectors writes) old.store (free_name name old.store.volumes (not_refused (move_refusal sectors writes) (MoveRefusal name None old.store) h).1)
+after_keeps Quit old h = keeps_same old.store.volumes
+after_keeps (Host name limit) old h = keeps_same old.store.volumes
+after_keeps (Vm name host disks) old h = keeps_same old.store.volumes
+after_keeps (Enable vm) old h = keeps_same old.store.volumes
+after_keeps (Write vm disk first count fill) old h = keeps_same old.store.volumes
+after_keeps (Snapshot vm) old h = keeps_same old.store.volumes
+after_keeps (Remove vm snapshot) old h = keeps_same old.store.volumes
+after_keeps (Query vm snapshot disk since start) old h = keeps_same old.store.volumes
+after_keeps (Read vm disk first count snapshot) old h = keeps_same old.store.volumes
+after_keeps (Power vm on) old h = keeps_same old.store.volumes
+after_keeps (Reset vm disk) old h = keeps_same old.store.volumes
+after_keeps Inventory old h = keeps_same old.store.volumes
+after_keeps (Plan name vms interval) old h = keeps_same old.store.volumes
+after_keeps (Start plan) old h = keeps_same old.store.volumes
+after_keeps (Run at workers guests disturb) old h = keeps_same old.store.volumes
+after_keeps (Cutover plan at) old h = keeps_same old.store.volumes
+after_keeps (Cancel vm) old h = keeps_same old.store.volumes
+after_keeps Status old h = keeps_same old.store.volumes
+after_keeps (Target volume first count) old h = keeps_same old.store.volumes
+after_keeps (Digest volume) old h = keeps_same old.store.volumes
+after_keeps Restart old h = keeps_same old.store.volumes
+
+failed_keep : (command : Command) (old new : State) → Fails command old new → Keeps old.store.volumes new.store.volumes
+failed_keep (Move name sectors writes) old new h = fails_keep (Given name) sectors old.store new.store h
+failed_keep _ old new h = absurd h
+
+answers_keep : (command : Command) (answer : Answer) (old new : State) → Answers command answer old new → Keeps old.store.volumes new.store.volumes
+answers_keep command (Ok reply) old new h =
+    subst (λ (s : State). Keeps old.store.volumes s.store.volumes) (sym h.2) (after_keeps command old h.0)
+answers_keep command (Err why) old new h =
+    elim h [ inl same ↦ same_keeps old new same.1 | inr fails ↦ failed_keep command old new fails.2 ]
+
+line_keeps : (what : Line) (answer : Answer) (old new : State) → LineAnswers what answer old new → Keeps old.store.volumes new.store.volumes
+line_keeps Blank answer old new h = absurd h
+line_keeps (Asks command) answer old new h = answers_keep command answer old new h
+line_keeps (Refuses why) answer old new h = same_keeps old new h.1
 
 some_there : (o : Option StoredVolume) (volume : StoredVolume) → o ≡ Some volume → IsSome o
 some_there None volume h = let e = h in cc
@@ -95,33 +133,38 @@ stands_by name volume (Some before) (Some after) keeps h = keeps.kept name (some
 
 stands_still : (command : Command) (old new : State) → Keeps old.store.volumes new.store.volumes → Stands command old → Stands command new
 stands_still (Move name sectors writes) old new keeps h = stands_by (Given name) (moved_volume sectors writes) old.store.volumes new.store.volumes keeps h
+stands_still _ old new keeps h = tt
 
-complete_still : (line : List ℕ) (reply : Reply) (old new : State) → Keeps old.store.volumes new.store.volumes → IsComplete line reply old → IsComplete line reply new
-complete_still line (Moved n written) old new keeps h = (h.0, h.1, stands_still h.0 old new keeps h.2)
-complete_still line (Refused why) old new keeps h = tt
+complete_still : (line : List ℕ) (answer : Answer) (old new : State) → Keeps old.store.volumes new.store.volumes → IsComplete line answer old → IsComplete line answer new
+complete_still line (Ok reply) old new keeps h = (h.0, h.1, stands_still h.0 old new keeps h.2)
+complete_still line (Err why) old new keeps h = tt
 
 made_stands : (name : VolumeName) (volume : StoredVolume) (volumes : Option Volumes) → IsSome volumes → IsSomeAnd (option_map (with_volume name volume) volumes) (λ vs. find_volume name vs ≡ Some volume)
 made_stands name volume None tells = absurd (false≢true tells)
 made_stands name volume (Some volumes) tells = find-with_same name volume volumes
 
-answers_complete : (line : List ℕ) (command : Command) (reply : Reply) (old new : State) → Spells line command → IsSome old.store.volumes → Answers command reply old new → IsComplete line reply new
-answers_complete line (Move name sectors writes) (Moved n written) old new spells tells h =
-    (Move name sectors writes, spells, subst (Stands (Move name sectors writes)) (sym h.2) (made_stands (Given name) (moved_volume sectors writes) old.store.volumes tells))
-answers_complete line (Move name sectors writes) (Refused why) old new spells tells h = tt
+after_stands : (command : Command) (old : State) → IsSome old.store.volumes → Stands command (state_after command old)
+after_stands (Move name sectors writes) old tells = made_stands (Given name) (moved_volume sectors writes) old.store.volumes tells
+after_stands _ old tells = tt
 
-line_complete : (line : List ℕ) (what : Line) (reply : Reply) (old new : State) → IsSome old.store.volumes → Means line what → LineAnswers what reply old new → IsComplete line reply new
-line_complete line Blank reply old new tells means h = absurd h
-line_complete line (Asks command) reply old new tells means h = answers_complete line command reply old new means.1 tells h
-line_complete line (Refuses why) reply old new tells means h = subst (λ (r : Reply). IsComplete line r new) (sym h.0) tt
+answers_complete : (line : List ℕ) (command : Command) (answer : Answer) (old new : State) → AsksFor line command → IsSome old.store.volumes → Answers command answer old new → IsComplete line answer new
+answers_complete line command (Ok reply) old new asks tells h =
+    (command, asks, subst (Stands command) (sym h.2) (after_stands command old tells))
+answers_complete line command (Err why) old new asks tells h = tt
 
-session_still : (old new : State) (lines : List (List ℕ)) (replies : List Reply) → Session old lines replies new → (line : List ℕ) (reply : Reply) → IsComplete line reply old → IsComplete line reply new
+line_complete : (line : List ℕ) (what : Line) (answer : Answer) (old new : State) → IsSome old.store.volumes → Means line what → LineAnswers what answer old new → IsComplete line answer new
+line_complete line Blank answer old new tells means h = absurd h
+line_complete line (Asks command) answer old new tells means h = answers_complete line command answer old new means tells h
+line_complete line (Refuses why) answer old new tells means h = subst (λ (a : Answer). IsComplete line a new) (sym h.0) tt
+
+session_still : (old new : State) (lines : List (List ℕ)) (replies : List Answer) → Session old lines replies new → (line : List ℕ) (reply : Answer) → IsComplete line reply old → IsComplete line reply new
 session_still old new [] [] h line reply done = subst (λ (s : State). IsComplete line reply s) (sym h) done
 session_still old new [] (r ∷ replies) h line reply done = absurd h
 session_still old new (l ∷ lines) [] h line reply done = absurd h
 session_still old new (l ∷ lines) (r ∷ replies) h line reply done =
     session_still h.0 new lines replies h.2 line reply (complete_still line reply old h.0 (line_keeps (h.1).0 r old h.0 (h.1).2) done)
 
-pub session_complete : (old new : State) (lines : List (List ℕ)) (replies : List Reply) → Session old lines replies new → IsSome old.store.volumes → AllComplete lines replies new
+pub session_complete : (old new : State) (lines : List (List ℕ)) (replies : List Answer) → Session old lines replies new → IsSome old.store.volumes → AllComplete lines replies new
 session_complete old new [] [] h tells = tt
 session_complete old new [] (r ∷ replies) h tells = absurd h
 session_complete old new (l ∷ lines) [] h tells = absurd h
@@ -131,45 +174,95 @@ session_complete old new (l ∷ lines) (r ∷ replies) h tells =
 
 -- ---- a sound store
 
-record Sound (reply : Reply) (old new : State) : Type 0 where
+err_is : (why : Refusal) → ◌≡◌ {A = Answer} (Err why) (Err Volume) → why ≡ Volume
+err_is why is = cc
+
+record Sound (answer : Answer) (old new : State) : Type 0 where
   pub still : new.store.sound ≡ true
   pub steady : new.store.faults ≡ old.store.faults
-  pub no_volume : reply ≢ Refused Volume
+  pub no_volume : answer ≢ Err Volume
 
-same_sound : (reply : Reply) (old new : State) → IsTrue old.store.sound → new ≡ old → reply ≢ Refused Volume → Sound reply old new
-same_sound reply old new sound same other = record { still = ap (λ (s : State). s.store.sound) same ∙ sound; steady = ap (λ (s : State). s.store.faults) same; no_volume = other }
+same_sound : (answer : Answer) (old new : State) → IsTrue old.store.sound → new ≡ old → answer ≢ Err Volume → Sound answer old new
+same_sound answer old new sound same other = record { still = ap (λ (s : State). s.store.sound) same ∙ sound; steady = ap (λ (s : State). s.store.faults) same; no_volume = other }
 
-not_volume : (name : List ℕ) (why : Refusal) (s : StoreState) → MoveRefusal name (Some why) s → Refused why ≢ Refused Volume
-not_volume name NotBuilt s h = λ same. cc
-not_volume name NameTaken s h = λ same. cc
-not_volume name Volume s h = λ same. elim h.0 [ inl none ↦ cc | inr taken ↦ cc ]
+-- what a command asks for isn't refused as `volume`
+move_why : (a b : Bool) → (if a then if b then None else Some LogFull else Some Range) ≢ Some Volume
+move_why true true = λ same. cc
+move_why true false = λ same. cc
+move_why false b = λ same. cc
 
-answers_sound : (command : Command) (reply : Reply) (old new : State) → IsTrue old.store.sound → Answers command reply old new → Sound reply old new
-answers_sound (Move name sectors writes) (Moved n written) old new sound h =
-    record { still = ap (λ (s : State). s.store.sound) h.2 ∙ sound; steady = ap (λ (s : State). s.store.faults) h.2; no_volume = λ same. cc }
-answers_sound (Move name sectors writes) (Refused why) old new sound h =
+asked_why : (command : Command) (s : State) → refusal_of command s ≢ Some Volume
+asked_why (Move name sectors writes) s = move_why _ _
+asked_why _ s = λ same. cc
+
+-- nor is a name that is taken
+store_why : (command : Command) (s : State) → StoreRefusal command (Some Volume) s → ⊥
+store_why (Move name sectors writes) s h = elim h.0 [ inl none ↦ cc | inr taken ↦ cc ]
+store_why _ s h = let e = h in cc
+
+not_volume_at : (refusal : Option Refusal) (P : Type 0) → refusal ≢ Some Volume → (P → ⊥) → MatchOption refusal P (λ why. Some Volume ≡ Some why) → ⊥
+not_volume_at None P other none h = none h
+not_volume_at (Some why) P other none h = other (sym h)
+
+not_volume : (command : Command) (why : Refusal) (s : State) → HasRefusal command (Some why) s → why ≢ Volume
+not_volume command why s h = λ same.
+    not_volume_at (refusal_of command s) (StoreRefusal command (Some Volume) s) (asked_why command s) (store_why command s)
+    (subst (λ (w : Refusal). HasRefusal command (Some w) s) same h)
+
+after_sound : (command : Command) (old : State) → ((state_after command old).store.sound ≡ old.store.sound) × ((state_after command old).store.faults ≡ old.store.faults)
+after_sound (Move name sectors writes) old = (refl, refl)
+after_sound _ old = (refl, refl)
+
+fails_unsound : (command : Command) (old new : State) → Fails command old new → old.store.sound ≡ false
+fails_unsound (Move name sectors writes) old new h = h.unsound
+fails_unsound _ old new h = absurd h
+
+answers_sound : (command : Command) (answer : Answer) (old new : State) → IsTrue old.store.sound → Answers command answer old new → Sound answer old new
+answers_sound command (Ok reply) old new sound h =
+    let same = after_sound command old in
+    record { still = ap (λ (s : State). s.store.sound) h.2 ∙ same.0 ∙ sound; steady = ap (λ (s : State). s.store.faults) h.2 ∙ same.1; no_volume = λ same. cc }
+answers_sound command (Err why) old new sound h =
     elim h [
-      | inl same ↦ same_sound (Refused why) old new sound same.1 (not_volume name why old.store same.0)
-      | inr fails ↦ absurd (true≢false (sym sound ∙ fails.1.unsound))
+      | inl same ↦ same_sound (Err why) old new sound same.1 (λ is. not_volume command why old same.0 (err_is why is))
+      | inr fails ↦ absurd (true≢false (sym sound ∙ fails_unsound command old new fails.2))
     ]
 
-not_refused : (line : List ℕ) (why : Refusal) (reply : Reply) → Means line (Refuses why) → reply ≡ Refused why → reply ≢ Refused Volume
-not_refused line why reply means is = let not_built = means.1 in λ same. cc
+-- a line isn't refused as `volume` by what it is
+told_why : (e : CmdRefused) → refusal_told e ≢ Some Volume
+told_why Json = λ same. cc
+told_why CmdCommand = λ same. cc
+told_why (Field name) = λ same. cc
+told_why (Number name) = λ same. cc
+told_why NoMemory = λ same. cc
 
-line_sound : (line : List ℕ) (what : Line) (reply : Reply) (old new : State) → IsTrue old.store.sound → Means line what → LineAnswers what reply old new → Sound reply old new
-line_sound line Blank reply old new sound means h = absurd h
-line_sound line (Asks command) reply old new sound means h = answers_sound command reply old new sound h
-line_sound line (Refuses why) reply old new sound means h = same_sound reply old new sound h.1 (not_refused line why reply means h.0)
+read_why : (read : Result Command CmdRefused) → refused_by read ≢ Some Volume
+read_why (Ok command) = λ same. cc
+read_why (Err e) = told_why e
 
-pub no_volume : (old new : State) (lines : List (List ℕ)) (replies : List Reply) → Session old lines replies new → IsTrue old.store.sound → All (λ reply. reply ≢ Refused Volume) replies
+fitting_why : (fits : Bool) (read : Result Command CmdRefused) → (if fits then refused_by read else Some refusal.Long) ≢ Some Volume
+fitting_why true read = read_why read
+fitting_why false read = λ same. cc
+
+line_why : (line : List ℕ) → line_refusal line ≢ Some Volume
+line_why line = fitting_why (nat_le (length line) LINE_LIMIT) (command_of line)
+
+not_refused_so : (line : List ℕ) (why : Refusal) (answer : Answer) → Means line (Refuses why) → answer ≡ Err why → answer ≢ Err Volume
+not_refused_so line why answer means is = λ same. line_why line (means.1 ∙ ap Some (err_is why (sym is ∙ same)))
+
+line_sound : (line : List ℕ) (what : Line) (answer : Answer) (old new : State) → IsTrue old.store.sound → Means line what → LineAnswers what answer old new → Sound answer old new
+line_sound line Blank answer old new sound means h = absurd h
+line_sound line (Asks command) answer old new sound means h = answers_sound command answer old new sound h
+line_sound line (Refuses why) answer old new sound means h = same_sound answer old new sound h.1 (not_refused_so line why answer means h.0)
+
+pub no_volume : (old new : State) (lines : List (List ℕ)) (replies : List Answer) → Session old lines replies new → IsTrue old.store.sound → All (λ reply. reply ≢ Err Volume) replies
 no_volume old new [] [] h sound = λ k d within. absurd (omega arith)
 no_volume old new [] (r ∷ replies) h sound = absurd h
 no_volume old new (l ∷ lines) [] h sound = absurd h
 no_volume old new (l ∷ lines) (r ∷ replies) h sound =
     let first = line_sound l (h.1).0 r old h.0 sound (h.1).1 (h.1).2 in
-    All-cons (λ reply. reply ≢ Refused Volume) r replies first.no_volume (no_volume h.0 new lines replies h.2 first.still)
+    All-cons (λ reply. reply ≢ Err Volume) r replies first.no_volume (no_volume h.0 new lines replies h.2 first.still)
 
-pub session_sound : (old new : State) (lines : List (List ℕ)) (replies : List Reply) → Session old lines replies new → IsTrue old.store.sound
+pub session_sound : (old new : State) (lines : List (List ℕ)) (replies : List Answer) → Session old lines replies new → IsTrue old.store.sound
     → (new.store.sound ≡ true) × (new.store.faults ≡ old.store.faults)
 session_sound old new [] [] h sound = (ap (λ (s : State). s.store.sound) h ∙ sound, ap (λ (s : State). s.store.faults) h)
 session_sound old new [] (r ∷ replies) h sound = absurd h

@@ -14,7 +14,7 @@ use Rattle.sector_model.specs.Disk.{Fits, after_write, fresh_disk}
 use Rattle.sector_model.specs.Run.{block_count, meets, touches, touched_blocks, in_blocks, areas_of}
 use Rattle.sector_model.specs.declared.sector.Sector.{Sector}
 use Rattle.sector_model.proofs.Exact.{in_runs_of}
-use Rattle.migrate_server.specs.declared.command.MoveWrite.{MoveWrite}
+use Rattle.cmd_json.specs.declared.command.MoveWrite.{MoveWrite}
 use Rattle.migrate_server.specs.WrittenDisk.{disk_write, disk_writes, written_disk}
 use Rattle.migrate_server.specs.WrittenDisk.{AreFlagged, FlagsAfter}
 use Rattle.migrate_server.specs.Copy.{IsClearOutside}

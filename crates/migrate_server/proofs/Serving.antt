@@ -2,26 +2,28 @@
 use Rattle.std.proofs.Common.{◌≡◌, ◌≢◌, ◌⊎◌, ℕ, suc, ◌+◌, ◌-◌, ◌<◌, ◌≤◌, Bool, true, false, MatchBool, cond, not, if◌then◌else◌, ◌==◌, List, [], ◌∷◌, ◌++◌, length, take, drop, Option, Some, None, Result, Ok, Err, inl, inr, refl, sym, ap, subst, append_assoc, ◌∙◌, arith}
 use Rattle.std.specs.Prelude.{IfSome, IsTrue, OnOk, OnErr, count_by, nat_le}
 use Rattle.std.proofs.KnownBytes.{Appends-nil, Appends-trans, Consumes-nil, Consumes-trans}
-use Rattle.std.proofs.lemmas.Bool.{false≢true, true≢false, false_from_ne_true, and_left, eqb-true, lt-leb}
+use Rattle.std.proofs.lemmas.Bool.{false≢true, true≢false, false_from_ne_true, and_left, eqb-true, lt-leb, le-leb}
 use Rattle.std.specs.List.{flat_map, list_all}
 use Rattle.std.specs.Io.KnownBytes.{Appends, Consumes, IsAtEnd}
 use Rattle.std.proofs.lemmas.List.{append-nil, length-append, take-append-drop, take_at}
-use Rattle.std.proofs.lemmas.List.Elements.{filter-append, All-head, All-tail}
+use Rattle.std.proofs.lemmas.List.Elements.{filter-append, All-head, All-tail, All-cons, All-append, All-take}
 use Rattle.std.proofs.lemmas.List.Sums.{sum_by-append, sum_by-cons}
 use Rattle.std.proofs.lemmas.Grind.{flat_map-append}
-use Rattle.basics.specs.Faults.{Rose}
-use Rattle.basics.specs.Faults.{HasRisen}
+use Rattle.basics.specs.Faults.{Rose, HasRisen}
 use Rattle.edge_traits.specs.Source.{SourceState}
 use Rattle.edge_traits.specs.Sink.{SinkState, AppendsPrefix}
 use Rattle.migrate_server.specs.declared.line_buffer.LineBuffer.{LineBuffer}
-use Rattle.migrate_server.specs.declared.line.Line.TheVariants.{Refuses}
+use Rattle.cmd_json.specs.Line.{command_of}
+use Rattle.cmd_json.specs.declared.command.Command.{Command}
+use Rattle.cmd_json.specs.declared.command.Command.TheVariants.{Quit}
+use Rattle.cmd_json.specs.declared.refusal.CmdRefused.{CmdRefused}
+use Rattle.migrate_server.specs.declared.line.Line.{Line}
+use Rattle.migrate_server.specs.declared.line.Line.TheVariants.{Blank, Asks, Refuses}
 use Rattle.migrate_server.specs.declared.reader.TheConstants.{INPUT_LIMIT}
 use Rattle.migrate_server.specs.declared.reader.NoLine.{NoLine}
 use Rattle.migrate_server.specs.declared.reader.NoLine.TheVariants.{Fault as LineFault, Limit, NoMemory as NoLineMemory}
-use Rattle.migrate_server.specs.declared.reply.Refusal.{Refusal}
-use Rattle.migrate_server.specs.declared.reply.Refusal.TheVariants.{NotBuilt}
-use Rattle.migrate_server.specs.declared.reply.Reply.{Reply}
-use Rattle.migrate_server.specs.declared.reply.Reply.TheVariants.{Refused}
+use Rattle.migrate_server.specs.declared.refusal.Refusal.{Refusal}
+use Rattle.migrate_server.specs.declared.refusal.Refusal.TheVariants.{Long}
 use Rattle.migrate_server.specs.declared.serve.NoReply.{NoReply}
 use Rattle.migrate_server.specs.declared.serve.NoReply.TheVariants.{Fault, NoMemory as NoReplyMemory}
 use Rattle.migrate_server.specs.declared.status.Status.{Status}
@@ -29,48 +31,80 @@ use Rattle.migrate_server.specs.declared.serve.Stop.{Stop}
 use Rattle.migrate_server.specs.declared.serve.Stop.TheVariants.{WriteFault, NoMemory}
 use Rattle.migrate_server.specs.EndsFor.{EndsFor, TellsUsage, usage_line}
 use Rattle.migrate_server.specs.declared.line.TheConstants.{LINE_LIMIT}
-use Rattle.migrate_server.specs.Line.{Means, is_space, is_blank, is_lf, lines_of, ended_lines, before_first_line, requests_among}
+use Rattle.migrate_server.specs.Answer.{Answer, answer_line, reply_for}
+use Rattle.migrate_server.specs.Line.{AsksToQuit, Means, line_refusal, refused_by, quits, is_space, is_blank, is_lf, lines_of, ended_lines, before_first_line, requests_among}
 use Rattle.migrate_server.specs.LineBuffer.{Holds}
-use Rattle.migrate_server.specs.Reply.{reply_line}
 use Rattle.migrate_server.specs.Reader.{ReaderState, HasNoLf, IsIdle, TakesLine, TakesEnd, HasNoLine, budget}
-use Rattle.migrate_server.specs.Serve.{HasReply, ServesLine, FailsInReply, LacksReply, bytes_of_reply, stop_without_line, stop_without_reply, status_of}
-use Rattle.migrate_server.specs.Serves.{Serves}
+use Rattle.migrate_server.specs.Serve.{IsAnswered, HasReply, TellsQuit, ServesLine, FailsInReply, LacksReply, LacksBytes, bytes_of_reply, stop_without_line, stop_without_reply, status_of}
+use Rattle.migrate_server.specs.Serves.{Serves, NoneQuits, QuitsLast, EndsByQuit}
 use Rattle.migrate_server.specs.Session.{State, state_of, Session, Step}
 use Rattle.migrate_server.specs.World.{World}
 use Rattle.migrate_server.proofs.Complete.{session_complete, session_sound, no_volume}
 
 -- ---- one line
 
-pub refuses_line : (buffer : LineBuffer) (text : List ℕ) (why : Refusal) (old : State) → buffer.is_long ≡ false → Means buffer.bytes.items (Refuses why) → Holds buffer text
-    → HasReply text (Some (Refused why)) old old
-refuses_line buffer text why old short means (inl held) =
-    subst (λ line. HasReply line (Some (Refused why)) old old) held.1 (means.0, (Refuses why, means, (refl, refl)))
-refuses_line buffer text why old short means (inr long) = let h = long.0 in cc
+refusal_at : (fits : Bool) (read : Result Command CmdRefused) → fits ≡ true → (if fits then refused_by read else Some Long) ≡ refused_by read
+refusal_at true read h = refl
+refusal_at false read h = cc
+
+-- a line that is read as no command is refused so
+pub refused_line : (line : List ℕ) (why : CmdRefused) (told : Refusal) → is_blank line ≡ false → length line ≤ LINE_LIMIT → command_of line ≡ Err why → refused_by (Err why) ≡ Some told
+    → Means line (Refuses told)
+refused_line line why told some fits read is =
+    (some, refusal_at (nat_le (length line) LINE_LIMIT) (command_of line) (le-leb (length line) LINE_LIMIT fits) ∙ ap refused_by read ∙ is)
+
+refusal_long : (fits : Bool) (read : Result Command CmdRefused) → fits ≡ false → (if fits then refused_by read else Some Long) ≡ Some Long
+refusal_long true read h = cc
+refusal_long false read h = refl
 
 -- a line that is too long is neither blank nor a command
-pub long_line : (buffer : LineBuffer) (text : List ℕ) (old : State) → buffer.is_long ≡ true → Holds buffer text → HasReply text (Some (Refused NotBuilt)) old old
-long_line buffer text old long (inl held) = let h = held.0 in cc
-long_line buffer text old long (inr held) =
-    let blank : is_blank text ≡ false = and_left (nat_le (length text) LINE_LIMIT) (list_all is_space text) (lt-leb (length text) LINE_LIMIT held.1) in
-    (blank, (Refuses NotBuilt, (blank, refl, λ command spells. absurd (omega (arith, spells.fits, held.1))), (refl, refl)))
+pub long_line : (buffer : LineBuffer) (text : List ℕ) → buffer.is_long ≡ true → Holds buffer text → Means text (Refuses Long)
+long_line buffer text long (inl held) = let h = held.0 in cc
+long_line buffer text long (inr held) =
+    let over : nat_le (length text) LINE_LIMIT ≡ false = lt-leb (length text) LINE_LIMIT held.1 in
+    (and_left (nat_le (length text) LINE_LIMIT) (list_all is_space text) over, refusal_long (nat_le (length text) LINE_LIMIT) (command_of text) over)
 
-pub serves_line : (text : List ℕ) (sink sink_after : SinkState) (old new : State) (some : Option Reply) (reply : Reply) (bytes : List ℕ) → some ≡ Some reply → HasReply text some old new → bytes ≡ reply_line reply
-    → Appends sink.held sink_after.held bytes → sink_after.faults ≡ sink.faults → ServesLine text sink sink_after old new
-serves_line text sink sink_after old new some reply bytes is answers same written steady = record {
-  reply = Some reply;
-  answers = subst (λ (o : Option Reply). HasReply text o old new) is answers;
-  written = subst (Appends sink.held sink_after.held) same written;
-  steady = steady;
-}
+-- what is known of the buffer's bytes is known of the line
+pub short_line : (buffer : LineBuffer) (text : List ℕ) (what : Line) → buffer.is_long ≡ false → Means buffer.bytes.items what → Holds buffer text → Means text what
+short_line buffer text what short means (inl held) = subst (λ line. Means line what) held.1 means
+short_line buffer text what short means (inr long) = let h = long.0 in cc
 
-pub fails_in_reply : (text : List ℕ) (sink sink_after : SinkState) (old new : State) (some : Option Reply) (reply : Reply) (bytes : List ℕ) → some ≡ Some reply → HasReply text some old new → bytes ≡ reply_line reply
-    → AppendsPrefix sink.held sink_after.held bytes → sink.faults ≤ sink_after.faults → Rose sink.faults sink_after.faults → FailsInReply text sink sink_after old new
-fails_in_reply text sink sink_after old new some reply bytes is answers same part later rose = record {
-  reply = reply;
-  answers = subst (λ (o : Option Reply). HasReply text o old new) is answers;
-  part = subst (AppendsPrefix sink.held sink_after.held) same part;
-  rises = (later, rose);
-}
+-- ---- a line that asks to quit
+
+none_refused : (fits : Bool) (read : Result Command CmdRefused) (command : Command) (why : Refusal) → fits ≡ true → read ≡ Ok command → (if fits then refused_by read else Some Long) ≡ Some why → ⊥
+none_refused true (Ok c) command why fits read is = cc
+none_refused true (Err e) command why fits read is = cc
+none_refused false read command why fits is told = cc
+
+ok_same : (c d : Command) → ◌≡◌ {A = Result Command CmdRefused} (Ok c) (Ok d) → c ≡ d
+ok_same c d same = cc
+
+-- a line means one thing
+means_quit : (line : List ℕ) (what : Line) → Means line what → AsksToQuit line → what ≡ Asks Quit
+means_quit line Blank means asks = absurd (true≢false (sym means ∙ asks.some))
+means_quit line (Asks command) means asks = let same : command ≡ Quit = ok_same command Quit (sym means.reads ∙ asks.reads) in ap Asks same
+means_quit line (Refuses why) means asks = absurd (none_refused (nat_le (length line) LINE_LIMIT) (command_of line) Quit why (le-leb (length line) LINE_LIMIT asks.fits) asks.reads means.1)
+
+quits_line : (line : List ℕ) (what : Line) → quits what ≡ true → Means line what → AsksToQuit line
+quits_line line (Asks Quit) is means = means
+quits_line line _ is means = cc
+
+pub tells_quit : (line : List ℕ) (what : Line) (told : Bool) → told ≡ quits what → Means line what → TellsQuit told line
+tells_quit line what true is means = quits_line line what (sym is) means
+tells_quit line what false is means = λ asks. false≢true (is ∙ ap quits (means_quit line what means asks))
+
+-- ---- one line's answer
+
+pub has_reply : (line : List ℕ) (what : Line) (answer : Option Answer) (old new : State) → Means line what → IsAnswered what answer old new → HasReply line answer old new
+has_reply line what None old new means h = (subst (Means line) h.0 means, h.1)
+has_reply line Blank (Some answer) old new means h = absurd h
+has_reply line (Asks command) (Some answer) old new means h = (means.some, (Asks command, means, h))
+has_reply line (Refuses why) (Some answer) old new means h = (means.0, (Refuses why, means, h))
+
+pub lacks_reply : (why : NoReply) (line : List ℕ) (answer : Answer) (sink sink_after : SinkState) (old new : State) → HasReply line (Some answer) old new → LacksBytes why (answer_line answer) sink sink_after
+    → LacksReply why line sink sink_after old new
+lacks_reply Fault line answer sink sink_after old new has part = record { reply = answer; answers = has; part = part.0; rises = part.1 }
+lacks_reply NoReplyMemory line answer sink sink_after old new has same = (same, inr (answer, has))
 
 -- ---- the lines of an input
 
@@ -263,7 +297,7 @@ budget_falls a b old new buffer t = budget_falls_by b.left old new t.text t.give
 
 -- ---- the session so far
 
-session_more : (old mid new : State) (lines : List (List ℕ)) (replies : List Reply) (line : List ℕ) (reply : Reply) → Session old lines replies mid → Step line reply mid new
+session_more : (old mid new : State) (lines : List (List ℕ)) (replies : List Answer) (line : List ℕ) (reply : Answer) → Session old lines replies mid → Step line reply mid new
     → Session old (lines ++ line ∷ []) (replies ++ reply ∷ []) new
 session_more old mid new [] [] line reply h step = (new, subst (λ (s : State). Step line reply s new) h step, refl)
 session_more old mid new [] (r ∷ replies) line reply h step = absurd h
@@ -279,37 +313,55 @@ one_request line h = ap (λ t. if (not t) then line ∷ [] else []) h
 requests_more : (lines more : List (List ℕ)) → requests_among (lines ++ more) ≡ requests_among lines ++ requests_among more
 requests_more lines more = filter-append (λ line. not (is_blank line)) lines more
 
-abbrev text_of : List Reply → List ℕ
-text_of replies = flat_map reply_line replies
+abbrev NoQuit : List ℕ → Type 0
+NoQuit line = AsksToQuit line → ⊥
 
-text_more : (replies : List Reply) (reply : Reply) → text_of (replies ++ reply ∷ []) ≡ text_of replies ++ reply_line reply
-text_more replies reply = flat_map-append reply_line replies (reply ∷ []) ∙ ap (λ l. text_of replies ++ l) (append-nil (reply_line reply))
+abbrev text_of : List Answer → List ℕ
+text_of replies = flat_map answer_line replies
+
+text_more : (replies : List Answer) (reply : Answer) → text_of (replies ++ reply ∷ []) ≡ text_of replies ++ answer_line reply
+text_more replies reply = flat_map-append answer_line replies (reply ∷ []) ∙ ap (λ l. text_of replies ++ l) (append-nil (answer_line reply))
+
+-- no line so far asks to quit, and the next one doesn't
+none_more : (lines : List (List ℕ)) (text : List ℕ) → NoneQuits lines → (AsksToQuit text → ⊥) → NoneQuits (lines ++ text ∷ [])
+none_more lines text none goes = All-append NoQuit lines (text ∷ []) none (All-cons NoQuit text [] goes (λ k d within. absurd (omega arith)))
+
+-- no line so far asks to quit, and the next one is the last
+last_more : (lines : List (List ℕ)) (text : List ℕ) → NoneQuits lines → QuitsLast (lines ++ text ∷ [])
+last_more lines text none =
+    let long : length (lines ++ text ∷ []) - 1 ≡ length lines = let e = length-append lines (text ∷ []) in omega (arith, e) in
+    let front : take (length (lines ++ text ∷ []) - 1) (lines ++ text ∷ []) ≡ lines = take_at lines (text ∷ []) (length (lines ++ text ∷ []) - 1) (sym long) in
+    subst NoneQuits (sym front) none
+
+all_last : (lines : List (List ℕ)) → NoneQuits lines → QuitsLast lines
+all_last lines none = All-take NoQuit (length lines - 1) lines none
 
 -- what was heard, answered and written so far
 pub record Progress (old now : World) (reader : ReaderState) : Type 0 where
   pub lines : List (List ℕ)
   pub heard : Heard old.source.left now.source.left reader lines
-  pub replies : List Reply
+  pub goes_on : NoneQuits lines
+  pub replies : List Answer
   pub session : Session (state_of old) (requests_among lines) replies (state_of now)
   pub written : Appends old.sink.held now.sink.held (text_of replies)
   pub reads : now.source.faults ≡ old.source.faults
   pub puts : now.sink.faults ≡ old.sink.faults
 
 pub progress_start : (old : World) → Progress old old fresh_reader
-progress_start old = record { lines = []; heard = heard_none old.source.left; replies = []; session = refl; written = Appends-nil old.sink.held; reads = refl; puts = refl }
+progress_start old = record { lines = []; heard = heard_none old.source.left; goes_on = λ k d within. absurd (omega arith); replies = []; session = refl; written = Appends-nil old.sink.held; reads = refl; puts = refl }
 
 record Replied (lines : List (List ℕ)) (old : State) (sink : SinkState) (new : State) (sink_after : SinkState) : Type 0 where
-  pub replies : List Reply
+  pub replies : List Answer
   pub session : Session old (requests_among lines) replies new
   pub written : Appends sink.held sink_after.held (text_of replies)
 
-session_reply : (old now after : State) (lines : List (List ℕ)) (replies : List Reply) (text : List ℕ) (reply : Reply) → Session old (requests_among lines) replies now → HasReply text (Some reply) now after
+session_reply : (old now after : State) (lines : List (List ℕ)) (replies : List Answer) (text : List ℕ) (reply : Answer) → Session old (requests_among lines) replies now → HasReply text (Some reply) now after
     → Session old (requests_among (lines ++ text ∷ [])) (replies ++ reply ∷ []) after
 session_reply old now after lines replies text reply session answers =
     let same = requests_more lines (text ∷ []) ∙ ap (λ l. requests_among lines ++ l) (one_request text answers.0) in
     subst (λ (l : List (List ℕ)). Session old l (replies ++ reply ∷ []) after) (sym same) (session_more old now after (requests_among lines) replies text reply session answers.1)
 
-replied_line : (text : List ℕ) (reply : Option Reply) (lines : List (List ℕ)) (replies : List Reply) (old now after : State) (sink sink_now sink_after : SinkState)
+replied_line : (text : List ℕ) (reply : Option Answer) (lines : List (List ℕ)) (replies : List Answer) (old now after : State) (sink sink_now sink_after : SinkState)
     → Session old (requests_among lines) replies now → Appends sink.held sink_now.held (text_of replies) → HasReply text reply now after → Appends sink_now.held sink_after.held (bytes_of_reply reply)
     → Replied (lines ++ text ∷ []) old sink after sink_after
 replied_line text None lines replies old now after sink sink_now sink_after session written answers told = record {
@@ -323,16 +375,17 @@ replied_line text None lines replies old now after sink sink_now sink_after sess
 replied_line text (Some reply) lines replies old now after sink sink_now sink_after session written answers told = record {
   replies = replies ++ reply ∷ [];
   session = session_reply old now after lines replies text reply session answers;
-  written = subst (Appends sink.held sink_after.held) (sym (text_more replies reply)) (Appends-trans sink.held sink_now.held sink_after.held (text_of replies) (reply_line reply) written told);
+  written = subst (Appends sink.held sink_after.held) (sym (text_more replies reply)) (Appends-trans sink.held sink_now.held sink_after.held (text_of replies) (answer_line reply) written told);
 }
 
 pub progress_line : (old now after : World) (reader reader_after : ReaderState) (buffer : LineBuffer) → Progress old now reader → (t : TakesLine now.source after.source reader reader_after buffer)
-    → ServesLine t.text now.sink after.sink (state_of now) (state_of after) → Progress old after reader_after
-progress_line old now after reader reader_after buffer p t serves =
+    → ServesLine t.text now.sink after.sink (state_of now) (state_of after) → TellsQuit false t.text → Progress old after reader_after
+progress_line old now after reader reader_after buffer p t serves goes =
     let replied = replied_line t.text serves.reply p.lines p.replies (state_of old) (state_of now) (state_of after) old.sink now.sink after.sink p.session p.written serves.answers serves.written in
     record {
       lines = p.lines ++ t.text ∷ [];
       heard = heard_line old.source.left now.source after.source reader reader_after buffer p.lines p.heard t;
+      goes_on = none_more p.lines t.text p.goes_on goes;
       replies = replied.replies;
       session = replied.session;
       written = replied.written;
@@ -372,6 +425,7 @@ ended_at_once old = record {
     appends = Appends-nil old.sink.held;
     all_bytes = refl;
     comes_to = inl refl;
+    quits = inl (λ k d within. absurd (omega arith));
     leaves = inl refl;
   };
   ends = record { serving = tt; reads = refl; puts = refl };
@@ -403,10 +457,47 @@ ended_whole_input old now source reader reader_after p t =
         unwritten = [];
         appends = p.written;
         all_bytes = append-nil (text_of p.replies);
-        comes_to = (refl, end);
+        comes_to = inl (refl, end);
+        quits = all_last p.lines p.goes_on;
         leaves = refl;
       };
       ends = record { serving = tt; reads = t.steady ∙ p.reads; puts = p.puts };
+    }
+
+all_heard : (left left_now : Option (List ℕ)) (reader : ReaderState) (lines : List (List ℕ)) → (h : Heard left left_now reader lines)
+    → lines_of (h.consumed ++ rest_of left left_now) ≡ lines ++ lines_of (reader.pending ++ rest_of left left_now)
+all_heard left left_now reader lines h = h.split (rest_of left left_now) (λ e. rest_at_end left left_now (h.idle e).1)
+
+-- a line asked to quit
+pub ended_by_quit : (old now after : World) (reader reader_after : ReaderState) (buffer : LineBuffer) → Progress old now reader → (t : TakesLine now.source after.source reader reader_after buffer)
+    → ServesLine t.text now.sink after.sink (state_of now) (state_of after) → TellsQuit true t.text → Ended old after (Ok tt)
+ended_by_quit old now after reader reader_after buffer p t serves asks =
+    let heard = heard_line old.source.left now.source after.source reader reader_after buffer p.lines p.heard t in
+    let replied = replied_line t.text serves.reply p.lines p.replies (state_of old) (state_of now) (state_of after) old.sink now.sink after.sink p.session p.written serves.answers serves.written in
+    let lines = p.lines ++ t.text ∷ [] in
+    record {
+      serves = record {
+        taken = heard.consumed;
+        rest = rest_of old.source.left after.source.left;
+        takes = heard.consumes;
+        whole = rest_whole old.source.left after.source.left heard.consumed heard.consumes;
+        count = omega (arith, heard.count, heard.fits);
+        lines = lines;
+        more = lines_of (reader_after.pending ++ rest_of old.source.left after.source.left);
+        all_lines = all_heard old.source.left after.source.left reader_after lines heard;
+        replies = replied.replies;
+        session = replied.session;
+        complete = session_complete (state_of old) (state_of after) (requests_among lines) replied.replies replied.session;
+        no_volume = λ sound. no_volume (state_of old) (state_of after) (requests_among lines) replied.replies replied.session sound;
+        written = text_of replied.replies;
+        unwritten = [];
+        appends = replied.written;
+        all_bytes = append-nil (text_of replied.replies);
+        comes_to = inr (p.lines, t.text, refl, asks);
+        quits = last_more p.lines t.text p.goes_on;
+        leaves = refl;
+      };
+      ends = record { serving = tt; reads = t.steady ∙ p.reads; puts = serves.steady ∙ p.puts };
     }
 
 lines_behind : (left left_now : Option (List ℕ)) (reader : ReaderState) (lines : List (List ℕ)) (given rest : List ℕ) → (h : Heard left left_now reader lines) → reader.ended ≡ false
@@ -449,6 +540,7 @@ ended_without_line old now source reader reader_after LineFault p f =
         appends = p.written;
         all_bytes = append-nil (text_of p.replies);
         comes_to = all_ended old.source.left now.source.left reader p.lines f.given p.heard f.running f.one;
+        quits = p.goes_on;
         leaves = refl;
       };
       ends = record { serving = tt; reads = subst (λ (n : ℕ). HasRisen n source.faults) p.reads f.rises; puts = p.puts };
@@ -482,6 +574,7 @@ ended_without_line old now source reader reader_after Limit p f =
         appends = p.written;
         all_bytes = append-nil (text_of p.replies);
         comes_to = all_ended old.source.left now.source.left reader p.lines f.given p.heard f.running f.one ∙ ap ended_lines (sym front);
+        quits = p.goes_on;
         leaves = refl;
       };
       ends = record { serving = tt; reads = f.steady ∙ p.reads; puts = p.puts };
@@ -512,6 +605,7 @@ ended_without_line old now source reader reader_after NoLineMemory p f =
         appends = p.written;
         all_bytes = append-nil (text_of p.replies);
         comes_to = inr (inl (some_line behind some));
+        quits = inl p.goes_on;
         leaves = inl refl;
       };
       ends = record { serving = tt; reads = f.steady ∙ p.reads; puts = p.puts };
@@ -519,17 +613,14 @@ ended_without_line old now source reader reader_after NoLineMemory p f =
 
 -- ---- a line that has no reply, or not a whole one
 
-reply_some : (reply : Reply) → 0 < length (reply_line reply)
-reply_some reply = omega arith
+reply_some : (reply : Answer) → 0 < length (answer_line reply)
+unfolding answer_line
+reply_some reply = omega (arith, length-append {A = ℕ})
 
-cut_bytes : (replies : List Reply) (reply : Reply) (place : ℕ) → (text_of replies ++ take place (reply_line reply)) ++ drop place (reply_line reply) ≡ text_of (replies ++ reply ∷ [])
+cut_bytes : (replies : List Answer) (reply : Answer) (place : ℕ) → (text_of replies ++ take place (answer_line reply)) ++ drop place (answer_line reply) ≡ text_of (replies ++ reply ∷ [])
 cut_bytes replies reply place =
-    append_assoc (text_of replies) (take place (reply_line reply)) (drop place (reply_line reply))
-    ∙ ap (λ l. text_of replies ++ l) (take-append-drop place (reply_line reply)) ∙ sym (text_more replies reply)
-
-all_heard : (left left_now : Option (List ℕ)) (reader : ReaderState) (lines : List (List ℕ)) → (h : Heard left left_now reader lines)
-    → lines_of (h.consumed ++ rest_of left left_now) ≡ lines ++ lines_of (reader.pending ++ rest_of left left_now)
-all_heard left left_now reader lines h = h.split (rest_of left left_now) (λ e. rest_at_end left left_now (h.idle e).1)
+    append_assoc (text_of replies) (take place (answer_line reply)) (drop place (answer_line reply))
+    ∙ ap (λ l. text_of replies ++ l) (take-append-drop place (answer_line reply)) ∙ sym (text_more replies reply)
 
 ended_at_fault : (old now after : World) (reader reader_after : ReaderState) (buffer : LineBuffer) → Progress old now reader → (t : TakesLine now.source after.source reader reader_after buffer)
     → FailsInReply t.text now.sink after.sink (state_of now) (state_of after) → Ended old after (Err WriteFault)
@@ -551,11 +642,12 @@ ended_at_fault old now after reader reader_after buffer p t f =
         session = session;
         complete = session_complete (state_of old) (state_of after) (requests_among (p.lines ++ t.text ∷ [])) (p.replies ++ f.reply ∷ []) session;
         no_volume = λ sound. no_volume (state_of old) (state_of after) (requests_among (p.lines ++ t.text ∷ [])) (p.replies ++ f.reply ∷ []) session sound;
-        written = text_of p.replies ++ take place (reply_line f.reply);
-        unwritten = drop place (reply_line f.reply);
-        appends = Appends-trans old.sink.held now.sink.held after.sink.held (text_of p.replies) (take place (reply_line f.reply)) p.written f.part.2;
+        written = text_of p.replies ++ take place (answer_line f.reply);
+        unwritten = drop place (answer_line f.reply);
+        appends = Appends-trans old.sink.held now.sink.held after.sink.held (text_of p.replies) (take place (answer_line f.reply)) p.written f.part.2;
         all_bytes = cut_bytes p.replies f.reply place;
         comes_to = tt;
+        quits = last_more p.lines t.text p.goes_on;
         leaves = (place, record { before = p.replies; last = f.reply; is_last = refl; within = f.part.1; rest = refl });
       };
       ends = record { serving = tt; reads = t.steady ∙ p.reads; puts = subst (λ (n : ℕ). HasRisen n after.sink.faults) p.puts f.rises };
@@ -563,7 +655,7 @@ ended_at_fault old now after reader reader_after buffer p t f =
 
 -- memory ran out, and nothing of the line's reply was written
 ended_before_reply : (old now after : World) (reader reader_after : ReaderState) (buffer : LineBuffer) → Progress old now reader → (t : TakesLine now.source after.source reader reader_after buffer)
-    → after.sink ≡ now.sink → (state_of after ≡ state_of now) ⊎ ((reply : Reply) × HasReply t.text (Some reply) (state_of now) (state_of after)) → Ended old after (Err NoMemory)
+    → after.sink ≡ now.sink → (state_of after ≡ state_of now) ⊎ ((reply : Answer) × HasReply t.text (Some reply) (state_of now) (state_of after)) → Ended old after (Err NoMemory)
 ended_before_reply old now after reader reader_after buffer p t sink (inl stays) =
     let heard = heard_line old.source.left now.source after.source reader reader_after buffer p.lines p.heard t in
     let session = subst (Session (state_of old) (requests_among p.lines) p.replies) (sym stays) p.session in
@@ -587,6 +679,7 @@ ended_before_reply old now after reader reader_after buffer p t sink (inl stays)
         appends = subst (λ (s : SinkState). Appends old.sink.held s.held (text_of p.replies)) (sym sink) p.written;
         all_bytes = append-nil (text_of p.replies);
         comes_to = inr (inl (omega arith));
+        quits = inl p.goes_on;
         leaves = inl refl;
       };
       ends = record { serving = tt; reads = t.steady ∙ p.reads; puts = ap (λ (s : SinkState). s.faults) sink ∙ p.puts };
@@ -610,10 +703,11 @@ ended_before_reply old now after reader reader_after buffer p t sink (inr r) =
         complete = session_complete (state_of old) (state_of after) (requests_among (p.lines ++ t.text ∷ [])) (p.replies ++ reply ∷ []) session;
         no_volume = λ sound. no_volume (state_of old) (state_of after) (requests_among (p.lines ++ t.text ∷ [])) (p.replies ++ reply ∷ []) session sound;
         written = text_of p.replies;
-        unwritten = reply_line reply;
+        unwritten = answer_line reply;
         appends = subst (λ (s : SinkState). Appends old.sink.held s.held (text_of p.replies)) (sym sink) p.written;
         all_bytes = sym (text_more p.replies reply);
         comes_to = inr (inr (reply_some reply));
+        quits = inr (last_more p.lines t.text p.goes_on, reply_some reply);
         leaves = inr (record { before = p.replies; last = reply; is_last = refl; within = omega arith; rest = refl });
       };
       ends = record { serving = tt; reads = t.steady ∙ p.reads; puts = ap (λ (s : SinkState). s.faults) sink ∙ p.puts };

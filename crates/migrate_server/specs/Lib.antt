@@ -1,13 +1,13 @@
 pub mod World
-pub mod Parse
+pub mod Refusal
+pub mod Answer
 pub mod Line
 pub mod LineBuffer
 pub mod Reader
 pub mod WrittenDisk
 pub mod Copy
 pub mod NewVolume
-pub mod Moves
-pub mod Reply
+pub mod commands
 pub mod Session
 pub mod Serve
 pub mod Status

@@ -1,18 +1,19 @@
 -- The lines of an input, and what each of them asks for. A line of spaces is blank and has no
--- reply. A line that is too long spells no command, and isn't blank.
-use Rattle.std.specs.Prelude.{◌≡◌, ℕ, ◌≤◌, List, [], ◌∷◌, length, count_by, take, Bool, true, false, not, ◌&&◌, ◌||◌, ◌==◌, nat_le, if◌then◌else◌, Some}
+-- reply. A line that is too long isn't blank, and asks for nothing, whatever it spells.
+use Rattle.std.specs.Prelude.{◌≡◌, ℕ, ◌≤◌, List, [], ◌∷◌, length, count_by, take, Bool, true, false, not, ◌&&◌, ◌||◌, ◌==◌, nat_le, if◌then◌else◌, Option, Some, None, Result, Ok, Err}
 use Rattle.std.specs.List.{list_all, filter}
-use Rattle.std.specs.Str.{IsUtf8}
-use Rattle.serde_json.specs.Data.{Data}
-use Rattle.serde_json.specs.Read.{read}
-use Rattle.migrate_server.specs.Moves.{MoveFits}
-use Rattle.migrate_server.specs.Parse.{command_of}
+use Rattle.cmd_json.specs.Known.{IsAskable}
+use Rattle.cmd_json.specs.Line.{command_of}
+use Rattle.cmd_json.specs.declared.command.Command.{Command}
+use Rattle.cmd_json.specs.declared.command.Command.TheVariants.{Quit}
+use Rattle.cmd_json.specs.declared.refusal.CmdRefused.{CmdRefused}
+use Rattle.cmd_json.specs.declared.refusal.CmdRefused.TheVariants as cmd
 use Rattle.migrate_server.specs.declared.line.TheConstants.{LINE_LIMIT, LF}
-use Rattle.migrate_server.specs.declared.command.Command.{Command}
-use Rattle.migrate_server.specs.declared.command.Command.TheVariants.{Move}
 use Rattle.migrate_server.specs.declared.line.Line.{Line}
 use Rattle.migrate_server.specs.declared.line.Line.TheVariants.{Blank, Asks, Refuses}
-use Rattle.migrate_server.specs.declared.reply.Refusal.TheVariants.{NotBuilt}
+use Rattle.migrate_server.specs.declared.refusal.Refusal.{Refusal}
+use Rattle.migrate_server.specs.declared.refusal.Refusal.TheVariants as refusal
+use Rattle.migrate_server.specs.declared.refusal.Refusal.TheVariants.{Long, Json, Field, Number}
 
 abbrev pub is_lf : ℕ → Bool
 is_lf b = b == LF
@@ -42,25 +43,45 @@ is_blank line = nat_le (length line) LINE_LIMIT && list_all is_space line
 abbrev pub requests_among : List (List ℕ) → List (List ℕ)
 requests_among lines = filter (λ line. not (is_blank line)) lines
 
--- the line is the JSON text of a command, and not too long
-pub record Spells (line : List ℕ) (command : Command) : Type 0 where
-  pub fits : length line ≤ LINE_LIMIT
-  pub text : IsUtf8 line
-  pub value : Data
-  pub reads : read line ≡ Some value
-  pub asks : command_of value ≡ Some command
+-- why a line that isn't blank asks for nothing that could be carried out, if so
+abbrev pub refusal_told : CmdRefused → Option Refusal
+refusal_told cmd.Json = Some Json
+refusal_told cmd.Command = Some refusal.Command
+refusal_told (cmd.Field name) = Some (Field name)
+refusal_told (cmd.Number name) = Some (Number name)
+-- no line means it
+refusal_told cmd.NoMemory = None
 
--- what a line is: blank, a command that it spells, or neither, and then it has one refusal
+abbrev pub refused_by : Result Command CmdRefused → Option Refusal
+refused_by (Ok command) = None
+refused_by (Err why) = refusal_told why
+
+abbrev pub line_refusal : (line : List ℕ) → Option Refusal
+line_refusal line =
+    if nat_le (length line) LINE_LIMIT then refused_by (command_of line) else Some Long
+
+-- the line asks for a command: it is one that is built, with all its members in their ranges
+pub record AsksFor (line : List ℕ) (command : Command) : Type 0 where
+  pub some : is_blank line ≡ false
+  pub fits : length line ≤ LINE_LIMIT
+  pub reads : command_of line ≡ Ok command
+
+-- what a line is: blank, a command, or neither, and then it has one refusal
 abbrev pub Means : (line : List ℕ) → Line → Type 0
 Means line Blank = is_blank line ≡ true
-Means line (Asks command) = (is_blank line ≡ false) × Spells line command
-Means line (Refuses why) = (is_blank line ≡ false) × (why ≡ NotBuilt)
-    × ((command : Command) → Spells line command → ⊥)
+Means line (Asks command) = AsksFor line command
+Means line (Refuses why) = (is_blank line ≡ false) × (line_refusal line ≡ Some why)
 
 -- what is known of a command that was read
-abbrev pub FitsDisk : Command → Type 0
-FitsDisk (Move name sectors writes) = MoveFits sectors writes
+abbrev pub AsksInRange : Line → Type 0
+AsksInRange Blank = Unit {0}
+AsksInRange (Asks command) = IsAskable command
+AsksInRange (Refuses why) = Unit {0}
 
-abbrev pub AsksWithinDisk : Line → Type 0
-AsksWithinDisk (Asks command) = FitsDisk command
-AsksWithinDisk _ = Unit {0}
+-- the line ends the session
+abbrev pub AsksToQuit : (line : List ℕ) → Type 0
+AsksToQuit line = AsksFor line Quit
+
+abbrev pub quits : Line → Bool
+quits (Asks Quit) = true
+quits _ = false

@@ -1,20 +1,22 @@
 -- What the server answers to the lines of an input, one after another, and what it leaves. A
 -- command has a row in each of `refusal_of`, `StoreRefusal`, `reply_of`, `state_after`, `Fails` and
--- `Stands`, and in `FitsDisk` of Line.antt; nothing else here grows with the commands, their
--- refusals or their replies.
-use Rattle.std.specs.Prelude.{◌≡◌, ◌⊎◌, ℕ, List, [], ◌∷◌, Option, Some, None, MatchOption}
+-- `Stands`; nothing else here grows with the commands, their refusals or their replies. A command
+-- that isn't built is refused, whatever it asks for.
+use Rattle.std.specs.Prelude.{◌≡◌, ◌⊎◌, ℕ, List, [], ◌∷◌, Option, Some, None, Ok, Err, MatchOption}
+use Rattle.cmd_json.specs.declared.command.Command.{Command}
+use Rattle.cmd_json.specs.declared.command.Command.TheVariants.{Move, Host, Vm, Enable, Write, Snapshot, Remove, Query, Read, Power, Reset, Inventory, Plan, Start, Run, Cutover, Cancel, Status, Target, Digest, Restart, Quit}
+use Rattle.reply_json.specs.declared.reply.Reply.{Reply}
+use Rattle.reply_json.specs.declared.reply.Reply.TheVariants.{Done}
 use Rattle.target_volume.specs.VolumeStore.{StoreState}
-use Rattle.migrate_server.specs.Line.{Means, Spells}
-use Rattle.migrate_server.specs.Moves.{MoveRefusal, move_reply, after_move, MoveFails, HasMoved}
+use Rattle.migrate_server.specs.Answer.{Answer}
+use Rattle.migrate_server.specs.Line.{AsksFor, Means}
 use Rattle.migrate_server.specs.World.{World}
-use Rattle.migrate_server.specs.declared.command.Command.{Command}
-use Rattle.migrate_server.specs.declared.command.Command.TheVariants.{Move}
+use Rattle.migrate_server.specs.commands.Moves.{move_refusal, MoveRefusal, move_reply, after_move, MoveFails, HasMoved}
+use Rattle.migrate_server.specs.commands.Quit.{quit_reply}
 use Rattle.migrate_server.specs.declared.line.Line.{Line}
 use Rattle.migrate_server.specs.declared.line.Line.TheVariants.{Blank, Asks, Refuses}
-use Rattle.migrate_server.specs.declared.reply.Refusal.{Refusal}
-use Rattle.migrate_server.specs.declared.reply.Refusal.TheVariants.{Volume}
-use Rattle.migrate_server.specs.declared.reply.Reply.{Reply}
-use Rattle.migrate_server.specs.declared.reply.Reply.TheVariants.{Refused}
+use Rattle.migrate_server.specs.declared.refusal.Refusal.{Refusal}
+use Rattle.migrate_server.specs.declared.refusal.Refusal.TheVariants as refusal
 
 -- what a line finds and leaves
 pub record State : Type 0 where
@@ -27,13 +29,65 @@ serving store = record { store = store }
 abbrev pub state_of : World → State
 state_of world = serving world.store
 
--- the first refusal of a command by the state that the server has itself
+-- a command that isn't built is refused, so the other two are never reached for it
+abbrev pub not_built : Option Refusal
+not_built = Some refusal.Command
+
+abbrev pub never_answered : Reply
+never_answered = Done
+
+abbrev pub never_left : State → State
+never_left s = s
+
+-- the first refusal of a command by what it asks for, and by the state that the server has itself
 abbrev pub refusal_of : Command → State → Option Refusal
-refusal_of (Move name sectors writes) s = None
+refusal_of (Move name sectors writes) s = move_refusal sectors writes
+refusal_of Quit s = None
+refusal_of (Host name limit) s = not_built
+refusal_of (Vm name host disks) s = not_built
+refusal_of (Enable vm) s = not_built
+refusal_of (Write vm disk first count fill) s = not_built
+refusal_of (Snapshot vm) s = not_built
+refusal_of (Remove vm snapshot) s = not_built
+refusal_of (Query vm snapshot disk since start) s = not_built
+refusal_of (Read vm disk first count snapshot) s = not_built
+refusal_of (Power vm on) s = not_built
+refusal_of (Reset vm disk) s = not_built
+refusal_of Inventory s = not_built
+refusal_of (Plan name vms interval) s = not_built
+refusal_of (Start plan) s = not_built
+refusal_of (Run at workers guests disturb) s = not_built
+refusal_of (Cutover plan at) s = not_built
+refusal_of (Cancel vm) s = not_built
+refusal_of Status s = not_built
+refusal_of (Target volume first count) s = not_built
+refusal_of (Digest volume) s = not_built
+refusal_of Restart s = not_built
 
 -- where there is none, the refusal that only the store can show
 abbrev pub StoreRefusal : Command → Option Refusal → State → Type 0
 StoreRefusal (Move name sectors writes) refusal s = MoveRefusal name refusal s.store
+StoreRefusal Quit refusal s = refusal ≡ None
+StoreRefusal (Host name limit) refusal s = refusal ≡ None
+StoreRefusal (Vm name host disks) refusal s = refusal ≡ None
+StoreRefusal (Enable vm) refusal s = refusal ≡ None
+StoreRefusal (Write vm disk first count fill) refusal s = refusal ≡ None
+StoreRefusal (Snapshot vm) refusal s = refusal ≡ None
+StoreRefusal (Remove vm snapshot) refusal s = refusal ≡ None
+StoreRefusal (Query vm snapshot disk since start) refusal s = refusal ≡ None
+StoreRefusal (Read vm disk first count snapshot) refusal s = refusal ≡ None
+StoreRefusal (Power vm on) refusal s = refusal ≡ None
+StoreRefusal (Reset vm disk) refusal s = refusal ≡ None
+StoreRefusal Inventory refusal s = refusal ≡ None
+StoreRefusal (Plan name vms interval) refusal s = refusal ≡ None
+StoreRefusal (Start plan) refusal s = refusal ≡ None
+StoreRefusal (Run at workers guests disturb) refusal s = refusal ≡ None
+StoreRefusal (Cutover plan at) refusal s = refusal ≡ None
+StoreRefusal (Cancel vm) refusal s = refusal ≡ None
+StoreRefusal Status refusal s = refusal ≡ None
+StoreRefusal (Target volume first count) refusal s = refusal ≡ None
+StoreRefusal (Digest volume) refusal s = refusal ≡ None
+StoreRefusal Restart refusal s = refusal ≡ None
 
 -- the refusal of a command, or that there is none
 abbrev pub HasRefusal : Command → Option Refusal → State → Type 0
@@ -43,52 +97,136 @@ HasRefusal command refusal s = MatchOption (refusal_of command s)
 -- the reply to a command that is not refused
 abbrev pub reply_of : Command → State → Reply
 reply_of (Move name sectors writes) s = move_reply sectors writes
+reply_of Quit s = quit_reply
+reply_of (Host name limit) s = never_answered
+reply_of (Vm name host disks) s = never_answered
+reply_of (Enable vm) s = never_answered
+reply_of (Write vm disk first count fill) s = never_answered
+reply_of (Snapshot vm) s = never_answered
+reply_of (Remove vm snapshot) s = never_answered
+reply_of (Query vm snapshot disk since start) s = never_answered
+reply_of (Read vm disk first count snapshot) s = never_answered
+reply_of (Power vm on) s = never_answered
+reply_of (Reset vm disk) s = never_answered
+reply_of Inventory s = never_answered
+reply_of (Plan name vms interval) s = never_answered
+reply_of (Start plan) s = never_answered
+reply_of (Run at workers guests disturb) s = never_answered
+reply_of (Cutover plan at) s = never_answered
+reply_of (Cancel vm) s = never_answered
+reply_of Status s = never_answered
+reply_of (Target volume first count) s = never_answered
+reply_of (Digest volume) s = never_answered
+reply_of Restart s = never_answered
 
 -- what a command leaves that is not refused
 abbrev pub state_after : Command → State → State
 state_after (Move name sectors writes) s =
     record s { store = after_move name sectors writes s.store }
+state_after Quit s = s
+state_after (Host name limit) s = never_left s
+state_after (Vm name host disks) s = never_left s
+state_after (Enable vm) s = never_left s
+state_after (Write vm disk first count fill) s = never_left s
+state_after (Snapshot vm) s = never_left s
+state_after (Remove vm snapshot) s = never_left s
+state_after (Query vm snapshot disk since start) s = never_left s
+state_after (Read vm disk first count snapshot) s = never_left s
+state_after (Power vm on) s = never_left s
+state_after (Reset vm disk) s = never_left s
+state_after Inventory s = never_left s
+state_after (Plan name vms interval) s = never_left s
+state_after (Start plan) s = never_left s
+state_after (Run at workers guests disturb) s = never_left s
+state_after (Cutover plan at) s = never_left s
+state_after (Cancel vm) s = never_left s
+state_after Status s = never_left s
+state_after (Target volume first count) s = never_left s
+state_after (Digest volume) s = never_left s
+state_after Restart s = never_left s
 
 -- what a command may leave where the store fails in it
 abbrev pub Fails : Command → (old new : State) → Type 0
 Fails (Move name sectors writes) old new = MoveFails name sectors old.store new.store
+Fails Quit old new = ⊥
+Fails (Host name limit) old new = ⊥
+Fails (Vm name host disks) old new = ⊥
+Fails (Enable vm) old new = ⊥
+Fails (Write vm disk first count fill) old new = ⊥
+Fails (Snapshot vm) old new = ⊥
+Fails (Remove vm snapshot) old new = ⊥
+Fails (Query vm snapshot disk since start) old new = ⊥
+Fails (Read vm disk first count snapshot) old new = ⊥
+Fails (Power vm on) old new = ⊥
+Fails (Reset vm disk) old new = ⊥
+Fails Inventory old new = ⊥
+Fails (Plan name vms interval) old new = ⊥
+Fails (Start plan) old new = ⊥
+Fails (Run at workers guests disturb) old new = ⊥
+Fails (Cutover plan at) old new = ⊥
+Fails (Cancel vm) old new = ⊥
+Fails Status old new = ⊥
+Fails (Target volume first count) old new = ⊥
+Fails (Digest volume) old new = ⊥
+Fails Restart old new = ⊥
 
--- from old, a command may have this reply and leave new: a refusal changes nothing, but for
--- `volume`, which comes where the store fails
-abbrev pub Answers : Command → Reply → (old new : State) → Type 0
-Answers command (Refused why) old new = (HasRefusal command (Some why) old × (new ≡ old))
-    ⊎ ((why ≡ Volume) × Fails command old new)
-Answers command reply old new = HasRefusal command None old
+-- from old, a command may have this answer and leave new: a refusal changes nothing, but for
+-- `volume`, which comes where the store fails in a command that nothing else refuses
+abbrev pub Answers : Command → Answer → (old new : State) → Type 0
+Answers command (Ok reply) old new = HasRefusal command None old
     × (reply ≡ reply_of command old) × (new ≡ state_after command old)
+Answers command (Err why) old new = (HasRefusal command (Some why) old × (new ≡ old))
+    ⊎ ((why ≡ refusal.Volume) × (refusal_of command old ≡ None) × Fails command old new)
 
-abbrev pub LineAnswers : Line → Reply → (old new : State) → Type 0
-LineAnswers Blank reply old new = ⊥
-LineAnswers (Asks command) reply old new = Answers command reply old new
-LineAnswers (Refuses why) reply old new = (reply ≡ Refused why) × (new ≡ old)
+abbrev pub LineAnswers : Line → Answer → (old new : State) → Type 0
+LineAnswers Blank answer old new = ⊥
+LineAnswers (Asks command) answer old new = Answers command answer old new
+LineAnswers (Refuses why) answer old new = (answer ≡ Err why) × (new ≡ old)
 
--- from old, a line may have this reply and leave new
-abbrev pub Step : (line : List ℕ) → Reply → (old new : State) → Type 0
-Step line reply old new = (what : Line) × Means line what × LineAnswers what reply old new
+-- from old, a line may have this answer and leave new
+abbrev pub Step : (line : List ℕ) → Answer → (old new : State) → Type 0
+Step line answer old new = (what : Line) × Means line what × LineAnswers what answer old new
 
--- from old, these lines may have these replies, one after another, and leave new
-abbrev pub Session : (old : State) → List (List ℕ) → List Reply → (new : State) → Type 0
+-- from old, these lines may have these answers, one after another, and leave new
+abbrev pub Session : (old : State) → List (List ℕ) → List Answer → (new : State) → Type 0
 Session old [] [] new = new ≡ old
-Session old (line ∷ lines) (reply ∷ replies) new =
-    (mid : State) × Step line reply old mid × Session mid lines replies new
-Session old [] (reply ∷ replies) new = ⊥
+Session old (line ∷ lines) (answer ∷ answers) new =
+    (mid : State) × Step line answer old mid × Session mid lines answers new
+Session old [] (answer ∷ answers) new = ⊥
 Session old (line ∷ lines) [] new = ⊥
 
 -- what stands of a command that was not refused
 abbrev pub Stands : Command → (now : State) → Type 0
 Stands (Move name sectors writes) now = HasMoved name sectors writes now.store
+Stands Quit now = Unit {0}
+Stands (Host name limit) now = Unit {0}
+Stands (Vm name host disks) now = Unit {0}
+Stands (Enable vm) now = Unit {0}
+Stands (Write vm disk first count fill) now = Unit {0}
+Stands (Snapshot vm) now = Unit {0}
+Stands (Remove vm snapshot) now = Unit {0}
+Stands (Query vm snapshot disk since start) now = Unit {0}
+Stands (Read vm disk first count snapshot) now = Unit {0}
+Stands (Power vm on) now = Unit {0}
+Stands (Reset vm disk) now = Unit {0}
+Stands Inventory now = Unit {0}
+Stands (Plan name vms interval) now = Unit {0}
+Stands (Start plan) now = Unit {0}
+Stands (Run at workers guests disturb) now = Unit {0}
+Stands (Cutover plan at) now = Unit {0}
+Stands (Cancel vm) now = Unit {0}
+Stands Status now = Unit {0}
+Stands (Target volume first count) now = Unit {0}
+Stands (Digest volume) now = Unit {0}
+Stands Restart now = Unit {0}
 
--- where the reply is no refusal, what the line asked for stands
-abbrev pub IsComplete : (line : List ℕ) → Reply → (now : State) → Type 0
-IsComplete line (Refused why) now = Unit {0}
-IsComplete line reply now = (command : Command) × Spells line command × Stands command now
+-- where the line wasn't refused, what it asked for stands
+abbrev pub IsComplete : (line : List ℕ) → Answer → (now : State) → Type 0
+IsComplete line (Ok reply) now = (command : Command) × AsksFor line command × Stands command now
+IsComplete line (Err why) now = Unit {0}
 
--- each of these lines whose reply is no refusal has what it asked for
-abbrev pub AllComplete : List (List ℕ) → List Reply → (now : State) → Type 0
-AllComplete (line ∷ lines) (reply ∷ replies) now =
-    IsComplete line reply now × AllComplete lines replies now
-AllComplete lines replies now = Unit {0}
+-- each of these lines that wasn't refused has what it asked for
+abbrev pub AllComplete : List (List ℕ) → List Answer → (now : State) → Type 0
+AllComplete (line ∷ lines) (answer ∷ answers) now =
+    IsComplete line answer now × AllComplete lines answers now
+AllComplete lines answers now = Unit {0}

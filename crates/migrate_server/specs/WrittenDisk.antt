@@ -5,7 +5,7 @@ use Rattle.sector_model.specs.Sector.{filled}
 use Rattle.sector_model.specs.Disk.{Write, fold_writes}
 use Rattle.sector_model.specs.Run.{block_count, meets, touches}
 use Rattle.sector_model.specs.declared.sector.Sector.{Sector}
-use Rattle.migrate_server.specs.declared.command.MoveWrite.{MoveWrite}
+use Rattle.cmd_json.specs.declared.command.MoveWrite.{MoveWrite}
 
 abbrev pub disk_write : MoveWrite → Write
 disk_write w = record { first = w.first; sectors = replicate w.count (filled w.fill) }

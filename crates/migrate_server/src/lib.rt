@@ -7,14 +7,13 @@ ghost use Rattle.migrate_server.specs.Serve.{status_of};
 ghost use Rattle.migrate_server.specs.Serves.{Serves};
 ghost use Rattle.migrate_server.specs.EndsFor.{EndsFor, TellsUsage};
 
-mod command;
+mod answer;
+mod commands;
 mod copy;
 mod line;
 mod line_buffer;
-mod moves;
-mod parse;
 mod reader;
-mod reply;
+mod refusal;
 mod serve;
 mod status;
 #[cfg(test)]
@@ -66,8 +65,9 @@ pub struct Outcome<D, T> {
     pub fleet: Fleet,
 }
 
-/// Serves the commands of an input until its end: one reply for each line that isn't blank, which
-/// is put before the next byte is read.
+/// Serves the commands of an input until its end or until one asks to quit: one reply for each line
+/// that isn't blank, which is put before the next byte is read. What stands behind a line that asks
+/// to quit has no reply and no effect, and isn't read, but for bytes that came with that line.
 ///
 /// A line has at most 2^20 bytes, and an input at most 2^28. There are no words that it takes: with
 /// any it writes the usage line, and the status is [`Status::Usage`]. [`Status::ReadFault`] comes

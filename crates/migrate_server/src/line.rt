@@ -1,13 +1,13 @@
 //! What a line of an input is.
-ghost use Rattle.std.specs.Prelude.{◌≡◌, ◌≤◌, length, IfOk};
+ghost use Rattle.std.specs.Prelude.{◌≡◌, ◌≤◌, ℕ, List, length, IfOk};
 ghost use Rattle.std.specs.List.{list_all};
-ghost use Rattle.migrate_server.specs.Line.{is_space, is_blank, Means, AsksWithinDisk};
+ghost use Rattle.migrate_server.specs.Line.{is_space, is_blank, quits, Means, AsksInRange};
+ghost use Rattle.migrate_server.specs.LineBuffer.{Holds};
 
-use crate::command::Command;
-use crate::parse::read_command;
-use crate::reply::Refusal;
+use crate::line_buffer::LineBuffer;
+use crate::refusal::Refusal;
 use basics::NoMemory;
-use serde_json::Value;
+use cmd_json::{CmdRefused, Command, read_command};
 use std::alloc::Global;
 
 /// The most bytes of a line, without its LF.
@@ -27,23 +27,41 @@ pub(crate) enum Line {
     Refuses(Refusal),
 }
 
+impl Line {
+    /// Whether it ends the session.
+    pub(crate) fn quits(&self) -> bool
+        ensures { result ≡ quits self.now }
+    {
+        matches!(self, Line::Asks(Command::Quit))
+    }
+}
+
 /// Says what a line is. It answers only want of memory.
-pub(crate) fn read_line(alloc: Global, line: &[u8]) -> Result<Line, NoMemory>
+pub(crate) fn meaning_of(alloc: Global, line: &LineBuffer) -> Result<Line, NoMemory>
+    ensures means { IfOk result (λ what. (text : List ℕ) → Holds line.now text → Means text what) }
+    ensures known { IfOk result AsksInRange }
+{
+    if line.is_long() {
+        return Ok(Line::Refuses(Refusal::Long));
+    }
+    read_line(alloc, line.as_slice())
+}
+
+fn read_line(alloc: Global, line: &[u8]) -> Result<Line, NoMemory>
     requires { length line.now ≤ LINE_LIMIT }
     ensures means { IfOk result (Means line.now) }
-    ensures sound { IfOk result AsksWithinDisk }
+    ensures known { IfOk result AsksInRange }
 {
     if is_blank(line) {
         return Ok(Line::Blank);
     }
-    let value = match Value::from_slice(alloc, line) {
-        Ok(value) => value,
-        Err(error) if error.is_memory() => return Err(NoMemory),
-        Err(_) => return Ok(Line::Refuses(Refusal::NotBuilt)),
-    };
-    match read_command(alloc, &value)? {
-        Some(command) => Ok(Line::Asks(command)),
-        None => Ok(Line::Refuses(Refusal::NotBuilt)),
+    match read_command(alloc, line) {
+        Ok(command) => Ok(Line::Asks(command)),
+        Err(CmdRefused::Json) => Ok(Line::Refuses(Refusal::Json)),
+        Err(CmdRefused::Command) => Ok(Line::Refuses(Refusal::Command)),
+        Err(CmdRefused::Field(name)) => Ok(Line::Refuses(Refusal::Field(name))),
+        Err(CmdRefused::Number(name)) => Ok(Line::Refuses(Refusal::Number(name))),
+        Err(CmdRefused::NoMemory) => Err(NoMemory),
     }
 }
 

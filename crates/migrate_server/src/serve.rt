@@ -1,22 +1,27 @@
 //! The lines of an input, answered one after another.
 ghost use Rattle.std.specs.Prelude.{◌≡◌, ℕ, List, IfOk, OnOk, OnErr, IfErr, length};
+ghost use Rattle.std.specs.Io.KnownBytes.{Appends};
+ghost use Rattle.cmd_json.specs.Known.{IsAskable};
+ghost use Rattle.migrate_server.specs.Answer.{answer_line};
 ghost use Rattle.migrate_server.specs.LineBuffer.{Holds};
-ghost use Rattle.migrate_server.specs.Line.{FitsDisk};
+ghost use Rattle.migrate_server.specs.Line.{AsksInRange};
 ghost use Rattle.migrate_server.specs.Session.{serving, Answers};
-ghost use Rattle.migrate_server.specs.Serve.{HasReply, ServesLine, LacksReply, status_of};
+ghost use Rattle.migrate_server.specs.Serve.{IsAnswered, TellsQuit, ServesLine, LacksReply, LacksBytes, status_of};
 ghost use Rattle.migrate_server.specs.World.{world_of};
 ghost use Rattle.migrate_server.specs.Serves.{Serves};
 ghost use Rattle.migrate_server.specs.EndsFor.{EndsFor};
 
 use crate::Devices;
-use crate::command::Command;
-use crate::line::{Line, read_line};
+use crate::answer::{Answer, line_for};
+use crate::commands::moves::run_move;
+use crate::line::{Line, meaning_of};
 use crate::line_buffer::LineBuffer;
-use crate::moves::run_move;
 use crate::reader::{LineReader, NoLine};
-use crate::reply::{Refusal, Reply};
+use crate::refusal::Refusal;
 use basics::NoMemory;
+use cmd_json::Command;
 use edge_traits::{Disk, Sink, Source};
+use reply_json::Reply;
 use std::alloc::Global;
 use target_volume::VolumeStore;
 
@@ -82,7 +87,7 @@ impl From<NoReply> for Stop {
     }
 }
 
-/// Answers the lines of an input until it ends, or until something stops it.
+/// Answers the lines of an input until it ends, one asks to quit, or something stops it.
 pub(crate) fn serve<S: Source, K: Sink, D: Disk, T: VolumeStore>(
     alloc: Global,
     input: &mut S,
@@ -111,60 +116,75 @@ pub(crate) fn serve<S: Source, K: Sink, D: Disk, T: VolumeStore>(
         if !reader.next(&mut line, input)? {
             return Ok(());
         }
-        serve_line(alloc, &line, out, &mut devices.volumes)?;
+        let quits = serve_line(alloc, &line, out, &mut devices.volumes)?;
+        if quits {
+            return Ok(());
+        }
     }
 }
 
-/// Answers a line, and puts the reply.
+/// Answers a line, puts the reply, and says whether the line asks to quit.
 fn serve_line<K: Sink, T: VolumeStore>(
     alloc: Global,
     line: &LineBuffer,
     out: &mut K,
     store: &mut T,
-) -> Result<(), NoReply>
+) -> Result<bool, NoReply>
     ensures served { OnOk result ((text : List ℕ) → Holds line.now text
         → ServesLine text (K.state out.old) (K.state out.new)
         (serving (T.state store.old)) (serving (T.state store.new))) }
+    ensures quits { IfOk result (λ quits. (text : List ℕ) → Holds line.now text
+        → TellsQuit quits text) }
     ensures lacks { IfErr result (λ why. (text : List ℕ) → Holds line.now text
         → LacksReply why text (K.state out.old) (K.state out.new)
         (serving (T.state store.old)) (serving (T.state store.new))) }
 {
-    let Some(reply) = reply_to(alloc, line, store)? else {
-        return Ok(());
-    };
-    let bytes = reply.line(alloc)?;
-    match out.put(bytes.as_bytes()) {
+    let what = meaning_of(alloc, line)?;
+    let quits = what.quits();
+    if let Some(answer) = answer_to(alloc, what, store)? {
+        put_answer(alloc, answer, out)?;
+    }
+    Ok(quits)
+}
+
+/// Puts the reply that tells an answer.
+fn put_answer<K: Sink>(alloc: Global, answer: Answer, out: &mut K) -> Result<(), NoReply>
+    ensures written { OnOk result
+        (Appends (K.state out.old).held (K.state out.new).held (answer_line answer)) }
+    ensures steady { OnOk result ((K.state out.new).faults ≡ (K.state out.old).faults) }
+    ensures lacks { IfErr result (λ why.
+        LacksBytes why (answer_line answer) (K.state out.old) (K.state out.new)) }
+{
+    let line = line_for(alloc, answer)?;
+    match out.put(&line) {
         Ok(()) => Ok(()),
         Err(_) => Err(NoReply::Fault),
     }
 }
 
-/// The reply to a line, and none to a blank one. It answers only want of memory, and has then
+/// The answer to a line, and none to a blank one. It answers only want of memory, and has then
 /// changed nothing.
-fn reply_to<T: VolumeStore>(
+fn answer_to<T: VolumeStore>(
     alloc: Global,
-    line: &LineBuffer,
+    what: Line,
     store: &mut T,
-) -> Result<Option<Reply>, NoMemory>
-    ensures reply { IfOk result (λ reply. (text : List ℕ) → Holds line.now text
-        → HasReply text reply
+) -> Result<Option<Answer>, NoMemory>
+    requires { AsksInRange what }
+    ensures answer { IfOk result (λ answer. IsAnswered what answer
         (serving (T.state store.old)) (serving (T.state store.new))) }
     ensures err { OnErr result (T.state store.new ≡ T.state store.old) }
 {
-    if line.is_long() {
-        return Ok(Some(Reply::Refused(Refusal::NotBuilt)));
-    }
-    match read_line(alloc, line.as_slice())? {
+    match what {
         Line::Blank => Ok(None),
-        Line::Refuses(why) => Ok(Some(Reply::Refused(why))),
+        Line::Refuses(why) => Ok(Some(Err(why))),
         Line::Asks(command) => Ok(Some(run(alloc, command, store)?)),
     }
 }
 
 /// Carries out a command. It answers only want of memory, and has then changed nothing.
-fn run<T: VolumeStore>(alloc: Global, command: Command, store: &mut T) -> Result<Reply, NoMemory>
-    requires { FitsDisk command }
-    ensures reply { IfOk result (λ reply. Answers command reply
+fn run<T: VolumeStore>(alloc: Global, command: Command, store: &mut T) -> Result<Answer, NoMemory>
+    requires { IsAskable command }
+    ensures answer { IfOk result (λ answer. Answers command answer
         (serving (T.state store.old)) (serving (T.state store.new))) }
     ensures err { OnErr result (T.state store.new ≡ T.state store.old) }
 {
@@ -174,5 +194,7 @@ fn run<T: VolumeStore>(alloc: Global, command: Command, store: &mut T) -> Result
             sectors,
             writes,
         } => run_move(alloc, name, sectors, writes.as_slice(), store),
+        Command::Quit => Ok(Ok(Reply::Done)),
+        _ => Ok(Err(Refusal::Command)),
     }
 }

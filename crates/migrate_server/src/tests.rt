@@ -10,7 +10,9 @@ const MOVE: &str = "{\"cmd\":\"move\",\"name\":\"t\",\"sectors\":256,\"writes\":
 
 const MOVED: &str = "{\"ok\":true,\"state\":\"complete\",\"writes\":1,\"written\":256}\n";
 
-const NOT_BUILT: &str = "{\"error\":\"command\",\"ok\":false}\n";
+const LONG: &str = "{\"error\":\"long\",\"ok\":false}\n";
+
+const LOG_FULL: &str = "{\"error\":\"log-full\",\"ok\":false}\n";
 
 const FAILED: &str = "{\"error\":\"volume\",\"ok\":false}\n";
 
@@ -123,12 +125,61 @@ fn a_move_without_writes_gives_zeros_and_takes_its_name(rt: HostRuntime) -> Resu
 
 #[test]
 fn a_line_has_one_reply_and_a_blank_one_none(rt: HostRuntime) -> Result<(), Fail> {
-    let run = served(&rt, "\n \t\r\nmove\n{\"cmd\":\"move\"}\n{\"cmd\":\"stop\"}")?;
-    let whole = "{\"error\":\"command\",\"ok\":false}\n\
+    let run = served(&rt, "x\n\n{\"cmd\":\"fly\"}\n \t\r\n{\"cmd\":\"move\"}")?;
+    let whole = "{\"error\":\"json\",\"ok\":false}\n\
                  {\"error\":\"command\",\"ok\":false}\n\
-                 {\"error\":\"command\",\"ok\":false}\n";
+                 {\"error\":\"field\",\"name\":\"name\",\"ok\":false}\n";
     assert_eq!(rt; held(&run), whole.as_bytes());
     assert_eq!(rt; run.status, Status::Ok);
+    Ok(())
+}
+
+#[test]
+fn a_number_out_of_its_range_is_told_by_its_name(rt: HostRuntime) -> Result<(), Fail> {
+    let line = "{\"cmd\":\"move\",\"name\":\"t\",\"sectors\":18446744073709551616,\"writes\":[]}";
+    let run = served(&rt, line)?;
+    let whole = "{\"error\":\"number\",\"name\":\"sectors\",\"ok\":false}\n";
+    assert_eq!(rt; held(&run), whole.as_bytes());
+    Ok(())
+}
+
+#[test]
+fn nothing_is_answered_behind_a_line_that_asks_to_quit(rt: HostRuntime) -> Result<(), Fail> {
+    let lines = "{\"cmd\":\"quit\",\"x\":1}\n{\"cmd\":\"quit\"}\nx\n";
+    let run = served(&rt, lines)?;
+    let whole = "{\"error\":\"field\",\"name\":\"x\",\"ok\":false}\n{\"ok\":true}\n";
+    assert_eq!(rt; held(&run), whole.as_bytes());
+    assert_eq!(rt; run.status, Status::Ok);
+    Ok(())
+}
+
+#[test]
+fn nothing_is_read_behind_a_line_that_asks_to_quit(rt: HostRuntime) -> Result<(), Fail> {
+    let setting = Setting {
+        piece: 15,
+        failing_reads: &[2],
+        ..SOUND
+    };
+    let run = served_in(
+        &rt,
+        &setting,
+        &[],
+        b"{\"cmd\":\"quit\"}\n{\"cmd\":\"quit\"}",
+    )?;
+    assert_eq!(rt; held(&run), b"{\"ok\":true}\n".as_slice());
+    assert_eq!(rt; run.status, Status::Ok);
+    assert_eq!(rt; run.source.faults(), 0);
+    Ok(())
+}
+
+#[test]
+fn a_write_behind_the_end_is_refused_before_its_sum(rt: HostRuntime) -> Result<(), Fail> {
+    let line = "{\"cmd\":\"move\",\"name\":\"t\",\"sectors\":256,\"writes\":[[200,57,9]]}";
+    let run = served(&rt, line)?;
+    assert_eq!(rt;
+        held(&run),
+        b"{\"error\":\"range\",\"ok\":false}\n".as_slice()
+    );
     Ok(())
 }
 
@@ -176,7 +227,7 @@ fn the_replies_to_lines_before_a_fault_are_written(rt: HostRuntime) -> Result<()
         ..SOUND
     };
     let run = served_in(&rt, &setting, &[], b"a\nb\nc\n")?;
-    let two = "{\"error\":\"command\",\"ok\":false}\n{\"error\":\"command\",\"ok\":false}\n";
+    let two = "{\"error\":\"json\",\"ok\":false}\n{\"error\":\"json\",\"ok\":false}\n";
     assert_eq!(rt; held(&run), two.as_bytes());
     assert_eq!(rt; run.status, Status::ReadFault);
     Ok(())
@@ -209,7 +260,7 @@ fn a_failing_put_ends_the_run(rt: HostRuntime) -> Result<(), Fail> {
     let run = served_in(&rt, &setting, &[], b"a\nb\nc\n")?;
     assert_eq!(rt;
         held(&run),
-        b"{\"error\":\"command\",\"ok\":false}\n{\"error\":\"comma".as_slice()
+        b"{\"error\":\"json\",\"ok\":false}\n{\"error\":\"json".as_slice()
     );
     assert_eq!(rt; run.status, Status::WriteFault);
     assert_eq!(rt; run.status.code(), 4);
@@ -243,7 +294,7 @@ fn a_line_may_have_two_to_the_twentieth_bytes(rt: HostRuntime) -> Result<(), Fai
     assert_eq!(rt; held(&run), MOVED.as_bytes());
     let too_long = padded(rt.alloc(), (1 << 20) + 1)?;
     let run = served_in(&rt, &SOUND, &[], &too_long)?;
-    assert_eq!(rt; held(&run), NOT_BUILT.as_bytes());
+    assert_eq!(rt; held(&run), LONG.as_bytes());
     Ok(())
 }
 
@@ -269,7 +320,7 @@ fn a_move_has_at_most_two_to_the_sixteenth_sectors_written(rt: HostRuntime) -> R
     assert_eq!(rt; held(&run), moved.as_bytes());
     let more = long_move(rt.alloc(), 513)?;
     let run = served(&rt, more.as_str())?;
-    assert_eq!(rt; held(&run), NOT_BUILT.as_bytes());
+    assert_eq!(rt; held(&run), LOG_FULL.as_bytes());
     Ok(())
 }
 

@@ -7,8 +7,8 @@ ghost use Rattle.sector_model.specs.Run.{block_count, touches, touched_blocks, a
 ghost use Rattle.migrate_server.specs.Copy.{IsClearOutside};
 ghost use Rattle.migrate_server.specs.WrittenDisk.{disk_write, disk_writes, written_disk, AreFlagged, FlagsAfter};
 
-use crate::command::MoveWrite;
 use basics::NoMemory;
+use cmd_json::MoveWrite;
 use sector_model::{BLOCK_SECTORS, Runs, Sector};
 use std::alloc::Global;
 

@@ -1,8 +1,9 @@
 use Rattle.std.proofs.Common.{sym, subst}
 use Rattle.std.proofs.lemmas.Result.{err_from_is_err_and}
 use Rattle.migrate_server.specs.Reader.{ReaderState}
+use Rattle.migrate_server.specs.Serve.{TellsQuit}
 use Rattle.migrate_server.specs.World.{world_of}
-use Rattle.migrate_server.proofs.Serving.{Progress, progress_start, progress_line, ended_at_once, ended_whole_input, ended_without_line, ended_without_reply, budget_falls, took_line, took_none}
+use Rattle.migrate_server.proofs.Serving.{Progress, progress_start, progress_line, ended_at_once, ended_whole_input, ended_by_quit, ended_without_line, ended_without_reply, budget_falls, took_line, took_none}
 use Rattle.migrate_server.proofs.serve.serve.Goals as goal
 
 pub returns-in_default-clause-served : goal.returns-in_default-clause-served
@@ -39,17 +40,27 @@ loop-line-preserved g c =
     let now = world_of (g.S.Source.state c.loop-line.input) (g.K.Sink.state c.loop-line.out) (g.D.Disk.state c.loop-line.devices.disk) (g.T.VolumeStore.state c.loop-line.devices.volumes) in
     let after = world_of (g.S.Source.state c.next.new.source) (g.K.Sink.state c.serve_line.new.out) (g.D.Disk.state c.loop-line.devices.disk) (g.T.VolumeStore.state c.serve_line.new.store) in
     let line = took_line _ _ c.in_ok-next.field-0 c.if-not-branch.false c.in_ok-next.ensures.taken in
+    let goes = subst (λ told. TellsQuit told line.text) c.if-quits.false (c.in_ok-quits.ensures.quits line.text line.held) in
     record {
-      progress = progress_line old now after c.loop-line.reader c.next.new.self c.next.new.line c.loop-line.invariant.progress line (c.in_ok-serve_line.ensures.served line.text line.held);
+      progress = progress_line old now after c.loop-line.reader c.next.new.self c.next.new.line c.loop-line.invariant.progress line (c.in_ok-quits.ensures.served line.text line.held) goes;
       disk = c.loop-line.invariant.disk;
     }
 
-pub returns-in_err-serve_line-clause-served : goal.returns-in_err-serve_line-clause-served
-returns-in_err-serve_line-clause-served g c =
+pub returns-then-quits-clause-served : goal.returns-then-quits-clause-served
+returns-then-quits-clause-served g c =
     let old = world_of (g.S.Source.state c.args.input.now) (g.K.Sink.state c.args.out.now) (g.D.Disk.state c.args.devices.now.disk) (g.T.VolumeStore.state c.args.devices.now.volumes) in
     let now = world_of (g.S.Source.state c.loop-line.input) (g.K.Sink.state c.loop-line.out) (g.D.Disk.state c.loop-line.devices.disk) (g.T.VolumeStore.state c.loop-line.devices.volumes) in
     let after = world_of (g.S.Source.state c.next.new.source) (g.K.Sink.state c.serve_line.new.out) (g.D.Disk.state c.loop-line.devices.disk) (g.T.VolumeStore.state c.serve_line.new.store) in
     let line = took_line _ _ c.in_ok-next.field-0 c.if-not-branch.false c.in_ok-next.ensures.taken in
-    let ended = ended_without_reply old now after c.loop-line.reader c.next.new.self c.next.new.line c.in_err-serve_line.field-0.0 c.loop-line.invariant.progress line (c.in_err-serve_line.ensures.lacks line.text line.held) in
-    let p = err_from_is_err_and c.from_residual-in_err-serve_line.result c.from_residual-in_err-serve_line.ensures.1 in
+    let asks = subst (λ told. TellsQuit told line.text) c.if-quits.true (c.in_ok-quits.ensures.quits line.text line.held) in
+    (ended_by_quit old now after c.loop-line.reader c.next.new.self c.next.new.line c.loop-line.invariant.progress line (c.in_ok-quits.ensures.served line.text line.held) asks).serves
+
+pub returns-in_err-quits-clause-served : goal.returns-in_err-quits-clause-served
+returns-in_err-quits-clause-served g c =
+    let old = world_of (g.S.Source.state c.args.input.now) (g.K.Sink.state c.args.out.now) (g.D.Disk.state c.args.devices.now.disk) (g.T.VolumeStore.state c.args.devices.now.volumes) in
+    let now = world_of (g.S.Source.state c.loop-line.input) (g.K.Sink.state c.loop-line.out) (g.D.Disk.state c.loop-line.devices.disk) (g.T.VolumeStore.state c.loop-line.devices.volumes) in
+    let after = world_of (g.S.Source.state c.next.new.source) (g.K.Sink.state c.serve_line.new.out) (g.D.Disk.state c.loop-line.devices.disk) (g.T.VolumeStore.state c.serve_line.new.store) in
+    let line = took_line _ _ c.in_ok-next.field-0 c.if-not-branch.false c.in_ok-next.ensures.taken in
+    let ended = ended_without_reply old now after c.loop-line.reader c.next.new.self c.next.new.line c.in_err-quits.field-0.0 c.loop-line.invariant.progress line (c.in_err-quits.ensures.lacks line.text line.held) in
+    let p = err_from_is_err_and c.from_residual-in_err-quits.result c.from_residual-in_err-quits.ensures.1 in
     rw (p.1, p.2) ended.serves

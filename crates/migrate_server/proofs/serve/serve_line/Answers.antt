@@ -1,11 +1,17 @@
-use Rattle.std.proofs.Common.{◌∙◌}
-use Rattle.migrate_server.proofs.Serving.{serves_line, fails_in_reply}
+use Rattle.std.proofs.Common.{Some, subst}
+use Rattle.std.proofs.lemmas.Result.{err_from_is_err_and}
+use Rattle.migrate_server.specs.Serve.{IsAnswered}
+use Rattle.migrate_server.specs.Session.{serving}
+use Rattle.migrate_server.proofs.Serving.{has_reply, lacks_reply}
 use Rattle.migrate_server.proofs.serve.serve_line.Goals as goal
 
-pub returns-in-Ok-clause-served : goal.returns-in-Ok-clause-served
-returns-in-Ok-clause-served g c = λ text held.
-    serves_line text _ _ _ _ c.in_ok-reply.field-0 c.in-Some.reply c.as_bytes.result.now c.in-Some.is (c.in_ok-reply.ensures.reply text held) (c.as_bytes.ensures.value ∙ c.in_ok-bytes.ensures) c.in-Ok.ensures.whole c.in-Ok.ensures.cause.stays
-
-pub returns-clause-lacks : goal.returns-clause-lacks
-returns-clause-lacks g c = λ text held.
-    fails_in_reply text _ _ _ _ c.in_ok-reply.field-0 c.in-Some.reply c.as_bytes.result.now c.in-Some.is (c.in_ok-reply.ensures.reply text held) (c.as_bytes.ensures.value ∙ c.in_ok-bytes.ensures) c.in-Err.ensures.part c.in-Err.ensures.cause.later c.in-Err.ensures.cause.failed
+pub returns-in_err-put_answer-clause-lacks : goal.returns-in_err-put_answer-clause-lacks
+returns-in_err-put_answer-clause-lacks g c =
+    let p = err_from_is_err_and c.from_residual-in_err-put_answer.result c.from_residual-in_err-put_answer.ensures.1 in
+    rw (p.1, p.2) (λ text held.
+    let old = serving (g.T.VolumeStore.state c.args.store.now) in
+    let new = serving (g.T.VolumeStore.state c.answer_to.new.store) in
+    let answers = subst (λ answer. IsAnswered c.in_ok-what.what answer old new) c.in-Some.is c.in_ok-answer.ensures.answer in
+    lacks_reply c.in_err-put_answer.field-0.0 text c.in-Some.answer (g.K.Sink.state c.args.out.now) (g.K.Sink.state c.put_answer.new.out) old new
+    (has_reply text c.in_ok-what.what (Some c.in-Some.answer) old new (c.in_ok-what.ensures.means text held) answers)
+    c.in_err-put_answer.ensures.lacks)

@@ -1,0 +1,3 @@
+//! The commands, one file each: it carries the command out, and says by the definitions what it
+//! answers and leaves.
+pub(crate) mod moves;

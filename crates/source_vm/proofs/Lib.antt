@@ -1,0 +1,4 @@
+pub mod LiveLemmas
+pub mod FactLemmas
+pub mod DiskLemmas
+pub mod MachineLemmas

@@ -1,0 +1,6 @@
+use Rattle.log_model.specs.declared.entry.Act.TheVariants.{Enable}
+use Rattle.source_vm.proofs.DiskLemmas.{Stepped, Took}
+use Rattle.source_vm.proofs.disks.enable_all.Given as goal
+
+abbrev pub invariant-loop-disk : goal.invariant-loop-disk
+invariant-loop-disk l = Stepped (Took Enable) l.disk-index l.initial.disks l.disks
