@@ -1,0 +1,9 @@
+pub mod Places
+pub mod Names
+pub mod Each
+pub mod StaysSound
+pub mod Kept
+pub mod Refused
+pub mod Replacing
+pub mod Logs
+pub mod Found

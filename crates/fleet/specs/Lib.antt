@@ -1,0 +1,9 @@
+pub mod Fleet
+pub mod Sound
+pub mod Refusals
+pub mod Lending
+pub mod Laws
+pub mod Finding
+pub mod NameMap
+pub mod Vm
+pub mod Kept
