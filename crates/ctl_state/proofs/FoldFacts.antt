@@ -120,7 +120,7 @@ others_stay v (Ended mig how place) q h ne = step_other v mig q (Ended mig how p
 
 one_more : (records : List Record) (v : CtlValue) (r : Record) → after records ≡ Ok v
     → after (records ++ r ∷ []) ≡ cond (record_may_stand v r) (Ok (after_record v r))
-      (Err (length records + 1))
+    (Err (length records + 1))
 one_more records v r h = lists_join records (r ∷ [])
     ∙ ap (λ (a : Result CtlValue ℕ). then_after (length records) a (r ∷ [])) h
 

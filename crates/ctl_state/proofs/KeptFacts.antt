@@ -531,17 +531,18 @@ kept_empty plans courses migrations names work p c m n w =
 -- the machines in the map are those at work
 kept_tells : (n : ℕ) (live : Option ℕ) → is_some (work_kept n live) ≡ nat_lt 0 n
 kept_tells n live = elim (eqb_tells n 0) [
-    | inl z ↦ ap (λ b. is_some (cond b None (Some live))) z.0 ∙ sym (ap (nat_lt 0) z.1)
-    | inr z ↦ let a = z.1 in let some : 0 < n = omega (arith, a) in
-        ap (λ b. is_some (cond b None (Some live))) z.0 ∙ sym (lt-ltb 0 n some) ]
+  | inl z ↦ ap (λ b. is_some (cond b None (Some live))) z.0 ∙ sym (ap (nat_lt 0) z.1)
+  | inr z ↦ let a = z.1 in let some : 0 < n = omega (arith, a) in
+      ap (λ b. is_some (cond b None (Some live))) z.0 ∙ sym (lt-ltb 0 n some)
+]
 
 pub free_in_map : (v : CtlValue) (names : BTreeMap (List ℕ) ℕ) (work : Work) (vms : List ℕ)
     → IsKept v.plans v.courses v.migrations names work
     → list_any (is_at_work v) vms ≡ false → HasNone work vms
 free_in_map v names work vms k h =
     any-same (is_in work) (is_at_work v) vms
-      (λ vm. ap is_some (k.work_holds.works vm)
-        ∙ kept_tells (work_on v.plans v.courses v.migrations vm) (live_on v.migrations vm))
+    (λ vm. ap is_some (k.work_holds.works vm)
+    ∙ kept_tells (work_on v.plans v.courses v.migrations vm) (live_on v.migrations vm))
     ∙ h
 
 -- other trees of the same names and the same machines
@@ -549,5 +550,8 @@ pub kept_names : (plans : List Plan) (courses : List PlanCourse) (migrations : L
     (names names' : BTreeMap (List ℕ) ℕ) (work : Work) → AreNames plans names'
     → IsKept plans courses migrations names work → IsKept plans courses migrations names' work
 kept_names plans courses migrations names names' work named k = record {
-  paired = k.paired; courses_hold = k.courses_hold; names_hold = named; work_holds = k.work_holds;
+  paired = k.paired;
+  courses_hold = k.courses_hold;
+  names_hold = named;
+  work_holds = k.work_holds;
 }

@@ -13,10 +13,18 @@ impl CtlState {
         ensures { result ≡ record_may_stand self.now r.now }
     {
         match r {
-            Record::PlanMade { plan, name, vms, .. } => self.may_plan(*plan, name, vms),
-            Record::MigrationStarted { mig, plan, vm, disks } => {
-                self.may_start(*mig, *plan, *vm, *disks)
-            }
+            Record::PlanMade {
+                plan,
+                name,
+                vms,
+                ..
+            } => self.may_plan(*plan, name, vms),
+            Record::MigrationStarted {
+                mig,
+                plan,
+                vm,
+                disks,
+            } => { self.may_start(*mig, *plan, *vm, *disks) }
             Record::CutoverSet { plan, has, at } => self.may_cut_over(*plan, *has, *at),
             Record::Chosen { mig, .. }
             | Record::SnapTaken { mig, .. }
@@ -39,9 +47,7 @@ impl CtlState {
     fn may_plan(&self, plan: u32, name: &Name, vms: &NumberList) -> bool
         ensures { result ≡ may_plan self.now plan name.now vms.now }
     {
-        self.is_new_plan(plan, name)
-            && self.are_free(vms.as_slice())
-            && !has_double(vms.as_slice())
+        self.is_new_plan(plan, name) && self.are_free(vms.as_slice()) && !has_double(vms.as_slice())
     }
 
     fn may_step_in(&self, mig: u32, r: &Record) -> bool

@@ -7,6 +7,8 @@ mod laws;
 mod limits;
 mod name_map;
 mod refusals;
+#[cfg(test)]
+mod tests;
 mod vm;
 
 pub use fleet::Fleet;

@@ -3,6 +3,8 @@
 
 mod finding;
 mod rows;
+#[cfg(test)]
+mod tests;
 
 pub use finding::find;
 pub use rows::{HostRow, VmRow, hosts, machines};

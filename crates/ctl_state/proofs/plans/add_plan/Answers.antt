@@ -13,13 +13,15 @@ returns-clause-names c = λ q.
     let plans = c.args.plans.now.items in
     let name = c.in_ok-clone.ensures.cases in
     let made : Plan = record {
-      number = c.args.plan; name = c.in_ok-clone.field-0; interval = c.args.interval;
+      number = c.args.plan;
+      name = c.in_ok-clone.field-0;
+      interval = c.args.interval;
       vms = c.in_ok-clone-2.field-0;
     } in
     let free = ap (λ (n : List ℕ). is_taken n plans) name ∙ c.requires.new in
     name_added plans made c.in_ok-key.key q (get (slice_cmp nat_cmp) c.args.names.now q)
-      (get (slice_cmp nat_cmp) c.insert.new.self q) free
-      (c.in_ok-key.ensures.cases ∙ sym name) (c.in_ok-insert.ensures.updates.0 q)
-      (c.requires.named q)
+    (get (slice_cmp nat_cmp) c.insert.new.self q) free
+    (c.in_ok-key.ensures.cases ∙ sym name) (c.in_ok-insert.ensures.updates.0 q)
+    (c.requires.named q)
     ∙ sym (ap (λ (ps : List Plan). plan_named ps q)
-      (c.in_ok-push.ensures.items ∙ ap (λ (ps : List Plan). ps ++ made ∷ []) c.reserve.ensures.items))
+    (c.in_ok-push.ensures.items ∙ ap (λ (ps : List Plan). ps ++ made ∷ []) c.reserve.ensures.items))
