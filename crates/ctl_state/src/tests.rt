@@ -43,14 +43,16 @@ const BODIES: [&[u8]; 29] = [
 const FIRST: u64 = 1_714_557_600;
 
 fn record(rt: &HostRuntime, number: usize) -> Result<Record, Fail> {
-    let body = BODIES.get(number - 1).ok_or("no such record")?;
+    let body = BODIES
+        .get(number.saturating_sub(1))
+        .ok_or("no such record")?;
     Ok(decode(rt.alloc(), body)?)
 }
 
 /// The state behind the first so many records.
 fn state_after(rt: &HostRuntime, count: usize) -> Result<CtlState, Fail> {
     let mut state = CtlState::empty(rt.alloc());
-    for number in 1..count + 1 {
+    for number in 1..count.saturating_add(1) {
         state.apply(&record(rt, number)?)?;
     }
     Ok(state)
@@ -60,7 +62,7 @@ fn state_after(rt: &HostRuntime, count: usize) -> Result<CtlState, Fail> {
 /// stands twice; 0 where all stand.
 fn refused_at(rt: &HostRuntime, missing: usize, double: usize) -> Result<usize, Fail> {
     let mut state = CtlState::empty(rt.alloc());
-    for number in 1..BODIES.len() + 1 {
+    for number in 1..30 {
         let record = record(rt, number)?;
         if number != missing && state.apply(&record).is_err() {
             return Ok(number);
@@ -103,7 +105,7 @@ fn a_record_that_is_missing_makes_a_later_one_strange(rt: HostRuntime) -> Result
         let expected = match missing {
             18 => 20,
             19 => 0,
-            _ => missing + 1,
+            _ => missing.saturating_add(1),
         };
         assert_eq!(rt; refused_at(&rt, missing, 0)?, expected, "without {missing}");
     }
