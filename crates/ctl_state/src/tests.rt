@@ -105,7 +105,7 @@ fn a_record_that_is_missing_makes_a_later_one_strange(rt: HostRuntime) -> Result
         let expected = match missing {
             18 => 20,
             19 => 0,
-            _ => missing.saturating_add(1),
+            _ => missing + 1,
         };
         assert_eq!(rt; refused_at(&rt, missing, 0)?, expected, "without {missing}");
     }
