@@ -18,7 +18,8 @@ use Rattle.change_id.proofs.Counts.{counted-last}
 use Rattle.change_id.proofs.IdMarks.{takes-at_mark, in_force-made}
 use Rattle.log_model.proofs.Readings.{snap-takes, snap-resets_none}
 
-enabled-last : (log : List Entry) (e : Entry) → is_enabled (log ++ e ∷ []) ≡ enabled_after (is_enabled log) e
+pub enabled-last : (log : List Entry) (e : Entry)
+    → is_enabled (log ++ e ∷ []) ≡ enabled_after (is_enabled log) e
 enabled-last log e = fold-append enabled_after false log (e ∷ [])
 
 -- ---- a count stands exactly where an Enable entry does

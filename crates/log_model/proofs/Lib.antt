@@ -17,3 +17,4 @@ pub mod Live
 pub mod SnapMarks
 pub mod OffPlace
 pub mod LinkLaws
+pub mod Options

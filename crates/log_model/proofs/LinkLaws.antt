@@ -1,5 +1,5 @@
 -- Calls of a link in a row.
-use Rattle.std.proofs.Common.{◌≡◌, ℕ, ◌≤◌, List, [], ◌∷◌, ◌++◌, length, take, drop, cond, Result, Ok, Err, subst, sym, ap, refl, ◌∙◌, arith, append_assoc, length-take}
+use Rattle.std.proofs.Common.{◌≡◌, ℕ, ◌≤◌, List, [], ◌∷◌, ◌++◌, length, take, drop, cond, true, Result, Ok, Err, subst, sym, ap, refl, ◌∙◌, arith, append_assoc, length-take}
 use Rattle.std.specs.List.{filter}
 use Rattle.std.proofs.lemmas.Bool.{eq-eqb}
 use Rattle.std.proofs.lemmas.List.{append-nil, take_all, drop_all, take-take, take-append-le, take-append-drop, drop-append-le}
@@ -8,8 +8,8 @@ use Rattle.log_model.specs.declared.entry.Act.{Act}
 use Rattle.log_model.specs.declared.entry.Entry.{Entry}
 use Rattle.log_model.specs.declared.refusals.LinkRefused.{LinkRefused}
 use Rattle.log_model.specs.Legal.{Legal, all_of}
-use Rattle.log_model.specs.Link.{LinkState, IsCall, OnlyReads, AddsAct, FollowsFrom, is_by, log_met, entry_if_ok}
-use Rattle.log_model.specs.Laws.{CallsFollow, ReadsArePart}
+use Rattle.log_model.specs.Link.{LinkState, IsCall, OnlyReads, AddsAct, FollowsFrom, is_by, log_met, entry_if_ok, with_entries, after_act_alone}
+use Rattle.log_model.specs.Laws.{CallsFollow, ReadsArePart, CallsAlone}
 
 -- ---- a list that begins with another
 
@@ -136,3 +136,28 @@ read-then-adds a b c result act first second =
     let caller : b.caller ≡ a.caller = ap (λ (x : LinkState). x.caller) first.new_is in
     reads_are_part a b c (log_met result c) (entry_if_ok result (record { who = a.caller; act = act })) first
     (subst (λ (who : ℕ). IsCall (log_met result c) (entry_if_ok result (record { who = who; act = act })) b c) caller second)
+
+-- ---- where nobody else reaches the machine
+
+pub calls_alone : (a b : LinkState) → a.unshared ≡ true → CallsAlone a b
+calls_alone a b is = record {
+  met = λ log added h. h.alone is;
+  adds = λ log added h. h.new_is
+      ∙ ap (λ (xs : List Entry). record a { seen = xs ++ added; own = a.own ++ added })
+      (h.alone is);
+  reads = λ h. h.new_is
+      ∙ ap (λ (xs : List Entry). record a { seen = xs; own = a.own ++ [] })
+      (append-nil b.seen ∙ h.alone is)
+      ∙ ap (λ (xs : List Entry). record a { seen = a.seen; own = xs }) (append-nil a.own);
+}
+
+-- so each call as it promises leaves the one entry more where it is accepted, and else nothing new
+pub adds-alone : {T : Type 0} (a b : LinkState) (result : Result T LinkRefused) (act : Act)
+    → a.unshared ≡ true → AddsAct result act a b → b ≡ after_act_alone result act a
+adds-alone a b (Ok x) act is h =
+    (calls_alone a b is).adds (log_met (Ok x) b) (record { who = a.caller; act = act } ∷ []) h
+adds-alone a b (Err r) act is h = (calls_alone a b is).reads h
+
+pub met-alone : {T : Type 0} (a b : LinkState) (result : Result T LinkRefused) (act : Act)
+    → a.unshared ≡ true → AddsAct result act a b → log_met result b ≡ a.seen
+met-alone a b result act is h = h.alone is

@@ -1,6 +1,7 @@
 -- The blocks that are touched between two places.
 use Rattle.std.proofs.Common.{◌≡◌, ℕ, ◌+◌, ◌/◌, ◌≤◌, List, [], ◌∷◌, ◌++◌, length, take, drop, Bool, true, false, cond, ◌||◌, ◌&&◌, eqb, nat_eq, Option, Some, None, sym, ap, subst, refl, ◌∙◌, arith, length-take, inl, inr}
 use Rattle.std.specs.List.{fold, cons_option, slice_get, list_any, range_with_len, AllByRecursion}
+use Rattle.std.proofs.Math.Bool.{and-or_distrib_right}
 use Rattle.std.proofs.lemmas.Bool.{cases_lt, eqb-true}
 use Rattle.std.proofs.lemmas.Option.{slice_get_past}
 use Rattle.std.proofs.lemmas.List.{take-take, take-append-drop, drop-append-le, drop_all, length-replicate}
@@ -26,13 +27,6 @@ use Rattle.log_model.proofs.LegalLogs.{legal_last, legal_front, prefixes_are_leg
 pub writes-append : (d : ℕ) (xs ys : List Entry) → writes_of d (xs ++ ys) ≡ writes_of d xs ++ writes_of d ys
 writes-append d xs ys = let found : Entry → Option Replacement = λ e. write_to d e.act in filter_map-append found xs ys
 
-and_or : (a b r : Bool) → ((a || b) && r) ≡ ((a && r) || (b && r))
-and_or true true true = refl
-and_or true true false = refl
-and_or true false true = refl
-and_or true false false = refl
-and_or false b r = refl
-
 -- the entries between i and k are those up to j and those from j on
 pub between-joins : (i j k : ℕ) (log : List Entry) → i ≤ j → j ≤ k → between i k log ≡ between i j log ++ between j k log
 between-joins i j k log first second =
@@ -56,7 +50,7 @@ touched_joins c d i j k log sector first second =
     let both : writes_of d (between i k log) ≡ early ++ late = ap (writes_of d) (between-joins i j k log first second) ∙ writes-append d (between i j log) (between j k log) in
     in_touched c sector (writes_of d (between i k log)) ∙ ap (λ (ws : List Replacement). list_any (touches (sector / 128)) ws && known) both
     ∙ ap (λ b. b && known) (list_any-append (touches (sector / 128)) early late)
-    ∙ and_or (list_any (touches (sector / 128)) early) (list_any (touches (sector / 128)) late) known
+    ∙ and-or_distrib_right (list_any (touches (sector / 128)) early) (list_any (touches (sector / 128)) late) known
     ∙ sym (ap (λ b. b || in_blocks (touched_blocks c late) sector) (in_touched c sector early) ∙ ap (λ b. (list_any (touches (sector / 128)) early && known) || b) (in_touched c sector late))
 
 -- ---- the writes of a legal log lie within their disks

@@ -26,7 +26,7 @@ use Rattle.log_model.specs.Touched.{between, touched, touched_areas}
 use Rattle.log_model.specs.Query.{changed_areas, accepts}
 use Rattle.log_model.specs.PlainMachine.{numbered_place}
 use Rattle.log_model.specs.Refusals.{snap_refusal, remove_refusal, power_off_refusal, power_on_refusal, reset_refusal, enable_refusal, write_refusal}
-use Rattle.log_model.specs.Link.{LinkState, IsCall, OnlyReads, FollowsFrom, is_by}
+use Rattle.log_model.specs.Link.{LinkState, IsCall, OnlyReads, FollowsFrom, is_by, with_entries}
 
 -- a legal log stays legal under its prefixes, and grows by what may stand after it
 abbrev pub PrefixesAreLegal : Type 0
@@ -293,3 +293,10 @@ pub record CallsFollow (a b : LinkState) : Type 0 where
 abbrev pub ReadsArePart : Type 0
 ReadsArePart = (a b c : LinkState) (log added : List Entry)
     → OnlyReads a b → IsCall log added b c → IsCall log added a c
+
+-- a call of a link to a machine that nobody else reaches meets the log as last seen, and what it
+-- adds stands behind that
+pub record CallsAlone (a b : LinkState) : Type 0 where
+  pub met : (log added : List Entry) → IsCall log added a b → log ≡ a.seen
+  pub adds : (log added : List Entry) → IsCall log added a b → b ≡ with_entries added a
+  pub reads : OnlyReads a b → b ≡ a

@@ -67,6 +67,17 @@ AddsAct result act old new =
     IsCall (log_met result new) (entry_if_ok result (record { who = old.caller; act = act }))
     old new
 
+-- the link with these entries behind the log as last seen, and behind the caller's own
+abbrev pub with_entries : (added : List Entry) → LinkState → LinkState
+with_entries added a = record a { seen = a.seen ++ added; own = a.own ++ added }
+
+-- what such a call leaves where nobody else reaches the machine: the entry of this act stands last
+-- where it is accepted, and else all is as it was
+abbrev pub after_act_alone : {T : Type 0} → Result T LinkRefused → Act → LinkState → LinkState
+after_act_alone (Ok answer) act old =
+    with_entries (record { who = old.caller; act = act } ∷ []) old
+after_act_alone (Err refusal) act old = old
+
 -- what calls in a row leave, however many: the same machine for the same caller, and a longer log,
 -- in which what is new under the caller's number is what its own entries gained
 pub record FollowsFrom (old new : LinkState) : Type 0 where

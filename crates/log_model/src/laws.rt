@@ -1,9 +1,9 @@
 //! Laws of the definitions. Each function's contract is the law, and its body does nothing.
-ghost use Rattle.std.specs.Prelude.{ℕ, List};
+ghost use Rattle.std.specs.Prelude.{◌≡◌, ℕ, List, true};
 ghost use Rattle.change_id.specs.declared.ChangeId.{ChangeId};
 ghost use Rattle.log_model.specs.declared.entry.Entry.{Entry};
 ghost use Rattle.log_model.specs.Link.{LinkState};
-ghost use Rattle.log_model.specs.Laws.{AcceptedMayStand, PrefixesAreLegal, LegalGrows, LegalGrew, LegalForEachDisk, NoWriteWhileOff, OffHasPlace, OffIsFrozen, NumbersHaveNoGap, NumbersDiffer, NumberedPlaceGives, LaterEntriesKeep, LaterEntriesKeepPlaces, SnapsHaveTheirMarks, EachWasTaken, MarksAscend, LiveWasTaken, SnapshotsHaveIds, NextHasId, ActiveIsEnabled, MigrationsKeepTheirs, MigrationsGetNone, OthersLeaveMigrations, AnswersStay, IdsAnswerBetween, NumberedPlaceIsMark, MarksOfIds, TouchedJoins, UntouchedStays, ContentsAreSized, AnswersAreAreas, AnswerPagesJoin, AllPagesAreTheAnswer, CallsFollow, ReadsArePart};
+ghost use Rattle.log_model.specs.Laws.{AcceptedMayStand, PrefixesAreLegal, LegalGrows, LegalGrew, LegalForEachDisk, NoWriteWhileOff, OffHasPlace, OffIsFrozen, NumbersHaveNoGap, NumbersDiffer, NumberedPlaceGives, LaterEntriesKeep, LaterEntriesKeepPlaces, SnapsHaveTheirMarks, EachWasTaken, MarksAscend, LiveWasTaken, SnapshotsHaveIds, NextHasId, ActiveIsEnabled, MigrationsKeepTheirs, MigrationsGetNone, OthersLeaveMigrations, AnswersStay, IdsAnswerBetween, NumberedPlaceIsMark, MarksOfIds, TouchedJoins, UntouchedStays, ContentsAreSized, AnswersAreAreas, AnswerPagesJoin, AllPagesAreTheAnswer, CallsFollow, ReadsArePart, CallsAlone};
 
 /// A legal log stays legal under its prefixes, and under an entry more that may stand after it. One
 /// that is legal for a machine is legal for each of its disks alone.
@@ -108,4 +108,11 @@ pub fn answer_pages_join()
 pub fn calls_follow()
     ensures in_a_row { (a b : LinkState) → CallsFollow a b }
     ensures reads { ReadsArePart }
+{}
+
+/// A call of a link to a machine that nobody else reaches meets the log as its caller has last seen
+/// it. What it adds stands behind that log and behind the caller's own entries, and a call that only
+/// reads leaves the link as it was.
+pub fn calls_alone()
+    ensures { (a b : LinkState) → a.unshared ≡ true → CallsAlone a b }
 {}

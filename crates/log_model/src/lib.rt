@@ -21,9 +21,10 @@ pub use folds::{
     tracking_of, written,
 };
 pub use laws::{
-    accepted_may_stand, answer_pages_join, answers_stay, calls_follow, ids_answer_between,
-    ids_exist, later_entries_keep, legal_logs, marks_of_ids, migrations_keep_theirs,
-    numbers_have_no_gap, off_is_frozen, snapshots_have_their_marks, touched_blocks_join,
+    accepted_may_stand, answer_pages_join, answers_stay, calls_alone, calls_follow,
+    ids_answer_between, ids_exist, later_entries_keep, legal_logs, marks_of_ids,
+    migrations_keep_theirs, numbers_have_no_gap, off_is_frozen, snapshots_have_their_marks,
+    touched_blocks_join,
 };
 pub use link::{Facts, Link, Snapped};
 pub use may_stand::may_stand_alone;

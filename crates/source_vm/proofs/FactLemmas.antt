@@ -15,6 +15,7 @@ use Rattle.log_model.specs.Legal.{Disks, ActMayStand, machine_on, on_after, take
 use Rattle.log_model.specs.Marks.{tracking, tracking_after}
 use Rattle.log_model.specs.Frozen.{last_off, off_after}
 use Rattle.change_id.proofs.Ends.{by_last}
+use Rattle.log_model.proofs.IdsExist.{enabled-last}
 use Rattle.log_model.proofs.OffLaws.{last_off-last, machine_on-last}
 use Rattle.log_model.proofs.OwnedLaws.{taken-append, owner_of-last}
 use Rattle.source_vm.specs.declared.kept_facts.KeptFacts.{KeptFacts}
@@ -25,14 +26,11 @@ use Rattle.source_vm.proofs.LiveLemmas.{ascends-push, owner_in-push, owner_in-wi
 
 -- ---- one entry more
 
-abbrev entry : ℕ → Act → Entry
+abbrev pub entry : ℕ → Act → Entry
 entry who act = record { who = who; act = act }
 
 tracking-last : (log : List Entry) (e : Entry) → tracking (log ++ e ∷ []) ≡ tracking_after (tracking log) e
 tracking-last log e = fold-append tracking_after Never log (e ∷ [])
-
-enabled-last : (log : List Entry) (e : Entry) → is_enabled (log ++ e ∷ []) ≡ enabled_after (is_enabled log) e
-enabled-last log e = fold-append enabled_after false log (e ∷ [])
 
 written-last : (log : List Entry) (e : Entry) → written (log ++ e ∷ []) ≡ written log + sectors_of e.act
 written-last log e = omega (arith, sum_by-append (λ x. sectors_of x.act) log (e ∷ []))

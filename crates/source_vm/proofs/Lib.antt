@@ -2,3 +2,4 @@ pub mod LiveLemmas
 pub mod FactLemmas
 pub mod DiskLemmas
 pub mod MachineLemmas
+pub mod Additions

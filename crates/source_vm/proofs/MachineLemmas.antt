@@ -21,10 +21,8 @@ use Rattle.log_model.proofs.Accepted.{plain_adds, log_before}
 use Rattle.source_disk.specs.SourceDisk.{SourceDiskState, capacity_of as size_of}
 use Rattle.source_vm.specs.MachineLog.{LogState}
 use Rattle.source_vm.specs.Machine.{MachineState, Adds, link_of}
+use Rattle.source_vm.proofs.FactLemmas.{entry}
 use Rattle.source_vm.specs.Disks.{AreDisks, IsSound, StillDisks, DisksTake}
-
-abbrev pub entry : ℕ → Act → Entry
-entry who act = record { who = who; act = act }
 
 -- ---- results
 

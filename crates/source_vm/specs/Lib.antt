@@ -4,3 +4,4 @@ pub mod MachineLog
 pub mod Refusals
 pub mod Machine
 pub mod Disks
+pub mod Laws

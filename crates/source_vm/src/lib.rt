@@ -6,6 +6,7 @@
 
 mod disks;
 mod kept_facts;
+mod laws;
 mod live;
 mod machine;
 mod machine_log;
@@ -13,6 +14,7 @@ mod plain_link;
 #[cfg(test)]
 mod tests;
 
+pub use laws::additions_follow;
 pub use log_model::WriteRefused;
 pub use machine::{Machine, may_have_disks};
 pub use plain_link::PlainLink;

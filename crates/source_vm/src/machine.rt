@@ -126,6 +126,13 @@ impl Machine {
         self.log.entries().get(place as usize)
     }
 
+    /// The log: its entries, in order. It takes no memory.
+    pub fn log(&self) -> &[Entry]
+        ensures { result.now ≡ self.now.log }
+    {
+        self.log.entries()
+    }
+
     /// How many writes stand before a place of the log or its end. It walks the log up to there.
     pub fn writes_before(&self, place: u64) -> u64
         requires { place ≤ length self.now.log }
