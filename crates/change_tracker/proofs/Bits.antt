@@ -1,7 +1,7 @@
 -- The bits of a word, and of the blocks that a run meets.
 use Rattle.std.proofs.Common.{◌≡◌, ℕ, zero, suc, ◌+◌, ◌-◌, ◌*◌, ◌/◌, ◌%◌, ◌^◌, ◌<◌, ◌≤◌, min, max, Bool, true, false, not, ◌&&◌, ◌||◌, eqb, leb, bit_and, bit_or, w64, sym, ap, refl, ◌∙◌, arith, inl, inr, ◌⊎◌}
 use Rattle.std.specs.Int.{bit_at, bit_not}
-use Rattle.std.proofs.lemmas.Bool.{cases_lt, lt-ltb, le-ltb, le-leb, lt-leb}
+use Rattle.std.proofs.lemmas.Bool.{cases_lt, lt-ltb, le-ltb, le-leb, lt-leb, and_right}
 use Rattle.std.proofs.lemmas.Nat.Bits.{bit_at_or, bit_at_and, bit_at-lt, bit_at_not, ones_shr, ones_shl, bit_at_ones, bit_at_ones_above, bit_at_mask_inside, bit_at_mask_below, bit_at-zero}
 use Rattle.sector_model.specs.Run.{meets}
 use Rattle.basics.specs.Bits.{has_bit}
@@ -60,14 +60,10 @@ pub met_iff : (block first count : ℕ) → 0 < count → meets block first coun
 met_iff block first count some = elim (cases_lt block (first / 128)) [
   | inl below ↦ le-ltb (max (128 * block) first) (min (128 * block + 128) (first + count)) (omega arith) ∙ sym (ap (λ x. x && leb block ((first + count - 1) / 128)) (lt-leb (first / 128) block below))
   | inr from ↦ elim (cases_lt ((first + count - 1) / 128) block) [
-    | inl past ↦ le-ltb (max (128 * block) first) (min (128 * block + 128) (first + count)) (omega arith) ∙ sym (ap (λ x. leb (first / 128) block && x) (lt-leb block ((first + count - 1) / 128) past) ∙ and_false (leb (first / 128) block))
+    | inl past ↦ le-ltb (max (128 * block) first) (min (128 * block + 128) (first + count)) (omega arith) ∙ sym (ap (λ x. leb (first / 128) block && x) (lt-leb block ((first + count - 1) / 128) past) ∙ and_right (leb (first / 128) block) false refl)
     | inr upto ↦ lt-ltb (max (128 * block) first) (min (128 * block + 128) (first + count)) (omega arith) ∙ sym (ap (λ x. x && leb block ((first + count - 1) / 128)) (le-leb (first / 128) block from) ∙ le-leb block ((first + count - 1) / 128) upto)
   ]
 ]
-  where
-    and_false : (x : Bool) → (x && false) ≡ false
-    and_false true = refl
-    and_false false = refl
 
 pub mask_has : (w p first count l h : ℕ) → 0 < count → p < 64 → first / 128 / 64 ≤ w → w ≤ (first + count - 1) / 128 / 64
     → l ≡ max (first / 128) (64 * w) → h ≡ min ((first + count - 1) / 128) (64 * w + 63)

@@ -3,7 +3,7 @@ use Rattle.std.proofs.Common.{◌≡◌, ℕ, zero, suc, ◌+◌, ◌-◌, ◌<�
 use Rattle.std.specs.List.{list_any, find, slice_get, filter_map, range_with_len, filter}
 use Rattle.std.specs.Option.{option_or}
 use Rattle.std.proofs.Math.Bool.{or-false}
-use Rattle.std.proofs.lemmas.Bool.{cases_lt, eq-eqb, eqb-true, false≢true}
+use Rattle.std.proofs.lemmas.Bool.{cases_lt, eq-eqb, eqb-true, false≢true, or_right}
 use Rattle.std.proofs.lemmas.Option.{same_Some, none-some, slice_get_within}
 use Rattle.std.proofs.lemmas.List.{take-append-le, drop-append-le, take_all, append-nil}
 use Rattle.std.proofs.lemmas.List.Sums.{sum_by-take-le}
@@ -343,10 +343,6 @@ either None y true = refl
 either None y false = refl
 either (Some x) y b = refl
 
-late : (a b : Bool) → b ≡ true → (a || b) ≡ true
-late true b h = refl
-late false b h = h
-
 -- the changes of earlier snapshots, up to the new one, and those behind it
 changed_upto : (id : ℕ) (old : TrackerState) (place b : ℕ) → place < length old.snapshots
     → changed_in (after_freezing id old) (place + 1) (length old.snapshots + 1) b ≡ (changed_in old (place + 1) (length old.snapshots) b || list_any (nat_eq b) old.changes)
@@ -436,7 +432,7 @@ stands_frozen id old le h stands = record {
   ];
   free = λ n. (
     (λ above. below id old h le stands n above),
-    (λ all. let less = all id (list_any-append (freezes id) h (Frozen id ∷ []) ∙ late (list_any (freezes id) h) (eqb id id || false) (ap (λ b. b || false) (eq-eqb id id refl))) in omega (arith, less)),
+    (λ all. let less = all id (list_any-append (freezes id) h (Frozen id ∷ []) ∙ or_right (list_any (freezes id) h) (eqb id id || false) (ap (λ b. b || false) (eq-eqb id id refl))) in omega (arith, less)),
   );
 }
 

@@ -3,7 +3,7 @@ use Rattle.std.proofs.Common.{◌≡◌, ◌≢◌, ℕ, zero, suc, ◌+◌, ◌
 use Rattle.std.specs.List.{list_any, slice_get}
 use Rattle.std.specs.List.Sorted.{IsPartitionPoint, IsNonDecreasingBy}
 use Rattle.std.specs.Slice.{IsItemAt}
-use Rattle.std.proofs.lemmas.Bool.{and_parts, cases_eq, cases_lt, eq-eqb, ne_eqb, eqb-true, ltb-true, ltb-false, lt-leb, leb-true, false≢true}
+use Rattle.std.proofs.lemmas.Bool.{and_parts, cases_eq, cases_lt, eq-eqb, ne_eqb, eqb-true, ltb-true, ltb-false, lt-leb, leb-true, false≢true, and_right, or_right}
 use Rattle.std.proofs.lemmas.List.{get_or_default}
 use Rattle.std.proofs.lemmas.Option.{same_Some, none-some}
 use Rattle.sector_model.specs.Run.{blocks_where, areas_of}
@@ -63,11 +63,7 @@ none_here ks id place (Some x) is some d less e = absurd (none-some x (sym some)
 pub known_at : (ks : List Kept) (place id : ℕ) (k : Kept) → slice_get ks place ≡ Some k → k.id ≡ id → list_any (λ x. x.id == id) ks ≡ true
 known_at [] place id k at is = absurd (none-some k at)
 known_at (x ∷ ks) zero id k at is = ap (λ b. b || list_any (λ y. y.id == id) ks) (eq-eqb x.id id (ap (λ (y : Kept). y.id) (same_Some x k at) ∙ is))
-known_at (x ∷ ks) (suc place) id k at is = ap (λ b. eqb x.id id || b) (known_at ks place id k at is) ∙ late (eqb x.id id)
-  where
-    late : (b : Bool) → (b || true) ≡ true
-    late true = refl
-    late false = refl
+known_at (x ∷ ks) (suc place) id k at is = ap (λ b. eqb x.id id || b) (known_at ks place id k at is) ∙ or_right (eqb x.id id) true refl
 
 -- ---- refusals
 
@@ -97,13 +93,9 @@ query_within false rest r is told = absurd (false≢true is)
 
 -- ---- an identifier that is accepted
 
-and_false : (x : Bool) → (x && false) ≡ false
-and_false true = refl
-and_false false = refl
-
 no_number : (q n : ℕ) (a b : Bool) → n ≡ 0 → (a && b && leb 1 q && leb q n) ≡ false
-no_number zero n a b none = ap (λ x. x && leb 0 n) (and_false (a && b))
-no_number (suc q) n a b none = ap (λ x. (a && b && leb 1 (suc q)) && x) (lt-leb (suc q) n (omega (arith, none))) ∙ and_false (a && b && leb 1 (suc q))
+no_number zero n a b none = ap (λ x. x && leb 0 n) (and_right (a && b) false refl)
+no_number (suc q) n a b none = ap (λ x. (a && b && leb 1 (suc q)) && x) (lt-leb (suc q) n (omega (arith, none))) ∙ and_right (a && b && leb 1 (suc q)) false refl
 
 same_uuid : (machine disk a b : ℕ) → eqb a b ≡ eqb (packed machine disk a) (packed machine disk b)
 same_uuid machine disk a b = elim (cases_eq a b) [

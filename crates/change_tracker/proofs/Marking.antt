@@ -2,7 +2,7 @@
 use Rattle.std.proofs.Common.{◌≡◌, ◌≢◌, ℕ, ◌+◌, ◌-◌, ◌*◌, ◌/◌, ◌%◌, ◌^◌, ◌<◌, ◌≤◌, List, [], ◌∷◌, Bool, true, false, not, ◌&&◌, ◌||◌, eqb, ltb, leb, bit_and, w64, Option, Some, None, Result, Ok, Err, OnOk, sym, ap, subst, refl, ◌∙◌, arith, inl, inr}
 use Rattle.std.specs.List.{list_any}
 use Rattle.std.specs.Int.{bit_not, trailing_zeros}
-use Rattle.std.proofs.lemmas.Bool.{and_parts, cases_eq, cases_lt, eq-eqb, ne_eqb, eqb-true, lt-ltb, ltb-true, le-ltb, le-leb, leb-true, false≢true}
+use Rattle.std.proofs.lemmas.Bool.{and_parts, cases_eq, cases_lt, eq-eqb, ne_eqb, eqb-true, lt-ltb, ltb-true, le-ltb, le-leb, leb-true, false≢true, and_from, and_right, or_parts, not-true}
 use Rattle.std.proofs.lemmas.Nat.{and_le_l}
 use Rattle.sector_model.specs.Run.{meets}
 use Rattle.sector_model.specs.declared.run.Run.{Run}
@@ -15,19 +15,13 @@ use Rattle.change_tracker.specs.Maps.{window, KeepsPlaces, IsTouchedWhere, is_me
 use Rattle.change_tracker.proofs.Bits.{and_has, not_has, met_iff}
 use Rattle.change_tracker.proofs.Walks.{Lowest, lowest, no_bits}
 
-pub both : {a b : Bool} → (a && b) ≡ true → (a ≡ true) × (b ≡ true)
-both {a = a} {b = b} h = and_parts a b h
-
-pub and_made : {a b : Bool} → a ≡ true → b ≡ true → (a && b) ≡ true
-and_made {a = a} {b = b} is more = ap (λ x. x && b) is ∙ more
-
 -- ---- a longer window from the beginning has more
 
 of_longer : (p e f : ℕ) (x : Touch) → e ≤ f → is_of (window 0 e) p x ≡ true → is_of (window 0 f) p x ≡ true
 of_longer p e f x le is =
-    let parts = both is in
-    let inside = both parts.0 in
-    and_made (and_made inside.0 (lt-ltb x.freezes f (omega (arith, ltb-true x.freezes e inside.1, le)))) parts.1
+    let parts = and_parts _ _ is in
+    let inside = and_parts _ _ parts.0 in
+    and_from _ _ (and_from _ _ inside.0 (lt-ltb x.freezes f (omega (arith, ltb-true x.freezes e inside.1, le)))) parts.1
 
 any_longer : (p e f : ℕ) (xs : List Touch) → e ≤ f → list_any (is_of (window 0 e) p) xs ≡ true → list_any (is_of (window 0 f) p) xs ≡ true
 any_longer p e f [] le is = is
@@ -76,12 +70,8 @@ a_new_block maps run freezes word bits known told less some =
     let b : ℕ = 64 * word + k in
     let at : b / 64 ≡ word = omega (arith, inside) in
     let place : b % 64 ≡ k = omega (arith, inside) in
-    let parts = both (sym (new_has maps run freezes word bits known b told at) ∙ ap (has_bit n) place ∙ low.here) in
-    (b, at, and_made (eq-eqb (b / 64) word at) parts.0, turn (is_touched maps.first (window 0 (freezes + 1)) b) parts.1)
-  where
-    turn : (x : Bool) → not x ≡ true → x ≡ false
-    turn true h = sym h
-    turn false h = refl
+    let parts = and_parts _ _ (sym (new_has maps run freezes word bits known b told at) ∙ ap (has_bit n) place ∙ low.here) in
+    (b, at, and_from _ _ (eq-eqb (b / 64) word at) parts.0, not-true (is_touched maps.first (window 0 (freezes + 1)) b) parts.1)
 
 pub room_for_new : (maps : Maps) (run : Run) (freezes word bits known : ℕ) → Told maps run freezes word bits known → bits < 2 ^ 64 → bit_and bits (bit_not w64 known) ≢ 0
     → HasRoomWhere (is_met_in word run) maps freezes → HasRoom maps.first word freezes
@@ -95,9 +85,9 @@ pub a_met_block : (run : Run) (word : ℕ) → 0 < run.count → run.first / 128
     → (b : ℕ) × (b / 64 ≡ word) × (is_met_in word run b ≡ true)
 a_met_block run word some from upto = elim (cases_lt (run.first / 128) (64 * word)) [
   | inl before ↦ let at : 64 * word / 64 ≡ word = omega arith in
-      (64 * word, at, and_made (eq-eqb (64 * word / 64) word at) (met_iff (64 * word) run.first run.count some ∙ and_made (le-leb (run.first / 128) (64 * word) (omega arith)) (le-leb (64 * word) ((run.first + run.count - 1) / 128) (omega arith))))
+      (64 * word, at, and_from _ _ (eq-eqb (64 * word / 64) word at) (met_iff (64 * word) run.first run.count some ∙ and_from _ _ (le-leb (run.first / 128) (64 * word) (omega arith)) (le-leb (64 * word) ((run.first + run.count - 1) / 128) (omega arith))))
   | inr late ↦ let at : run.first / 128 / 64 ≡ word = omega arith in
-      (run.first / 128, at, and_made (eq-eqb (run.first / 128 / 64) word at) (met_iff (run.first / 128) run.first run.count some ∙ and_made (le-leb (run.first / 128) (run.first / 128) (omega arith)) (le-leb (run.first / 128) ((run.first + run.count - 1) / 128) (omega arith))))
+      (run.first / 128, at, and_from _ _ (eq-eqb (run.first / 128 / 64) word at) (met_iff (run.first / 128) run.first run.count some ∙ and_from _ _ (le-leb (run.first / 128) (run.first / 128) (omega arith)) (le-leb (run.first / 128) ((run.first + run.count - 1) / 128) (omega arith))))
 ]
 
 pub room_for_changes : (maps : Maps) (run : Run) (freezes word : ℕ) → 0 < run.count → run.first / 128 / 64 ≤ word → word ≤ (run.first + run.count - 1) / 128 / 64
@@ -127,11 +117,7 @@ pub record FirstAdded (old new : TouchState) (word freezes bits : ℕ) : Type 0 
 
 pub none_added : (old : TouchState) (word freezes bits : ℕ) → bits ≡ 0 → IsAdded old old word freezes bits
 none_added old word freezes bits none = λ w b.
-    sym (none_new (is_touched old w b) (is_inside w freezes) (eqb (b / 64) word && has_bit bits (b % 64)) (and_none (eqb (b / 64) word) (has_bit bits (b % 64)) (no_bits bits (b % 64) none)))
-  where
-    and_none : (a c : Bool) → c ≡ false → (a && c) ≡ false
-    and_none true c h = h
-    and_none false c h = refl
+    sym (none_new (is_touched old w b) (is_inside w freezes) (eqb (b / 64) word && has_bit bits (b % 64)) (and_right (eqb (b / 64) word) (has_bit bits (b % 64)) (no_bits bits (b % 64) none)))
 
 pub first_marked : (maps : Maps) (new : TouchState) (run : Run) (freezes word bits known : ℕ) → Told maps run freezes word bits known
     → IsAdded maps.first new word freezes (bit_and bits (bit_not w64 known))
@@ -172,12 +158,12 @@ room_kept freezes b old new less kept room = record {
 pub word_room : (old : Maps) (first changes : TouchState) (run : Run) (freezes word bits known : ℕ) → Told old run freezes word bits known → HasSame old.first first
     → (bit_and bits (bit_not w64 known) ≢ 0 → HasRoom first word freezes) → HasRoom changes word freezes → HasRoomWhere (is_met_in word run) (record { first = first; changes = changes }) freezes
 word_room old first changes run freezes word bits known told same first_room change_room = λ b met.
-    let parts = both met in
+    let parts = and_parts _ _ met in
     let at : b / 64 ≡ word = eqb-true (b / 64) word parts.0 in
     record {
       first = λ none. (let P : ℕ → Type 0 = λ n. HasRoom first n freezes in
           subst P (sym at) (first_room (λ empty. false≢true (sym (no_bits (bit_and bits (bit_not w64 known)) (b % 64) empty) ∙ new_has old run freezes word bits known b told at
-          ∙ and_made parts.1 (ap not (sym (same (window 0 (freezes + 1)) b) ∙ none))))));
+          ∙ and_from _ _ parts.1 (ap not (sym (same (window 0 (freezes + 1)) b) ∙ none))))));
       changes = (let P : ℕ → Type 0 = λ n. HasRoom changes n freezes in subst P (sym at) change_room);
     }
 
@@ -189,7 +175,7 @@ met_before word run b = ltb (b / 64) word && meets b run.first run.count
 
 met_in_range : (run : Run) (b : ℕ) → 0 < run.count → meets b run.first run.count ≡ true → (run.first / 128 ≤ b) × (b ≤ (run.first + run.count - 1) / 128)
 met_in_range run b some met =
-    let parts = both (sym (met_iff b run.first run.count some) ∙ met) in
+    let parts = and_parts _ _ (sym (met_iff b run.first run.count some) ∙ met) in
     (leb-true (run.first / 128) b parts.0, leb-true b ((run.first + run.count - 1) / 128) parts.1)
 
 pub none_met_before : (run : Run) (b : ℕ) → 0 < run.count → met_before (run.first / 128 / 64) run b ≡ false
@@ -197,22 +183,14 @@ none_met_before run b some = by (meets b run.first run.count) refl
   where
     by : (m : Bool) → meets b run.first run.count ≡ m → (ltb (b / 64) (run.first / 128 / 64) && meets b run.first run.count) ≡ false
     by true is = let range = met_in_range run b some is in ap (λ x. x && meets b run.first run.count) (le-ltb (b / 64) (run.first / 128 / 64) (omega (arith, range.0)))
-    by false is = ap (λ x. ltb (b / 64) (run.first / 128 / 64) && x) is ∙ and_false (ltb (b / 64) (run.first / 128 / 64))
-      where
-        and_false : (x : Bool) → (x && false) ≡ false
-        and_false true = refl
-        and_false false = refl
+    by false is = ap (λ x. ltb (b / 64) (run.first / 128 / 64) && x) is ∙ and_right (ltb (b / 64) (run.first / 128 / 64)) false refl
 
 pub all_met_before : (run : Run) (b word : ℕ) → 0 < run.count → word ≡ (run.first + run.count - 1) / 128 / 64 + 1 → met_before word run b ≡ meets b run.first run.count
 all_met_before run b word some is = by (meets b run.first run.count) refl
   where
     by : (m : Bool) → meets b run.first run.count ≡ m → (ltb (b / 64) word && meets b run.first run.count) ≡ meets b run.first run.count
     by true met = let range = met_in_range run b some met in ap (λ x. x && meets b run.first run.count) (lt-ltb (b / 64) word (omega (arith, range.1, is)))
-    by false not_met = ap (λ x. ltb (b / 64) word && x) not_met ∙ and_false (ltb (b / 64) word) ∙ sym not_met
-      where
-        and_false : (x : Bool) → (x && false) ≡ false
-        and_false true = refl
-        and_false false = refl
+    by false not_met = ap (λ x. ltb (b / 64) word && x) not_met ∙ and_right (ltb (b / 64) word) false refl ∙ sym not_met
 
 pub met_before_more : (run : Run) (word b : ℕ) → met_before (word + 1) run b ≡ (met_before word run b || is_met_in word run b)
 met_before_more run word b = elim (cases_lt (b / 64) word) [
@@ -258,11 +236,7 @@ touched_none p freezes a none = record {
 
 -- a block that isn't touched by now wasn't before
 pub untouched_before : (p : ℕ → Bool) (freezes : ℕ) (a b : Maps) (end n : ℕ) → IsTouchedWhere p freezes a b → is_touched b.first (window 0 end) n ≡ false → is_touched a.first (window 0 end) n ≡ false
-untouched_before p freezes a b end n is none = left (is_touched a.first (window 0 end) n) (ltb freezes end && p n) (sym (is.first end n) ∙ none)
-  where
-    left : (x y : Bool) → (x || y) ≡ false → x ≡ false
-    left true y h = h
-    left false y h = refl
+untouched_before p freezes a b end n is none = (or_parts (is_touched a.first (window 0 end) n) (ltb freezes end && p n) (sym (is.first end n) ∙ none)).0
 
 pub on_ok : {T E : Type 0} {P Q : Type 0} (r : Result T E) → OnOk r P → (P → Q) → OnOk r Q
 on_ok (Ok x) is f = f is

@@ -1,8 +1,8 @@
 -- What the state of a tracker is for the maps and the snapshots that it keeps.
 use Rattle.std.proofs.Common.{◌≡◌, ℕ, zero, suc, ◌+◌, ◌-◌, ◌/◌, ◌%◌, ◌<◌, ◌≤◌, List, [], ◌∷◌, ◌++◌, length, take, drop, map, Bool, true, false, cond, ◌&&◌, ◌||◌, ◌==◌, eqb, ltb, leb, nat_eq, Option, Some, None, is_some, IfSome, option_map, sym, ap, refl, ◌∙◌, arith, inl, inr, length-append, length-drop, slice_range}
 use Rattle.std.specs.List.{list_any, find, filter, slice_get, enumerate_from, range_with_len}
-use Rattle.std.proofs.Math.Bool.{or-false}
-use Rattle.std.proofs.lemmas.Bool.{cases_lt, lt-ltb, le-ltb, le-leb, lt-leb}
+use Rattle.std.proofs.Math.Bool.{or-false, and-or_distrib_right}
+use Rattle.std.proofs.lemmas.Bool.{cases_lt, lt-ltb, le-ltb, le-leb, lt-leb, and_right}
 use Rattle.std.proofs.lemmas.Option.{none-some}
 use Rattle.sector_model.specs.Run.{meets, block_count, with_met}
 use Rattle.sector_model.specs.declared.run.Run.{Run}
@@ -26,22 +26,11 @@ inside_joins a m c n low high = elim (cases_lt n m) [
   | inl early ↦ (λ i. leb a n && lt-ltb n c (omega (arith, early, high)) i)
       ∙ sym ((λ i. (leb a n && lt-ltb n m early i) || (lt-leb m n early i && ltb n c)) ∙ or-false (leb a n && true))
   | inr late ↦ (λ i. le-leb a n (omega (arith, low, late)) i && ltb n c)
-      ∙ sym ((λ i. (leb a n && le-ltb n m late i) || (le-leb m n late i && ltb n c)) ∙ ap (λ b. b || ltb n c) (and_false (leb a n)))
+      ∙ sym ((λ i. (leb a n && le-ltb n m late i) || (le-leb m n late i && ltb n c)) ∙ ap (λ b. b || ltb n c) (and_right (leb a n) false refl))
 ]
-  where
-    and_false : (x : Bool) → (x && false) ≡ false
-    and_false true = refl
-    and_false false = refl
 
 of_joins : (a m c p : ℕ) (x : Touch) → a ≤ m → m ≤ c → is_of (window a c) p x ≡ (is_of (window a m) p x || is_of (window m c) p x)
-of_joins a m c p x low high = ap (λ b. b && has_bit x.bits p) (inside_joins a m c x.freezes low high) ∙ spread (leb a x.freezes && ltb x.freezes m) (leb m x.freezes && ltb x.freezes c) (has_bit x.bits p)
-  where
-    spread : (x y h : Bool) → ((x || y) && h) ≡ ((x && h) || (y && h))
-    spread true true true = refl
-    spread true true false = refl
-    spread true false true = refl
-    spread true false false = refl
-    spread false y h = refl
+of_joins a m c p x low high = ap (λ b. b && has_bit x.bits p) (inside_joins a m c x.freezes low high) ∙ and-or_distrib_right (leb a x.freezes && ltb x.freezes m) (leb m x.freezes && ltb x.freezes c) (has_bit x.bits p)
 
 any_joins : (a m c p : ℕ) (xs : List Touch) → a ≤ m → m ≤ c → list_any (is_of (window a c) p) xs ≡ (list_any (is_of (window a m) p) xs || list_any (is_of (window m c) p) xs)
 any_joins a m c p [] low high = refl
@@ -65,12 +54,8 @@ joins t a m c b low high = at_joins a m c (b % 64) (word_of t (b / 64)) low high
 none_inside : (a n : ℕ) → (leb a n && ltb n a) ≡ false
 none_inside a n = elim (cases_lt n a) [
   | inl early ↦ ap (λ b. b && ltb n a) (lt-leb a n early)
-  | inr late ↦ ap (λ b. leb a n && b) (le-ltb n a late) ∙ and_false (leb a n)
+  | inr late ↦ ap (λ b. leb a n && b) (le-ltb n a late) ∙ and_right (leb a n) false refl
 ]
-  where
-    and_false : (x : Bool) → (x && false) ≡ false
-    and_false true = refl
-    and_false false = refl
 
 any_none : (a p : ℕ) (xs : List Touch) → list_any (is_of (window a a) p) xs ≡ false
 any_none a p [] = refl

@@ -1,7 +1,7 @@
 -- A walk over words: the first block that was touched, or wasn't, and the next area.
 use Rattle.std.proofs.Common.{◌≡◌, ◌≢◌, ℕ, ◌+◌, ◌*◌, ◌/◌, ◌%◌, ◌^◌, ◌<◌, ◌≤◌, max, Bool, true, false, not, ◌&&◌, leb, eqb, bit_and, w64, None, sym, ap, refl, ◌∙◌, arith, inl, inr}
 use Rattle.std.specs.Int.{bit_at, bit_not, trailing_zeros}
-use Rattle.std.proofs.lemmas.Bool.{and_parts, cases_lt, le-leb, leb-true, eq-eqb, false≢true}
+use Rattle.std.proofs.lemmas.Bool.{and_parts, cases_lt, le-leb, leb-true, eq-eqb, false≢true, not-true, not-false}
 use Rattle.std.proofs.lemmas.Nat.Bits.{bit_at-trailing_zeros}
 use Rattle.change_tracker.specs.declared.word.Window.{Window}
 use Rattle.basics.specs.Bits.{has_bit}
@@ -86,11 +86,7 @@ pub all_before : (t : TouchState) (w : Window) (at bits k b : ℕ) → bits < 2 
 all_before t w at bits k b fits told few none from less =
     let same : b / 64 ≡ at / 64 = omega (arith, from, less, few) in
     ap (λ n. touched_in w (b % 64) (word_of t n)) same ∙ sym (told (b % 64))
-    ∙ turn (has_bit bits (b % 64)) (sym (not_has bits (b % 64) fits (omega arith)) ∙ clear (bit_not w64 bits) at (b % 64) (omega arith) (omega (arith, same, from)) (none (b % 64) (omega (arith, same, less))))
-  where
-    turn : (x : Bool) → not x ≡ false → x ≡ true
-    turn true h = refl
-    turn false h = absurd (false≢true (sym h))
+    ∙ not-false (has_bit bits (b % 64)) (sym (not_has bits (b % 64) fits (omega arith)) ∙ clear (bit_not w64 bits) at (b % 64) (omega arith) (omega (arith, same, from)) (none (b % 64) (omega (arith, same, less))))
 
 pub untouched_here : (t : TouchState) (w : Window) (at bits k : ℕ) → bits < 2 ^ 64 → ((p : ℕ) → has_bit bits p ≡ touched_in w p (word_of t (at / 64))) → Lowest (masked (bit_not w64 bits) at) k
     → is_touched t w (64 * (at / 64) + k) ≡ false
@@ -99,11 +95,7 @@ untouched_here t w at bits k fits told low =
     let same : (64 * (at / 64) + k) / 64 ≡ at / 64 = omega (arith, inside) in
     let place : (64 * (at / 64) + k) % 64 ≡ k = omega (arith, inside) in
     ap (λ n. touched_in w ((64 * (at / 64) + k) % 64) (word_of t n)) same ∙ ap (λ p. touched_in w p (word_of t (at / 64))) place ∙ sym (told k)
-    ∙ turn (has_bit bits k) (sym (not_has bits k fits inside) ∙ (and_parts (has_bit (bit_not w64 bits) k) (leb (at % 64) k) (sym (masked_has (bit_not w64 bits) at k inside) ∙ low.here)).0)
-  where
-    turn : (x : Bool) → not x ≡ true → x ≡ false
-    turn true h = sym h
-    turn false h = refl
+    ∙ not-true (has_bit bits k) (sym (not_has bits k fits inside) ∙ (and_parts (has_bit (bit_not w64 bits) k) (leb (at % 64) k) (sym (masked_has (bit_not w64 bits) at k inside) ∙ low.here)).0)
 
 pub from_here : (at bits k : ℕ) → Lowest (masked bits at) k → at ≤ 64 * (at / 64) + k
 from_here at bits k low =

@@ -51,7 +51,7 @@ done_chain reached (x ∷ []) h = h
 done_chain reached (x ∷ y ∷ []) h = h
 done_chain reached (x ∷ y ∷ z ∷ rest) h = (h.0, h.1, h.2, done_chain x.current (y ∷ z ∷ rest) h.3)
 
-length-done : (xs : List Checkpoint) → length (with_last_done xs) ≡ length xs
+pub length-done : (xs : List Checkpoint) → length (with_last_done xs) ≡ length xs
 length-done [] = refl
 length-done (x ∷ []) = refl
 length-done (x ∷ y ∷ rest) = ap (λ (n : ℕ). suc n) (length-done (y ∷ rest))

@@ -1,6 +1,6 @@
 -- What holds of the object that a line is, so that the first of the members that are left is the
 -- least, and of the table.
-use Rattle.std.specs.Prelude.{◌≡◌, ℕ, ⊤, List, map, true, Some, None, is_some}
+use Rattle.std.specs.Prelude.{◌≡◌, ℕ, ⊤, List, [], ◌∷◌, map, true, Some, None, is_some, codes}
 use Rattle.std.specs.List.{list_all}
 use Rattle.std.specs.Cmp.Lexicographic.{slice_cmp}
 use Rattle.std.specs.Ordering.{nat_cmp}
@@ -35,4 +35,11 @@ pub record KeepsOrder : Type 0 where
 
 -- each command that is built has a row
 abbrev pub BuiltAreRows : Type 0
-BuiltAreRows = list_all (λ name. is_some (named name commands)) (map (λ name. name.now) BUILT) ≡ true
+BuiltAreRows =
+    list_all (λ name. is_some (named name commands)) (map (λ name. name.now) BUILT) ≡ true
+
+-- these are built
+abbrev pub TheseAreBuilt : Type 0
+TheseAreBuilt = map (λ name. name.now) BUILT ≡ codes "move" ∷ codes "host" ∷ codes "vm"
+    ∷ codes "enable" ∷ codes "write" ∷ codes "snapshot" ∷ codes "remove" ∷ codes "query"
+    ∷ codes "read" ∷ codes "power" ∷ codes "reset" ∷ codes "inventory" ∷ codes "quit" ∷ []

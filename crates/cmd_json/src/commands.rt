@@ -54,8 +54,8 @@ pub(crate) fn read_vm(members: &mut Members) -> Result<Command, CmdRefused>
 }
 
 pub(crate) fn read_enable(members: &mut Members) -> Result<Command, CmdRefused>
-    ensures reads { Reads (command_named (codes "enable") (left_in members.old)) (left_in members.new)
-        result }
+    ensures reads { Reads (command_named (codes "enable") (left_in members.old))
+        (left_in members.new) result }
     ensures known { IfOk result IsAskable }
 {
     let vm = members.required("vm", NameKind)?;
@@ -63,8 +63,8 @@ pub(crate) fn read_enable(members: &mut Members) -> Result<Command, CmdRefused>
 }
 
 pub(crate) fn read_write(members: &mut Members) -> Result<Command, CmdRefused>
-    ensures reads { Reads (command_named (codes "write") (left_in members.old)) (left_in members.new)
-        result }
+    ensures reads { Reads (command_named (codes "write") (left_in members.old))
+        (left_in members.new) result }
     ensures known { IfOk result IsAskable }
 {
     let vm = members.required("vm", NameKind)?;
@@ -82,8 +82,8 @@ pub(crate) fn read_write(members: &mut Members) -> Result<Command, CmdRefused>
 }
 
 pub(crate) fn read_snapshot(members: &mut Members) -> Result<Command, CmdRefused>
-    ensures reads { Reads (command_named (codes "snapshot") (left_in members.old)) (left_in members.new)
-        result }
+    ensures reads { Reads (command_named (codes "snapshot") (left_in members.old))
+        (left_in members.new) result }
     ensures known { IfOk result IsAskable }
 {
     let vm = members.required("vm", NameKind)?;
@@ -91,8 +91,8 @@ pub(crate) fn read_snapshot(members: &mut Members) -> Result<Command, CmdRefused
 }
 
 pub(crate) fn read_remove(members: &mut Members) -> Result<Command, CmdRefused>
-    ensures reads { Reads (command_named (codes "remove") (left_in members.old)) (left_in members.new)
-        result }
+    ensures reads { Reads (command_named (codes "remove") (left_in members.old))
+        (left_in members.new) result }
     ensures known { IfOk result IsAskable }
 {
     let vm = members.required("vm", NameKind)?;
@@ -101,8 +101,8 @@ pub(crate) fn read_remove(members: &mut Members) -> Result<Command, CmdRefused>
 }
 
 pub(crate) fn read_query(members: &mut Members) -> Result<Command, CmdRefused>
-    ensures reads { Reads (command_named (codes "query") (left_in members.old)) (left_in members.new)
-        result }
+    ensures reads { Reads (command_named (codes "query") (left_in members.old))
+        (left_in members.new) result }
     ensures known { IfOk result IsAskable }
 {
     let vm = members.required("vm", NameKind)?;
@@ -139,8 +139,8 @@ pub(crate) fn read_read(members: &mut Members) -> Result<Command, CmdRefused>
 }
 
 pub(crate) fn read_power(members: &mut Members) -> Result<Command, CmdRefused>
-    ensures reads { Reads (command_named (codes "power") (left_in members.old)) (left_in members.new)
-        result }
+    ensures reads { Reads (command_named (codes "power") (left_in members.old))
+        (left_in members.new) result }
     ensures known { IfOk result IsAskable }
 {
     let vm = members.required("vm", NameKind)?;
@@ -149,8 +149,8 @@ pub(crate) fn read_power(members: &mut Members) -> Result<Command, CmdRefused>
 }
 
 pub(crate) fn read_reset(members: &mut Members) -> Result<Command, CmdRefused>
-    ensures reads { Reads (command_named (codes "reset") (left_in members.old)) (left_in members.new)
-        result }
+    ensures reads { Reads (command_named (codes "reset") (left_in members.old))
+        (left_in members.new) result }
     ensures known { IfOk result IsAskable }
 {
     let vm = members.required("vm", NameKind)?;
@@ -174,8 +174,8 @@ pub(crate) fn read_plan(members: &mut Members) -> Result<Command, CmdRefused>
 }
 
 pub(crate) fn read_start(members: &mut Members) -> Result<Command, CmdRefused>
-    ensures reads { Reads (command_named (codes "start") (left_in members.old)) (left_in members.new)
-        result }
+    ensures reads { Reads (command_named (codes "start") (left_in members.old))
+        (left_in members.new) result }
     ensures known { IfOk result IsAskable }
 {
     let plan = members.required("plan", NameKind)?;
@@ -200,8 +200,8 @@ pub(crate) fn read_run(members: &mut Members) -> Result<Command, CmdRefused>
 }
 
 pub(crate) fn read_cutover(members: &mut Members) -> Result<Command, CmdRefused>
-    ensures reads { Reads (command_named (codes "cutover") (left_in members.old)) (left_in members.new)
-        result }
+    ensures reads { Reads (command_named (codes "cutover") (left_in members.old))
+        (left_in members.new) result }
     ensures known { IfOk result IsAskable }
 {
     let plan = members.required("plan", NameKind)?;
@@ -210,8 +210,8 @@ pub(crate) fn read_cutover(members: &mut Members) -> Result<Command, CmdRefused>
 }
 
 pub(crate) fn read_cancel(members: &mut Members) -> Result<Command, CmdRefused>
-    ensures reads { Reads (command_named (codes "cancel") (left_in members.old)) (left_in members.new)
-        result }
+    ensures reads { Reads (command_named (codes "cancel") (left_in members.old))
+        (left_in members.new) result }
     ensures known { IfOk result IsAskable }
 {
     let vm = members.required("vm", NameKind)?;
@@ -219,8 +219,8 @@ pub(crate) fn read_cancel(members: &mut Members) -> Result<Command, CmdRefused>
 }
 
 pub(crate) fn read_target(members: &mut Members) -> Result<Command, CmdRefused>
-    ensures reads { Reads (command_named (codes "target") (left_in members.old)) (left_in members.new)
-        result }
+    ensures reads { Reads (command_named (codes "target") (left_in members.old))
+        (left_in members.new) result }
     ensures known { IfOk result IsAskable }
 {
     let volume = members.required("volume", TextKind)?;
@@ -234,8 +234,8 @@ pub(crate) fn read_target(members: &mut Members) -> Result<Command, CmdRefused>
 }
 
 pub(crate) fn read_digest(members: &mut Members) -> Result<Command, CmdRefused>
-    ensures reads { Reads (command_named (codes "digest") (left_in members.old)) (left_in members.new)
-        result }
+    ensures reads { Reads (command_named (codes "digest") (left_in members.old))
+        (left_in members.new) result }
     ensures known { IfOk result IsAskable }
 {
     let volume = members.required("volume", TextKind)?;

@@ -39,8 +39,8 @@ impl Members {
 
     /// Reads a member that has to be there.
     pub(crate) fn required<K: Kind>(&mut self, name: &str, kind: K) -> Result<K::Said, CmdRefused>
-        ensures reads { Reads (required name.now (K.says kind) (left_in self.old)) (left_in self.new)
-            result }
+        ensures reads { Reads (required name.now (K.says kind) (left_in self.old))
+            (left_in self.new) result }
         ensures known { IfOk result (K.known kind) }
     {
         match self.take(name) {
@@ -55,8 +55,8 @@ impl Members {
         name: &str,
         kind: K,
     ) -> Result<Option<K::Said>, CmdRefused>
-        ensures reads { Reads (optional name.now (K.says kind) (left_in self.old)) (left_in self.new)
-            result }
+        ensures reads { Reads (optional name.now (K.says kind) (left_in self.old))
+            (left_in self.new) result }
         ensures known { IfOk result (λ said. IfSome said (K.known kind)) }
     {
         match self.take(name) {

@@ -2,7 +2,7 @@
 ghost use Rattle.std.specs.Prelude.{◌≡◌, IfOk};
 ghost use Rattle.cmd_json.specs.Known.{IsAskable};
 ghost use Rattle.serde_json.specs.View.{view};
-ghost use Rattle.cmd_json.specs.Laws.{BuiltAreRows, KeepsOrder};
+ghost use Rattle.cmd_json.specs.Laws.{BuiltAreRows, TheseAreBuilt, KeepsOrder};
 ghost use Rattle.cmd_json.specs.Left.{left_in};
 ghost use Rattle.cmd_json.specs.Line.{command_of, command_among, command_of_data, command_of_members, command_named, contains, names_of};
 ghost use Rattle.cmd_json.specs.Members.{Gives, Reads};
@@ -21,7 +21,21 @@ use std::alloc::Global;
 
 /// The names of the commands that the program carries out by now. A command whose name isn't among
 /// them is refused before its members are tested.
-pub const BUILT: [&str; 2] = ["move", "quit"];
+pub const BUILT: [&str; 13] = [
+    "move",
+    "host",
+    "vm",
+    "enable",
+    "write",
+    "snapshot",
+    "remove",
+    "query",
+    "read",
+    "power",
+    "reset",
+    "inventory",
+    "quit",
+];
 
 /// The command that a line asks for, or why it asks for none. The line comes without its line feed.
 /// In this order: [`CmdRefused::Json`] where it isn't JSON in UTF-8 or nests deeper than 127;
@@ -54,7 +68,8 @@ pub(crate) fn read_among(alloc: Global, built: &[&str], line: &[u8]) -> Result<C
 }
 
 fn read_value(alloc: Global, built: &[&str], value: Value) -> Result<Command, CmdRefused>
-    ensures read { Gives refused.NoMemory (command_of_data (names_of built.now) (view value)) result }
+    ensures read { Gives refused.NoMemory (command_of_data (names_of built.now) (view value))
+        result }
     ensures known { IfOk result IsAskable }
 {
     match value {
@@ -124,7 +139,8 @@ pub fn order_is_kept()
     ensures { KeepsOrder }
 {}
 
-/// Each command that is built has a row of its own.
+/// Which commands are built; each has a row of its own.
 pub fn built_are_rows()
-    ensures { BuiltAreRows }
+    ensures these { TheseAreBuilt }
+    ensures rows { BuiltAreRows }
 {}

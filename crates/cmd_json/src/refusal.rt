@@ -14,8 +14,8 @@ pub enum CmdRefused {
     Json,
     /// It isn't an object whose member `cmd` is the name of a command that is built.
     Command,
-    /// The member of this name is missing, of the wrong kind or no name, has such a fault within its
-    /// list, or isn't one that the command has.
+    /// The member of this name is missing, of the wrong kind or no name, has such a fault within
+    /// its list, or isn't one that the command has.
     Field(Text),
     /// The member of this name has a number or a moment that it may not have, in its list too.
     Number(Text),

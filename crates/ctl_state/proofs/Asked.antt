@@ -1,6 +1,6 @@
 -- What records ask of a log, read back.
 use Rattle.std.proofs.Common.{◌≡◌, ℕ, ◌+◌, List, Bool, true, false, ◌&&◌, ◌||◌, inl, inr, cond, not, Option, Some, None, refl, sym, ap, subst, ◌∙◌, take}
-use Rattle.std.proofs.lemmas.Bool.{false≢true}
+use Rattle.std.proofs.lemmas.Bool.{or_cases, false≢true}
 use Rattle.std.specs.Prelude.{option_map}
 use Rattle.change_id.specs.declared.ChangeId.{ChangeId}
 use Rattle.log_model.specs.declared.entry.Entry.{Entry}
@@ -12,7 +12,7 @@ use Rattle.ctl_state.specs.declared.migration.Migration.{Migration}
 use Rattle.ctl_state.specs.Migration.{same_phase}
 use Rattle.ctl_state.specs.MayStand.{goes_on_in}
 use Rattle.ctl_state.specs.Asks.{may_lack, BasesAreStored, NamedSnapshotsLive}
-use Rattle.ctl_state.proofs.SoundSteps.{either, goes-on}
+use Rattle.ctl_state.proofs.SoundSteps.{goes-on}
 
 pub bases_are_stored : BasesAreStored
 bases_are_stored machine disk snap log base id stored at named =
@@ -34,7 +34,7 @@ next-lacks-none snap log m = refl
 
 pub named_snapshots_live : NamedSnapshotsLive
 named_snapshots_live mig at records m told snap asks live naming there =
-    elim (either (goes_on_in m StoreInitialIds) (goes_on_in m StoreIds) naming) [
+    elim (or_cases (goes_on_in m StoreInitialIds) (goes_on_in m StoreIds) naming) [
       | inl e ↦ (let on = goes-on m StoreInitialIds e in asks.of_snapshot live snap there (lacks-none snap at.log m StoreInitialIds on.not_cancelled on.phase (first-lacks-none snap at.log m)))
       | inr e ↦ (let on = goes-on m StoreIds e in asks.of_snapshot live snap there (lacks-none snap at.log m StoreIds on.not_cancelled on.phase (next-lacks-none snap at.log m)))
     ]

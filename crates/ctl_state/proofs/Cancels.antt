@@ -19,7 +19,8 @@ use Rattle.ctl_state.specs.MayStand.{may_step, may_step_in, record_may_stand}
 use Rattle.ctl_state.specs.Fold.{after_record, after}
 use Rattle.ctl_state.specs.Sound.{StandsNow, HasEnded, IsComplete, EndSays, IsSound}
 use Rattle.ctl_state.specs.Completion.{CancelsAreAsked, IsWhole, CompletedIsWhole, CancelledWhereAsked}
-use Rattle.ctl_state.proofs.Came.{fronts, numbered-other, numbered-changed, numbered-before, numbered-added}
+use Rattle.ctl_state.proofs.ListFacts.{numbered-other, numbered-changed, numbered-before, numbered-added}
+use Rattle.ctl_state.proofs.Came.{fronts}
 use Rattle.ctl_state.proofs.SoundValues.{numbered-past, values_are_sound}
 
 -- ---- a step leaves the cancel

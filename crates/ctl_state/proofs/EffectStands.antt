@@ -3,8 +3,7 @@ use Rattle.std.proofs.Common.{◌≡◌, ℕ, zero, suc, ◌+◌, ◌<◌, ◌�
 use Rattle.std.specs.Prelude.{is_none, unwrap_or, nat_lt, nat_le, IsSome, IsSomeAnd, option_and_then}
 use Rattle.std.specs.List.{list_all, filter_map, range_with_len}
 use Rattle.std.specs.Option.{option_map_or}
-use Rattle.std.proofs.lemmas.Bool.{eqb-true, eq-eqb, false≢true}
-use Rattle.std.proofs.lemmas.Bool.Decides.{nat_tests}
+use Rattle.std.proofs.lemmas.Bool.{or_right, lt-ltb, false≢true}
 use Rattle.std.proofs.lemmas.Option.{none-some}
 use Rattle.change_id.specs.declared.ChangeId.{ChangeId}
 use Rattle.change_id.specs.ChangeId.{packed}
@@ -43,8 +42,7 @@ use Rattle.ctl_state.specs.Effect.{Effect, PhaseWork, work_in, phase_work, phase
 use Rattle.ctl_state.specs.CleanUp.{is_clean_up, failing_task}
 use Rattle.ctl_state.specs.EffectLaws.{is_work, has_job, TaskTellsJob, TasksTellJobs, record_of, HasForJob, PhasesMayStand, MayCleanUp, CleanUpsMayStand}
 use Rattle.ctl_state.proofs.SoundMoves.{is-at, closed}
-use Rattle.ctl_state.proofs.SoundStages.{positive}
-use Rattle.ctl_state.proofs.SoundSteps.{both, not-true, live-fits}
+use Rattle.ctl_state.proofs.SoundSteps.{live-fits}
 
 -- ---- which job there is
 
@@ -127,10 +125,6 @@ tasks_tell_jobs v now m = record {
   has_job = λ s e machine.
       let job = phase-job v now m e in
       let works_so = works m.phase machine (task_of v now m) (live-fits m.how m job.live s.now).live (not-final (same_phase m.phase CopyFinal) _ job.not_copying) in
-      or-true (is_clean_up (task_of v now m)) works_so;
-  of_failure = λ how h. positive (how_number how) h;
+      or_right (is_clean_up (task_of v now m)) _ works_so;
+  of_failure = λ how h. lt-ltb 0 (how_number how) h;
 }
-  where
-    or-true : {b : Bool} (a : Bool) → b ≡ true → (a || b) ≡ true
-    or-true true e = refl
-    or-true false e = e

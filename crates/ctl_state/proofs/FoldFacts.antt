@@ -2,8 +2,7 @@
 use Rattle.std.proofs.Common.{◌≡◌, ◌≢◌, ℕ, zero, suc, ◌+◌, ◌-◌, ◌==◌, ◌<◌, Bool, true, false, cond, ◌&&◌, List, [], ◌∷◌, ◌++◌, length, Option, Some, None, Result, Ok, Err, refl, ap, subst, sym, ◌∙◌, arith, add-zero, zero-add, inl, inr}
 use Rattle.std.specs.Prelude.{slice_get}
 use Rattle.std.specs.Option.{option_map_or}
-use Rattle.std.proofs.lemmas.Bool.{eqb-true}
-use Rattle.std.proofs.lemmas.Bool.Decides.{eqb_tells}
+use Rattle.std.proofs.lemmas.Bool.{and_parts, eqb-true}
 use Rattle.record_codec.specs.declared.record.Record.{Record}
 use Rattle.record_codec.specs.declared.record.Record.TheVariants.{PlanMade, MigrationStarted, Chosen, SnapTaken, IdsStored, VolumesMade, CheckpointAdded, StageBegun, StageDone, Paused, SnapRemoved, CutoverSet, PowerStored, PoweredOff, OffSeen, FinalSnapTaken, CancelAsked, Ended}
 use Rattle.record_codec.specs.Record.{migration_of}
@@ -14,8 +13,7 @@ use Rattle.ctl_state.specs.Value.{CtlValue, no_records, numbered, change_numbere
 use Rattle.ctl_state.specs.MayStand.{record_may_stand, may_start, is_next}
 use Rattle.ctl_state.specs.Fold.{after_record, after_from, after, after_step_in}
 use Rattle.ctl_state.specs.Laws.{then_after}
-use Rattle.ctl_state.proofs.ListFacts.{change_at-suc}
-use Rattle.ctl_state.proofs.NextFacts.{and_parts}
+use Rattle.ctl_state.proofs.ListFacts.{numbered-other, numbered-before}
 
 join_from : (before : ℕ) (v : CtlValue) (front rest : List Record)
     → after_from before v (front ++ rest)
@@ -37,58 +35,11 @@ pub lists_join : (front rest : List Record)
 lists_join front rest = join_from 0 no_records front rest
     ∙ ap (λ n. then_after n (after front) rest) (zero-add (length front))
 
--- the others stay where one is changed
-other_at : {X : Type 0} (xs : List X) (i j : ℕ) (f : X → X) → i ≢ j
-    → slice_get (change_at xs i f) j ≡ slice_get xs j
-other_at [] i j f h = refl
-other_at (x ∷ xs) zero zero f h = absurd (h refl)
-other_at (x ∷ xs) zero (suc j) f h = refl
-other_at (x ∷ xs) (suc i) zero f h = ap (λ ys. slice_get ys 0) (change_at-suc x xs i f)
-other_at (x ∷ xs) (suc i) (suc j) f h =
-    ap (λ ys. slice_get ys (suc j)) (change_at-suc x xs i f)
-    ∙ other_at xs i j f (λ e. h (ap (λ n. suc n) e))
-
-pub other_numbered : {X : Type 0} (xs : List X) (number other : ℕ) (f : X → X)
-    → number ≢ other → numbered (change_numbered xs number f) other ≡ numbered xs other
-other_numbered {X} xs number other f h =
-    elim (eqb_tells number 0) [
-      | inl z ↦ ap (λ b. numbered (cond b xs (change_at xs (number - 1) f)) other) z.0
-      | inr nz ↦ ap (λ b. numbered (cond b xs (change_at xs (number - 1) f)) other) nz.0
-          ∙ (elim (eqb_tells other 0) [
-            | inl z ↦ ap (λ b. cond b None (slice_get (change_at xs (number - 1) f) (other - 1))) z.0
-                ∙ sym (ap (λ b. cond b None (slice_get xs (other - 1))) z.0)
-            | inr nr ↦
-                let a = nz.1 in
-                let b = nr.1 in
-                let apart : number - 1 ≢ other - 1 = omega (arith, h, a, b) in
-                ap (λ (o : Option X). cond (other == 0) None o)
-                (other_at xs (number - 1) (other - 1) f apart)
-          ])
-    ]
-
--- and where one is added behind them
-behind : {X : Type 0} (xs : List X) (x : X) (j : ℕ) → j ≢ length xs
-    → slice_get (xs ++ x ∷ []) j ≡ slice_get xs j
-behind [] x zero h = absurd (h refl)
-behind [] x (suc j) h = refl
-behind (y ∷ xs) x zero h = refl
-behind (y ∷ xs) x (suc j) h = behind xs x j (λ e. h (ap (λ n. suc n) e))
-
-pub other_added : {X : Type 0} (xs : List X) (x : X) (number : ℕ) → number ≢ length xs + 1
-    → numbered (xs ++ x ∷ []) number ≡ numbered xs number
-other_added {X} xs x number h = elim (eqb_tells number 0) [
-  | inl z ↦ ap (λ b. cond b None (slice_get (xs ++ x ∷ []) (number - 1))) z.0
-      ∙ sym (ap (λ b. cond b None (slice_get xs (number - 1))) z.0)
-  | inr nz ↦
-      let a = nz.1 in
-      let apart : number - 1 ≢ length xs = omega (arith, h, a) in
-      ap (λ (o : Option X). cond (number == 0) None o) (behind xs x (number - 1) apart)
-]
-
+-- the others stay where one is changed, and where one is added behind them
 step_other : (v : CtlValue) (mig q : ℕ) (r : Record) → Some mig ≢ Some q
     → migration_in (after_step_in v mig r) q ≡ migration_in v q
 step_other v mig q r h =
-    other_numbered v.migrations mig q (λ (m : Migration). after_step m r) (λ e. h (ap Some e))
+    numbered-other v.migrations mig q (λ (m : Migration). after_step m r) (λ e. h (ap Some e))
 
 pub others_stay : (v : CtlValue) (r : Record) (q : ℕ) → record_may_stand v r ≡ true
     → migration_of r ≢ Some q → migration_in (after_record v r) q ≡ migration_in v q
@@ -96,7 +47,7 @@ others_stay v (PlanMade plan name interval vms) q h ne = refl
 others_stay v (MigrationStarted mig plan vm disks) q h ne =
     let last = eqb-true mig (length v.migrations + 1)
     (and_parts (mig == length v.migrations + 1) _ h).0 in
-    other_added v.migrations (new_migration mig plan vm disks) q
+    numbered-before v.migrations (new_migration mig plan vm disks) q
     (λ e. ne (ap Some (last ∙ sym e)))
 others_stay v (Chosen mig way at) q h ne = step_other v mig q (Chosen mig way at) ne
 others_stay v (SnapTaken mig snap mark) q h ne = step_other v mig q (SnapTaken mig snap mark) ne

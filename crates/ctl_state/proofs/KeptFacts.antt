@@ -8,10 +8,11 @@ use Rattle.std.specs.Map.{lookup}
 use Rattle.std.specs.Cmp.Lexicographic.{slice_cmp}
 use Rattle.std.specs.Ordering.{nat_cmp, is_eq}
 use Rattle.std.proofs.lemmas.Grind.{common_steps}
-use Rattle.std.proofs.lemmas.Bool.{eqb-true, eq-eqb, ltb-true, lt-ltb}
+use Rattle.std.proofs.lemmas.Bool.{or_parts, eqb-true, eq-eqb, ltb-true, lt-ltb}
 use Rattle.std.proofs.lemmas.Bool.Decides.{nat_tests, eqb_tells}
 use Rattle.std.proofs.lemmas.List.Sums.{sum_by-cons, sum_by-append}
 use Rattle.std.proofs.lemmas.List.Folds.{find-append}
+use Rattle.log_model.proofs.Options.{none_is}
 use Rattle.plan_model.specs.declared.plan.Plan.{Plan}
 use Rattle.ctl_state.specs.declared.migration.Migration.{Migration}
 use Rattle.ctl_state.specs.declared.plans.PlanCourse.{PlanCourse}
@@ -150,10 +151,6 @@ kept_some n live h = elim (eqb_tells n 0) [
 
 not_same : (a b : ℕ) → b ≢ a → (a == b) ≡ false
 not_same a b h = elim (eqb_tells a b) [ inl e ↦ absurd (h (sym e.1)) | inr e ↦ e.0 ]
-
-or_none : {X : Type 0} (o : Option X) → option_or o None ≡ o
-or_none None = refl
-or_none (Some x) = refl
 
 -- a live migration works on its machine, an ended one on none
 works_live : (vm : ℕ) (m : Migration) → is_live m ≡ true → works_on vm m ≡ (m.vm == vm)
@@ -332,13 +329,10 @@ kept_start plans courses migrations names work work' plan vm mig p course m hp h
         works_live v m live ∙ ap (λ x. x == v) machine ∙ not_same vm v ne in
         ap (λ (o : Option Migration). option_map (λ (x : Migration). x.number) o)
         (found ∙ ap (λ b. option_or (find (works_on v) migrations) (cond b (Some m) None)) away
-        ∙ or_none (find (works_on v) migrations)))
+        ∙ (elim (find (works_on v) migrations) as (λ (o : Option Migration). option_or o None ≡ o)
+        [ None ↦ refl | Some x ↦ refl ])))
         (k.work_holds.works v)
         ∙ ap (λ j. work_kept j (live_on (migrations ++ m ∷ []) v)) (sym counts.0)
-
-pub neither : (a b : Bool) → (a || b) ≡ false → (a ≡ false) × (b ≡ false)
-neither true b h = absurd (cc)
-neither false b h = (refl, h)
 
 uncounted : (n : ℕ) → nat_lt 0 n ≡ false → n ≡ 0
 uncounted zero h = refl
@@ -365,23 +359,19 @@ pub listed_fails : (p : ℕ → Bool) (xs : List ℕ) (v : ℕ) → list_any p x
     → is_listed xs v ≡ true → p v ≡ false
 listed_fails p [] v h listed = absurd (cc)
 listed_fails p (x ∷ xs) v h listed =
-    let parts = neither (p x) (list_any p xs) h in
+    let parts = or_parts (p x) (list_any p xs) h in
     elim (eqb_tells x v) [
       | inl e ↦ ap p (sym e.1) ∙ parts.0
       | inr e ↦ listed_fails p xs v parts.1
           (sym (ap (λ b. b || is_listed xs v) e.0) ∙ listed)
     ]
 
-pub not_some : {X : Type 0} (o : Option X) → is_some o ≡ false → o ≡ None
-not_some None h = refl
-not_some (Some x) h = absurd (cc)
-
 -- each machine of a list without doubles stands there once at most
 pub once_counted : (xs : List ℕ) (v : ℕ) → has_double xs ≡ false
     → count_by (λ other. other == v) xs ≤ 1
 once_counted [] v h = lit≤ tt
 once_counted (x ∷ xs) v h =
-    let parts = neither (is_listed xs x) (has_double xs) h in
+    let parts = or_parts (is_listed xs x) (has_double xs) h in
     let more = sum_by-cons (λ (y : ℕ). cond (y == v) 1 0) x xs in
     elim (eqb_tells x v) [
       | inl e ↦
@@ -457,7 +447,7 @@ kept_plan plans courses migrations names names' work work' p differ free joins n
     idle : (v : ℕ) → is_listed p.vms v ≡ true → work_on plans courses migrations v ≡ 0
     idle v h = kept_none (work_on plans courses migrations v) (live_on migrations v)
         (sym (k.work_holds.works v)
-        ∙ not_some (get nat_cmp work v) (listed_fails (is_in work) p.vms v free h))
+        ∙ none_is (get nat_cmp work v) (listed_fails (is_in work) p.vms v free h))
 
     free_or_absent : (v : ℕ) → (work_on plans courses migrations v ≡ 0)
         ⊎ (count_by (λ other. other == v) p.vms ≡ 0)
@@ -490,7 +480,7 @@ taken_back work between after vms free joins leaves vm = leaves vm ∙ by_test (
     by_test : (b : Bool) → is_listed vms vm ≡ b
         → cond (is_listed vms vm) None (get nat_cmp between vm) ≡ get nat_cmp work vm
     by_test true e = ap (λ b. cond b None (get nat_cmp between vm)) e
-        ∙ sym (not_some (get nat_cmp work vm) (listed_fails (is_in work) vms vm free e))
+        ∙ sym (none_is (get nat_cmp work vm) (listed_fails (is_in work) vms vm free e))
     by_test false e = ap (λ b. cond b None (get nat_cmp between vm)) e ∙ joins vm
         ∙ ap (λ b. cond b (Some None) (get nat_cmp work vm)) e
 

@@ -9,19 +9,12 @@ use Rattle.std.specs.Str.{bytes_eq}
 use Rattle.std.proofs.lemmas.List.Folds.{find-append}
 use Rattle.std.proofs.lemmas.Slice.Eq.{bytes_eq-Decides}
 use Rattle.std.proofs.lemmas.Map.Text.{is_eq-slice_cmp}
+use Rattle.log_model.proofs.Options.{none_is}
 use Rattle.plan_model.specs.declared.plan.Plan.{Plan}
 use Rattle.plan_model.specs.Plans.{is_taken}
 use Rattle.ctl_state.specs.Value.{plan_named}
 use Rattle.ctl_state.specs.Kept.{AreNames}
 use Rattle.ctl_state.proofs.ListFacts.{any-found}
-
-none_found : {X : Type 0} (o : Option X) → is_some o ≡ false → o ≡ None
-none_found None h = refl
-none_found (Some x) h = absurd (cc)
-
-or_none : {X : Type 0} (o : Option X) → option_or o None ≡ o
-or_none None = refl
-or_none (Some x) = refl
 
 named_by : (b : Bool) (plans : List Plan) (p : Plan) (q : List ℕ) → bytes_eq p.name q ≡ b
     → is_taken p.name plans ≡ false
@@ -29,7 +22,7 @@ named_by : (b : Bool) (plans : List Plan) (p : Plan) (q : List ℕ) → bytes_eq
 named_by true plans p q e free =
     let same : p.name ≡ q = (bytes_eq-Decides p.name q).0 e in
     let test : Plan → Bool = λ plan. bytes_eq plan.name q in
-    let absent : find test plans ≡ None = none_found (find test plans)
+    let absent : find test plans ≡ None = none_is (find test plans)
     (sym (any-found test plans) ∙ ap (λ (name : List ℕ). is_taken name plans) (sym same) ∙ free) in
     ap (λ (o : Option Plan). option_map (λ (plan : Plan). plan.number) o)
     (find-append test plans (p ∷ [])
@@ -40,7 +33,8 @@ named_by false plans p q e free =
     ap (λ (o : Option Plan). option_map (λ (plan : Plan). plan.number) o)
     (find-append test plans (p ∷ [])
     ∙ ap (λ b. option_or (find test plans) (cond b (Some p) None)) e
-    ∙ or_none (find test plans))
+    ∙ (elim (find test plans) as (λ (o : Option Plan). option_or o None ≡ o)
+    [ None ↦ refl | Some x ↦ refl ]))
 
 -- a name that no plan had is that of the plan which is added
 pub name_added : (plans : List Plan) (p : Plan) (key q : List ℕ) (old new : Option ℕ)

@@ -2,9 +2,8 @@
 -- made.
 use Rattle.std.proofs.Common.{◌≡◌, ℕ, ◌==◌, Bool, true, false, ◌&&◌, not, Option, Some, None, Result, Ok, Err, is_err, OnOk, OnErr, refl, ap, sym, ◌∙◌}
 use Rattle.std.specs.Prelude.{List, slice_get}
-use Rattle.std.specs.Bool.{OnTrue}
 use Rattle.std.specs.Option.{option_map_or}
-use Rattle.std.proofs.lemmas.Bool.{eqb-true}
+use Rattle.std.proofs.lemmas.Bool.{and_parts, eqb-true}
 use Rattle.basics.specs.Refusal.{IsRefusedOr}
 use Rattle.plan_model.specs.declared.plan.Plan.{Plan}
 use Rattle.ctl_state.specs.declared.plans.PlanCourse.{PlanCourse}
@@ -22,9 +21,10 @@ pub record IsNext (plans : List Plan) (courses : List PlanCourse) (plan vm : ℕ
   pub course_is : numbered courses plan ≡ Some course
   pub next_is : slice_get known.vms course.started ≡ Some vm
 
-at_next : (o : Option ℕ) (vm : ℕ) → option_map_or (λ next. next == vm) o false ≡ true → o ≡ Some vm
-at_next None vm h = absurd (cc)
-at_next (Some x) vm h = ap (λ y. Some y) (eqb-true x vm h)
+-- a number that passes the test for another is that
+pub is_that : (o : Option ℕ) (n : ℕ) → option_map_or (λ x. x == n) o false ≡ true → o ≡ Some n
+is_that None n h = absurd (cc)
+is_that (Some x) n h = ap (λ y. Some y) (eqb-true x n h)
 
 next_by : (plans : List Plan) (courses : List PlanCourse) (plan vm : ℕ) (o : Option Plan)
     (q : Option PlanCourse) → numbered plans plan ≡ o → numbered courses plan ≡ q
@@ -38,12 +38,8 @@ next_by plans courses plan vm (Some known) (Some course) hp hc h = record {
   course = course;
   plan_is = hp;
   course_is = hc;
-  next_is = at_next (slice_get known.vms course.started) vm h;
+  next_is = is_that (slice_get known.vms course.started) vm h;
 }
-
-pub and_parts : (a b : Bool) → (a && b) ≡ true → (a ≡ true) × (b ≡ true)
-and_parts true b h = (refl, h)
-and_parts false b h = absurd (cc)
 
 pub next_of_start : (v : CtlValue) (mig plan vm disks : ℕ) → may_start v mig plan vm disks ≡ true
     → IsNext v.plans v.courses plan vm
@@ -57,14 +53,6 @@ pub none_doubled : (b : Bool) (u : Unit {0})
     → b ≡ false
 none_doubled true u h = absurd (cc)
 none_doubled false u h = refl
-
-pub on_true : (b : Bool) (P : Type 0) → b ≡ true → OnTrue b P → P
-on_true true P e h = h
-on_true false P e h = absurd (cc)
-
-pub not_true : (b : Bool) → not b ≡ true → b ≡ false
-not_true true h = absurd (cc)
-not_true false h = refl
 
 -- what a call says of the outcome that it had
 pub where_ok : {T E : Type 0} (r : Result T E) (P : Type 0) → is_err r ≡ false → OnOk r P → P

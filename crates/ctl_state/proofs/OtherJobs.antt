@@ -3,7 +3,7 @@ use Rattle.std.proofs.Common.{◌≡◌, ◌≢◌, ℕ, ◌+◌, ◌==◌, List
 use Rattle.std.specs.Prelude.{option_map, IsSomeAnd, Contains, unwrap_or}
 use Rattle.std.specs.Option.{option_map_or}
 use Rattle.std.proofs.lemmas.Bool.{eqb-true, eq-eqb, false≢true}
-use Rattle.std.proofs.lemmas.Option.{none-some}
+use Rattle.std.proofs.lemmas.Option.{none-some, same_Some}
 use Rattle.phase_table.specs.declared.phases.Phase.TheVariants as Phases
 use Rattle.plan_model.specs.declared.moment.Moment.{Moment}
 use Rattle.plan_model.specs.declared.plan.Plan.{Plan}
@@ -21,15 +21,14 @@ use Rattle.ctl_state.specs.declared.ready.Job.TheVariants.{Phase as PhaseJob, Cl
 use Rattle.ctl_state.specs.declared.task.PhaseTask.{PhaseTask}
 use Rattle.ctl_state.specs.Migration.{same_phase, is_live, reached, current_snapshot, stored_place}
 use Rattle.ctl_state.specs.Value.{CtlValue, numbered, change_numbered, migration_in, plan_in, course_in, new_course}
-use Rattle.ctl_state.specs.Steps.{after_step, new_migration}
 use Rattle.ctl_state.specs.MayStand.{record_may_stand}
 use Rattle.ctl_state.specs.Fold.{after_record, with_started, with_ended, with_cutover, cutover_of, plan_of_migration}
 use Rattle.ctl_state.specs.Ready.{due_between, way_due, is_copying, copy_jobs, jobs_of}
 use Rattle.ctl_state.specs.Task.{end_of, task_of}
 use Rattle.ctl_state.specs.Sound.{IsSoundValue}
 use Rattle.ctl_state.specs.SoundLaws.{cutover_in, CutoversStay, OtherJobsStay}
-use Rattle.ctl_state.proofs.SoundSteps.{both}
-use Rattle.ctl_state.proofs.Came.{numbered-other, numbered-changed, numbered-before}
+use Rattle.ctl_state.proofs.FoldFacts.{others_stay}
+use Rattle.ctl_state.proofs.ListFacts.{numbered-other, numbered-changed, numbered-before}
 use Rattle.ctl_state.proofs.SoundValues.{numbered-past, plan-stays}
 
 -- ---- cutovers
@@ -93,9 +92,6 @@ due-same : (now last : Moment) (plan : Plan) (one other : PlanCourse) → one.cu
 unfolding due_between
 due-same now last plan one other e = ap (due_way now last plan.interval) e
 
-some-parts : {X : Type 0} (a b : X) → Some a ≡ Some b → a ≡ b
-some-parts a b e = cc
-
 way-by : (now : Moment) (last : Option Moment) (plan : Option Plan) (one other : Option PlanCourse) → option_map (λ course. course.cutover) one ≡ option_map (λ course. course.cutover) other
     → option_map_or (λ l. option_map_or (λ p. option_map_or (λ c. due_between now l p c) one Ways.Nothing) plan Ways.Nothing) last Ways.Nothing
     ≡ option_map_or (λ l. option_map_or (λ p. option_map_or (λ c. due_between now l p c) other Ways.Nothing) plan Ways.Nothing) last Ways.Nothing
@@ -104,40 +100,13 @@ way-by now (Some l) None one other e = refl
 way-by now (Some l) (Some p) None None e = refl
 way-by now (Some l) (Some p) None (Some b) e = absurd (none-some b.cutover e)
 way-by now (Some l) (Some p) (Some a) None e = absurd (none-some a.cutover (sym e))
-way-by now (Some l) (Some p) (Some a) (Some b) e = due-same now l p a b (some-parts a.cutover b.cutover e)
+way-by now (Some l) (Some p) (Some a) (Some b) e = due-same now l p a b (same_Some a.cutover b.cutover e)
 
 way-same : (v : CtlValue) (r : Record) (now : Moment) (m : Migration) → IsSoundValue v → record_may_stand v r ≡ true → plan_in v m.plan ≢ None → cutover_in r ≢ Some m.plan → way_due (after_record v r) now m ≡ way_due v now m
 way-same v r now m s may there other =
     let stays = cutovers_stay v r m.plan s may there in
     way-by now m.last (plan_in (after_record v r) m.plan) (course_in (after_record v r) m.plan) (course_in v m.plan) (stays.cutover_stays other)
     ∙ ap (λ (p : Option Plan). option_map_or (λ l. option_map_or (λ q. option_map_or (λ c. due_between now l q c) (course_in v m.plan) Ways.Nothing) p Ways.Nothing) m.last Ways.Nothing) stays.plan_stays
-
--- ---- the migration itself
-
-not-same : (k mig : ℕ) → Some k ≢ Some mig → k ≡ mig → ⊥
-not-same k mig other e = other (ap (λ (n : ℕ). Some n) e)
-
-migration-stays : (v : CtlValue) (r : Record) (mig : ℕ) → record_may_stand v r ≡ true → migration_of r ≢ Some mig → migration_in (after_record v r) mig ≡ migration_in v mig
-migration-stays v (PlanMade number name interval vms) mig may other = refl
-migration-stays v (MigrationStarted k plan vm disks) mig may other =
-    let next = eqb-true k (length v.migrations + 1) (both (k == length v.migrations + 1) _ may).0 in
-    numbered-before v.migrations (new_migration k plan vm disks) mig (λ e. not-same k mig other (next ∙ sym e))
-migration-stays v (CutoverSet number has at) mig may other = refl
-migration-stays v (Chosen k way at) mig may other = numbered-other v.migrations k mig _ (not-same k mig other)
-migration-stays v (SnapTaken k snap mark) mig may other = numbered-other v.migrations k mig _ (not-same k mig other)
-migration-stays v (IdsStored k ids) mig may other = numbered-other v.migrations k mig _ (not-same k mig other)
-migration-stays v (VolumesMade k) mig may other = numbered-other v.migrations k mig _ (not-same k mig other)
-migration-stays v (CheckpointAdded k previous current last) mig may other = numbered-other v.migrations k mig _ (not-same k mig other)
-migration-stays v (StageBegun k disk) mig may other = numbered-other v.migrations k mig _ (not-same k mig other)
-migration-stays v (StageDone k disk written) mig may other = numbered-other v.migrations k mig _ (not-same k mig other)
-migration-stays v (Paused k at) mig may other = numbered-other v.migrations k mig _ (not-same k mig other)
-migration-stays v (SnapRemoved k snap) mig may other = numbered-other v.migrations k mig _ (not-same k mig other)
-migration-stays v (PowerStored k on) mig may other = numbered-other v.migrations k mig _ (not-same k mig other)
-migration-stays v (PoweredOff k) mig may other = numbered-other v.migrations k mig _ (not-same k mig other)
-migration-stays v (OffSeen k off) mig may other = numbered-other v.migrations k mig _ (not-same k mig other)
-migration-stays v (FinalSnapTaken k snap mark place) mig may other = numbered-other v.migrations k mig _ (not-same k mig other)
-migration-stays v (CancelAsked k) mig may other = numbered-other v.migrations k mig _ (not-same k mig other)
-migration-stays v (Ended k how place) mig may other = numbered-other v.migrations k mig _ (not-same k mig other)
 
 -- ---- its jobs and its task
 
@@ -168,7 +137,7 @@ pub other_jobs_stay : OtherJobsStay
 other_jobs_stay v r now mig m s may there other apart =
     let way = way-same v r now m s may (known m.vm (plan_in v m.plan) (s.migrations mig m there).planned) apart in
     record {
-      migration = migration-stays v r mig may other ∙ there;
+      migration = others_stay v r mig may other ∙ there;
       jobs = ap (jobs_by m) way;
       task = ap (task_by now m) way;
     }

@@ -3,8 +3,7 @@ use Rattle.std.proofs.Common.{◌≡◌, ℕ, zero, suc, ◌+◌, ◌<◌, ◌�
 use Rattle.std.specs.Prelude.{is_none, unwrap_or, nat_lt, nat_le, IsSome, IsSomeAnd, option_and_then}
 use Rattle.std.specs.List.{list_all, filter_map, range_with_len, cons_option}
 use Rattle.std.specs.Option.{option_map_or}
-use Rattle.std.proofs.lemmas.Bool.{eqb-true, eq-eqb, false≢true}
-use Rattle.std.proofs.lemmas.Bool.Decides.{nat_tests}
+use Rattle.std.proofs.lemmas.Bool.{and_from, not-false, eqb-true, eq-eqb, lt-ltb, false≢true}
 use Rattle.std.proofs.lemmas.Option.{none-some}
 use Rattle.change_id.specs.declared.ChangeId.{ChangeId}
 use Rattle.change_id.specs.ChangeId.{packed}
@@ -43,7 +42,7 @@ use Rattle.ctl_state.specs.Effect.{Effect, phase_at, ids_at, effect_at, says_rec
 use Rattle.ctl_state.specs.declared.task.PhaseTask.{PhaseTask}
 use Rattle.ctl_state.specs.EffectLaws.{record_of, HasForJob, PhasesMayStand, MayCleanUp, CleanUpsMayStand}
 use Rattle.ctl_state.proofs.SoundMoves.{is-at, closed}
-use Rattle.ctl_state.proofs.SoundSteps.{both, not-true, live-fits}
+use Rattle.ctl_state.proofs.SoundSteps.{none-is}
 use Rattle.ctl_state.proofs.EffectStands.{IsPhaseJob, phase-job}
 
 -- a migration whose phase has a job to do
@@ -73,14 +72,7 @@ fine-if m mig false one other h k = k refl
 -- ---- numbers
 
 below-next : (a b : ℕ) → a ≤ b → nat_lt a (b + 1) ≡ true
-below-next a b h = grind (arith, nat_tests)
-
-below : (a b : ℕ) → a < b → nat_lt a b ≡ true
-below a b h = grind (arith, nat_tests)
-
-and-true : (a b : Bool) → a ≡ true → b ≡ true → (a && b) ≡ true
-and-true true b e f = f
-and-true false b e f = absurd (false≢true e)
+below-next a b h = lt-ltb a (b + 1) (omega (arith, h))
 
 -- ---- identifiers
 
@@ -89,7 +81,7 @@ has-seq true n uuid id e h = absurd (none-some id h)
 has-seq false n uuid id e h =
     let other : n ≡ 0 → ⊥ = λ z. false≢true (sym e ∙ eq-eqb n 0 z) in
     let same : record { uuid = uuid; seq = n } ≡ id = cc in
-    subst (λ (x : ChangeId). nat_lt 0 x.seq ≡ true) same (below 0 n (omega (arith, other)))
+    subst (λ (x : ChangeId). nat_lt 0 x.seq ≡ true) same (lt-ltb 0 n (omega (arith, other)))
 
 ids-have-seq : (machine disk snap : ℕ) (log : List Entry) (id : ChangeId) → id_at machine disk snap log ≡ Some id → nat_lt 0 id.seq ≡ true
 ids-have-seq machine disk snap log id h =
@@ -106,21 +98,21 @@ ids-there f seq from (suc n) there = with-first (f from) refl (there from (omega
   where
     with-first : (found : Option ChangeId) → f from ≡ found → IsSome found → AreIds (filter_map f (range_with_len (from + 1) n)) n → AreIds (cons_option found (filter_map f (range_with_len (from + 1) n))) (suc n)
     with-first None e some rest = absurd (false≢true some)
-    with-first (Some id) e some rest = record { many = ap suc rest.many; numbered = and-true _ _ (seq from id e) rest.numbered }
+    with-first (Some id) e some rest = record { many = ap suc rest.many; numbered = and_from _ _ (seq from id e) rest.numbered }
 
 all-ids : (machine snap disks : ℕ) (log : List Entry) → ((disk : ℕ) → disk < disks → IsSome (id_at machine disk snap log)) → AreIds (filter_map (λ disk. id_at machine disk snap log) (range_with_len 0 disks)) disks
 all-ids machine snap disks log there =
     ids-there (λ disk. id_at machine disk snap log) (λ disk id e. ids-have-seq machine disk snap log id e) 0 disks (λ disk low high. there disk (omega arith))
 
 stored-fine : (length_is numbered : Bool) → length_is ≡ true → numbered ≡ true → (true && (length_is && numbered)) ≡ true
-stored-fine length_is numbered e f = and-true length_is numbered e f
+stored-fine length_is numbered e f = and_from length_is numbered e f
 
 -- ---- checkpoints
 
 added-none : (final unfinished : Bool) (k s : ℕ) → final ≡ false → unfinished ≡ false → k < s → is_none (cond final (Some Final) (cond (not unfinished && (k == k && nat_lt k s)) None (Some Order))) ≡ true
 added-none true unfinished k s e f h = absurd (false≢true (sym e))
 added-none false true k s e f h = absurd (false≢true (sym f))
-added-none false false k s e f h = ap (λ (b : Bool). is_none (cond b None (Some Order))) (and-true (k == k) (nat_lt k s) (eq-eqb k k refl) (below k s h))
+added-none false false k s e f h = ap (λ (b : Bool). is_none (cond b None (Some Order))) (and_from (k == k) (nat_lt k s) (eq-eqb k k refl) (lt-ltb k s h))
 
 abbrev may_add_so : (final unfinished : Bool) (reached : ℕ) (snap : Option ℕ) → Bool
 may_add_so final unfinished reached snap = option_map_or (λ current. current == unwrap_or snap 0) snap false
@@ -128,7 +120,7 @@ may_add_so final unfinished reached snap = option_map_or (λ current. current ==
 
 adds : (final unfinished : Bool) (reached : ℕ) (snap : Option ℕ) → final ≡ false → unfinished ≡ false → IsSomeAnd snap (λ s. reached < s) → may_add_so final unfinished reached snap ≡ true
 adds final unfinished reached None e f h = absurd h
-adds final unfinished reached (Some s) e f h = and-true (s == s) _ (eq-eqb s s refl) (added-none final unfinished reached s e f h)
+adds final unfinished reached (Some s) e f h = and_from (s == s) _ (eq-eqb s s refl) (added-none final unfinished reached s e f h)
 
 -- ---- a pause
 
@@ -159,10 +151,6 @@ abbrev PhaseFine : Phase → Type 0
 PhaseFine p = (v : CtlValue) (now : Moment) (m : Migration) (machine : ℕ) (log : List Entry) → IsSound (ready_in p m) → is_copying (ready_in p m) ≡ false → is_waiting v now (ready_in p m) ≡ false
     → HasForJob machine (ready_in p m) log → Fine (ready_in p m) (said_of m.number (phase_at machine (task_of v now (ready_in p m)) log))
 
-same-bool : (b c : Bool) → not b ≡ false → b ≡ true
-same-bool true c e = refl
-same-bool false c e = absurd (false≢true (sym e))
-
 phase-fine : (p : Phase) → PhaseFine p
 unfolding same_phase
 phase-fine Started v now m machine log s copying waiting has = fine (ready_in Started m) (Chosen m.number 0 now.0) refl
@@ -178,7 +166,7 @@ phase-fine AddFirstCheckpoint v now m machine log s copying waiting has =
     let f : FitsPhase (ready_in AddFirstCheckpoint m) = s.now in
     fine (ready_in AddFirstCheckpoint m) (CheckpointAdded m.number (reached m) (current_snapshot m) false) (adds m.dv.has_final (is_open m) (reached m) m.snap f.final f.unfinished f.current)
 phase-fine CopyDisks v now m machine log s copying waiting has =
-    fine (ready_in CopyDisks m) (Paused m.number now.0) (same-bool (all_done m.copies) true copying)
+    fine (ready_in CopyDisks m) (Paused m.number now.0) (not-false (all_done m.copies) copying)
 phase-fine CopyingPaused v now m machine log s copying waiting has =
     fine (ready_in CopyingPaused m) (Chosen m.number (way_number (way_due v now m)) now.0) (choice (way_due v now m) waiting)
 phase-fine RemovePreviousSnapshot v now m machine log s copying waiting has =
@@ -204,7 +192,7 @@ phase-fine CreateFinalSnapshot v now m machine log s copying waiting has =
     let n = ready_in CreateFinalSnapshot m in
     fine-if n m.number (machine_on log) _ _ (λ _. fine n (OffSeen m.number false) refl) (λ off. fine-if n m.number (is_spent log) _ _ (λ _. nothing-said n)
     (λ _. fine n (FinalSnapTaken m.number (taken log + 1) (length log) (unwrap_or (last_off log) 0))
-    (and-true _ _ (below _ _ (place-below (machine_on log) (last_off log) log off (off_has_place log))) (below-next (reached m) (taken log) has.taken))))
+    (and_from _ _ (lt-ltb _ _ (place-below (machine_on log) (last_off log) log off (off_has_place log))) (below-next (reached m) (taken log) has.taken))))
 phase-fine AddFinalCheckpoint v now m machine log s copying waiting has =
     let f : FitsPhase (ready_in AddFinalCheckpoint m) = s.now in
     fine (ready_in AddFinalCheckpoint m) (CheckpointAdded m.number (reached m) (current_snapshot m) true) (adds m.dv.has_final (is_open m) (reached m) m.snap f.final (f.unfinished ∙ ap not f.copied) f.current)
@@ -219,13 +207,9 @@ phase-fine Failed v now m machine log s copying waiting has = nothing-said (read
 
 -- ---- any phase
 
-option-none : {X : Type 0} (o : Option X) → is_none o ≡ true → o ≡ None
-option-none None e = refl
-option-none (Some x) e = absurd (false≢true e)
-
 is-ready : (m : Migration) → is_live m ≡ true → m.cancel ≡ false → m ≡ ready_in m.phase m
 is-ready m live going =
-    ap (λ (how : Option How). record m { how = how }) (option-none m.how live) ∙ ap (λ (c : Bool). record m { how = None; cancel = c }) going
+    ap (λ (how : Option How). record m { how = how }) (none-is m.how live) ∙ ap (λ (c : Bool). record m { how = None; cancel = c }) going
 
 pub phases_may_stand : PhasesMayStand
 phases_may_stand v now m machine log effect r s jobs has at said =
@@ -241,6 +225,6 @@ phases_may_stand v now m machine log effect r s jobs has at said =
 
 pub clean_ups_may_stand : CleanUpsMayStand
 clean_ups_may_stand m Hows.Completed live may = absurd may
-clean_ups_may_stand m Hows.Cancelled live may = and-true (is_live m) _ live may
-clean_ups_may_stand m Hows.FailedVolume live may = and-true (is_live m) _ live (ap not may)
-clean_ups_may_stand m Hows.FailedSpent live may = and-true (is_live m) _ live (ap not may)
+clean_ups_may_stand m Hows.Cancelled live may = and_from (is_live m) _ live may
+clean_ups_may_stand m Hows.FailedVolume live may = and_from (is_live m) _ live (ap not may)
+clean_ups_may_stand m Hows.FailedSpent live may = and_from (is_live m) _ live (ap not may)

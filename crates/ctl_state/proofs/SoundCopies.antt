@@ -3,6 +3,7 @@ use Rattle.std.proofs.Common.{◌≡◌, ℕ, zero, suc, ◌+◌, ◌<◌, ◌�
 use Rattle.std.specs.Prelude.{IsSome, IsSomeAnd, slice_get, slice_set}
 use Rattle.std.specs.List.{AllByRecursion}
 use Rattle.std.specs.Option.{option_map_or}
+use Rattle.std.proofs.lemmas.Bool.{and_parts}
 use Rattle.change_id.specs.declared.ChangeId.{ChangeId}
 use Rattle.ctl_state.specs.declared.copies.DiskCopy.{DiskCopy}
 use Rattle.ctl_state.specs.Migration.{all_done, named_copies, named_copy, change_at}
@@ -41,13 +42,9 @@ pub none-done : (copies : List DiskCopy) → 1 ≤ length copies → AllByRecurs
 none-done [] few h = absurd (omega (arith, few))
 none-done (c ∷ copies) few h = ap (λ (b : Bool). b && all_done copies) h.0
 
-both : (a b : Bool) → (a && b) ≡ true → (a ≡ true) × (b ≡ true)
-both true b e = (refl, e)
-both false b e = absurd (cc)
-
 pub each-done : (copies : List DiskCopy) → all_done copies ≡ true → AllByRecursion (λ c. c.done ≡ true) copies
 each-done [] h = tt
-each-done (c ∷ copies) h = let parts = both c.done (all_done copies) h in (parts.0, each-done copies parts.1)
+each-done (c ∷ copies) h = let parts = and_parts c.done (all_done copies) h in (parts.0, each-done copies parts.1)
 
 -- ---- one of them
 

@@ -4,7 +4,8 @@ use Rattle.std.proofs.Common.{◌≡◌, ℕ, zero, suc, ◌+◌, ◌-◌, ◌<�
 use Rattle.std.specs.Prelude.{IsSome, IsSomeAnd, slice_get, unwrap_or}
 use Rattle.std.specs.List.{AllByRecursion}
 use Rattle.std.proofs.lemmas.Bool.{eqb-true, false≢true}
-use Rattle.std.proofs.lemmas.Option.{none-some}
+use Rattle.std.proofs.lemmas.List.{length-map}
+use Rattle.std.proofs.lemmas.Option.{none-some, same_Some}
 use Rattle.change_id.specs.declared.ChangeId.{ChangeId}
 use Rattle.phase_table.specs.declared.phases.Phase.{Phase}
 use Rattle.phase_table.specs.declared.phases.Phase.TheVariants.{Started, CreateInitialSnapshot, StoreInitialIds, CreateVolumes, AddFirstCheckpoint, CopyDisks, CopyingPaused, RemovePreviousSnapshot, CreateSnapshot, StoreIds, AddCheckpoint, StorePowerState, PowerOffSource, WaitForPowerOff, RemovePenultimateSnapshot, CreateFinalSnapshot, AddFinalCheckpoint, CopyFinal, RemoveFinalSnapshot, Completed, Cancelled, Failed}
@@ -22,6 +23,7 @@ use Rattle.ctl_state.specs.declared.copies.CopyBase.{CopyBase}
 use Rattle.ctl_state.specs.Migration.{same_phase, next_of, moved, reached, all_done, unnamed_copy, named_copies, named_copy}
 use Rattle.ctl_state.specs.Steps.{with_snapshot, without_snapshot}
 use Rattle.ctl_state.specs.Sound.{PhaseFacts, facts_in, HasCurrent, HaveCopied, is_from, GoesOnFrom, StandsBy, is_open, is_final_done, last_mark, FitsPhase, HasEnded, StandsNow, IsSound, phase_of_end}
+use Rattle.ctl_state.proofs.CopyFacts.{length-named}
 use Rattle.ctl_state.proofs.SoundCopies.{each, each-map, each-named, done-map, done-named}
 
 -- ---- a live migration in a known phase
@@ -119,10 +121,6 @@ closed p m from done f = f.unfinished ∙ ap (λ (b : Bool). b && not (all_done 
 
 -- ---- a snapshot is taken
 
-length-unnamed : (copies : List DiskCopy) → length (map unnamed_copy copies) ≡ length copies
-length-unnamed [] = refl
-length-unnamed (c ∷ copies) = ap suc (length-unnamed copies)
-
 unnamed-stand : (m : Migration) (snap mark : ℕ) → is_open m ≡ false → AllByRecursion (λ copy. StandsBy (is_open m && copy.done) (is_final_done m) m.mark (last_mark m.marks) copy) m.copies
     → AllByRecursion (λ copy. StandsBy (is_open m && copy.done) (is_final_done m) mark (last_mark m.marks) copy) (map unnamed_copy m.copies)
 unnamed-stand m snap mark shut stand =
@@ -133,7 +131,7 @@ pub first-snapshot : (m : Migration) (snap mark : ℕ) → reached m < snap → 
 unfolding next_of
 first-snapshot m snap mark later s =
     let f : FitsPhase (at CreateInitialSnapshot m) = s.now in
-    keeps (at CreateInitialSnapshot m) (at StoreInitialIds (with_snapshot snap mark m)) s refl (length-unnamed m.copies) refl refl refl (record {
+    keeps (at CreateInitialSnapshot m) (at StoreInitialIds (with_snapshot snap mark m)) s refl (length-map m.copies unnamed_copy) refl refl refl (record {
       live = refl;
       current = later;
       named = each-map _ _ unnamed_copy (λ c h. refl) m.copies f.named;
@@ -152,7 +150,7 @@ pub next-snapshot : (m : Migration) (snap mark : ℕ) → reached m < snap → I
 unfolding next_of
 next-snapshot m snap mark later s =
     let f : FitsPhase (at CreateSnapshot m) = s.now in
-    keeps (at CreateSnapshot m) (at StoreIds (with_snapshot snap mark m)) s refl (length-unnamed m.copies) refl refl refl (record {
+    keeps (at CreateSnapshot m) (at StoreIds (with_snapshot snap mark m)) s refl (length-map m.copies unnamed_copy) refl refl refl (record {
       live = refl;
       current = later;
       named = each-map _ _ unnamed_copy (λ c h. refl) m.copies f.named;
@@ -172,7 +170,7 @@ pub final-snapshot : (m : Migration) (snap mark place : ℕ) → reached m < sna
 unfolding next_of
 final-snapshot m snap mark place later s =
     let f : FitsPhase (at CreateFinalSnapshot m) = s.now in
-    keeps (at CreateFinalSnapshot m) (at AddFinalCheckpoint (record (with_snapshot snap mark m) { place = Some place })) s refl (length-unnamed m.copies) refl refl refl (record {
+    keeps (at CreateFinalSnapshot m) (at AddFinalCheckpoint (record (with_snapshot snap mark m) { place = Some place })) s refl (length-map m.copies unnamed_copy) refl refl refl (record {
       live = refl;
       current = later;
       named = each-map _ _ unnamed_copy (λ c h. refl) m.copies f.named;
@@ -188,11 +186,6 @@ final-snapshot m snap mark place later s =
     })
 
 -- ---- its identifiers are stored
-
-length-named : (copies : List DiskCopy) (ids : List ChangeId) → length (named_copies copies ids) ≡ length copies
-length-named [] ids = refl
-length-named (c ∷ copies) [] = refl
-length-named (c ∷ copies) (id ∷ ids) = ap suc (length-named copies ids)
 
 named-stand : (m : Migration) (ids : List ChangeId) → length ids ≡ length m.copies → is_open m ≡ false → AllByRecursion (λ copy. StandsBy (is_open m && copy.done) (is_final_done m) m.mark (last_mark m.marks) copy) m.copies
     → AllByRecursion (λ copy. StandsBy (is_open m && copy.done) (is_final_done m) m.mark (last_mark m.marks) copy) (named_copies m.copies ids)
@@ -288,7 +281,7 @@ power-stored m on s =
     let f : FitsPhase (at StorePowerState m) = s.now in
     keeps (at StorePowerState m) (at PowerOffSource (record m { power = Some on })) s refl refl refl refl refl (record {
       live = refl;
-      current = λ x e. some-same x (reached m) (sym e ∙ f.current);
+      current = λ x e. same_Some x (reached m) (sym e ∙ f.current);
       named = f.named;
       copied = f.copied;
       volumes = f.volumes;
@@ -300,9 +293,6 @@ power-stored m on s =
       unfinished = f.unfinished;
       stand = f.stand;
     })
-  where
-    some-same : (x y : ℕ) → Some x ≡ Some y → x ≡ y
-    some-same x y e = cc
 
 -- ---- a snapshot goes
 

@@ -4,15 +4,16 @@ use Rattle.std.proofs.Common.{◌≡◌, ℕ, zero, suc, ◌+◌, ◌-◌, ◌<�
 use Rattle.std.specs.Prelude.{IsSome, IsSomeAnd, slice_get, nat_lt, is_none}
 use Rattle.std.specs.List.{AllByRecursion}
 use Rattle.std.specs.Option.{option_map_or}
-use Rattle.std.proofs.lemmas.Bool.{eqb-true, false≢true}
-use Rattle.std.proofs.lemmas.Bool.Decides.{nat_tests}
+use Rattle.std.proofs.lemmas.Bool.{and_right, lt-ltb, false≢true}
+use Rattle.std.proofs.lemmas.List.{length-map}
+use Rattle.basics.proofs.ItemAt.{slice_get-last}
 use Rattle.change_id.specs.declared.ChangeId.{ChangeId}
 use Rattle.checkpoints.specs.declared.checkpoint.Checkpoint.{Checkpoint}
 use Rattle.checkpoints.specs.declared.checkpoint.CheckRefused.{CheckRefused}
 use Rattle.checkpoints.specs.declared.checkpoint.CheckRefused.TheVariants.{Order}
 use Rattle.checkpoints.specs.DataVolume.{DataVolumeState, finished_count, last_checkpoint, reached_from, is_unfinished, finished_checkpoint, checkpoint_of, add_refusal, after_add, done_refusal, with_last_done, after_done}
 use Rattle.checkpoints.specs.DataVolume as volume
-use Rattle.checkpoints.proofs.Order.{last_is_finished, done_keeps_sound, add_keeps_sound, add_leaves_the_count, done_adds_one}
+use Rattle.checkpoints.proofs.Order.{length-done, last_is_finished, done_keeps_sound, add_keeps_sound, add_leaves_the_count, done_adds_one}
 use Rattle.phase_table.specs.declared.phases.Phase.{Phase}
 use Rattle.phase_table.specs.declared.phases.Phase.TheVariants.{AddFirstCheckpoint, CopyDisks, AddCheckpoint, AddFinalCheckpoint, CopyFinal, RemoveFinalSnapshot}
 use Rattle.phase_table.specs.declared.table.Fact.TheVariants as Facts
@@ -28,26 +29,15 @@ use Rattle.ctl_state.proofs.SoundMoves.{at, keeps, Based, based, unbased, closed
 -- ---- lists that gain one
 
 -- what was added stands last
-last-at : {X : Type 0} (xs : List X) → (x : X) → slice_get (xs ++ x ∷ []) (length xs) ≡ Some x
-last-at [] x = refl
-last-at (y ∷ xs) x = last-at xs x
-
 last-added : {X : Type 0} (xs : List X) → (x : X) → slice_get (xs ++ x ∷ []) (length (xs ++ x ∷ []) - 1) ≡ Some x
 last-added xs x =
     let n : length (xs ++ x ∷ []) - 1 ≡ length xs = omega (arith, length-append xs (x ∷ [])) in
-    ap (λ (i : ℕ). slice_get (xs ++ x ∷ []) i) n ∙ last-at xs x
-
-pub positive : (n : ℕ) → 0 < n → nat_lt 0 n ≡ true
-positive n h = grind (arith, nat_tests)
+    ap (λ (i : ℕ). slice_get (xs ++ x ∷ []) i) n ∙ slice_get-last xs x
 
 some-added : {X : Type 0} (xs : List X) → (x : X) → nat_lt 0 (length (xs ++ x ∷ [])) ≡ true
-some-added xs x = positive (length (xs ++ x ∷ [])) (omega (arith, length-append xs (x ∷ [])))
+some-added xs x = lt-ltb 0 (length (xs ++ x ∷ [])) (omega (arith, length-append xs (x ∷ [])))
 
 -- ---- a checkpoint is added
-
-length-fresh : (copies : List DiskCopy) → length (map fresh_copy copies) ≡ length copies
-length-fresh [] = refl
-length-fresh (c ∷ copies) = ap suc (length-fresh copies)
 
 fresh-undone : (copies : List DiskCopy) → AllByRecursion (λ c. c.done ≡ false) (map fresh_copy copies)
 fresh-undone [] = tt
@@ -92,7 +82,7 @@ opens m previous current last some may =
       reached = ap (reached_from 0) added;
       added = some-added m.dv.checkpoints x;
       open_now = now_open;
-      left = none-done (map fresh_copy m.copies) (let same = length-fresh m.copies in omega (arith, same, some)) (fresh-undone m.copies);
+      left = none-done (map fresh_copy m.copies) (let same = length-map m.copies fresh_copy in omega (arith, same, some)) (fresh-undone m.copies);
       stand = fresh-stand _ _ m.mark (last_mark m.marks) m.copies now_open (and-not-true _ _ now_open) base;
     }
 
@@ -102,7 +92,7 @@ pub opened-sound : (m n : Migration) (previous current : ℕ) (last : Bool) → 
 opened-sound m n previous current last s may disks copies dv marks written how fits = record {
   some_disks = subst (λ (k : ℕ). 1 ≤ k) (sym disks) s.some_disks;
   few_disks = let few = s.few_disks in omega (arith, few, disks);
-  paired = ap length copies ∙ length-fresh m.copies ∙ s.paired ∙ sym disks;
+  paired = ap length copies ∙ length-map m.copies fresh_copy ∙ s.paired ∙ sym disks;
   volume = subst (λ v. volume.IsSound v) (sym dv) (add_keeps_sound m.dv previous current last s.volume may);
   marked = ap length marks ∙ s.marked ∙ sym (ap (λ v. finished_count v.checkpoints) dv ∙ add_leaves_the_count m.dv previous current last);
   counted = ap length written ∙ s.counted ∙ sym (ap (λ v. finished_count v.checkpoints) dv ∙ add_leaves_the_count m.dv previous current last);
@@ -220,15 +210,11 @@ copied-not-done c h = by (c.begun) (c.done) h
 abbrev is_copied_at : List DiskCopy → (disk : ℕ) → Bool
 is_copied_at copies disk = option_map_or (λ copy. cond copy.begun (not copy.done) false) (slice_get copies disk) false
 
-and-false : (a b : Bool) → b ≡ false → (a && b) ≡ false
-and-false true b e = e
-and-false false b e = refl
-
 -- a disk that is copied is left
 pub left-there : (copies : List DiskCopy) (disk : ℕ) → is_copied_at copies disk ≡ true → all_done copies ≡ false
 left-there [] disk h = absurd (false≢true h)
 left-there (c ∷ copies) zero h = ap (λ (b : Bool). b && all_done copies) (copied-not-done c h)
-left-there (c ∷ copies) (suc disk) h = and-false c.done (all_done copies) (left-there copies disk h)
+left-there (c ∷ copies) (suc disk) h = and_right c.done (all_done copies) (left-there copies disk h)
 
 abbrev pub stage_done : Migration → (disk written : ℕ) → Migration
 stage_done m disk written = record m { copies = change_at m.copies disk (done_copy m.mark written) }
@@ -279,11 +265,6 @@ finished-reaches : (c : Option Checkpoint) → reached_from 0 (option_map finish
 finished-reaches None = refl
 finished-reaches (Some c) = refl
 
-length-finished : (xs : List Checkpoint) → length (with_last_done xs) ≡ length xs
-length-finished [] = refl
-length-finished (x ∷ []) = refl
-length-finished (x ∷ y ∷ rest) = ap suc (length-finished (y ∷ rest))
-
 -- with its last checkpoint finished
 abbrev pub finished : Migration → Migration
 finished m = record m { dv = after_done m.dv; marks = m.marks ++ m.mark ∷ []; written = m.written ++ sectors_written m.copies ∷ [] }
@@ -298,7 +279,7 @@ finishes : (m : Migration) → IsFinished m (finished m)
 finishes m = record {
   shut = ap is_unfinished (last_is_finished m.dv.checkpoints) ∙ finished-shut (last_checkpoint m.dv.checkpoints);
   reaches = ap (reached_from 0) (last_is_finished m.dv.checkpoints) ∙ finished-reaches (last_checkpoint m.dv.checkpoints);
-  as_many = length-finished m.dv.checkpoints;
+  as_many = length-done m.dv.checkpoints;
   last = last-added m.marks m.mark;
 }
 

@@ -2,12 +2,8 @@
 use Rattle.std.proofs.Common.{◌≡◌, ℕ, ◌<◌, ◌==◌, List, Bool, true, false, ◌&&◌, ◌||◌, ◌⊎◌, inl, inr, cond, not, Option, Some, None, refl, sym, ap, subst, ◌∙◌, length}
 use Rattle.std.specs.Prelude.{is_none, unwrap_or, nat_lt, nat_le, IsSome}
 use Rattle.std.specs.List.{list_all}
-use Rattle.std.specs.Option.{option_map_or}
-use Rattle.std.proofs.lemmas.Bool.{eqb-true, false≢true}
-use Rattle.std.proofs.lemmas.Bool.Decides.{nat_tests}
-use Rattle.std.proofs.Common.{arith}
+use Rattle.std.proofs.lemmas.Bool.{and_parts, or_cases, not-true, eqb-true, ltb-true, false≢true}
 use Rattle.change_id.specs.declared.ChangeId.{ChangeId}
-use Rattle.checkpoints.specs.declared.checkpoint.CheckRefused.{CheckRefused}
 use Rattle.checkpoints.specs.DataVolume.{add_refusal}
 use Rattle.phase_table.specs.declared.phases.Phase.{Phase}
 use Rattle.phase_table.specs.declared.phases.Phase.TheVariants.{Started, CreateInitialSnapshot, StoreInitialIds, CreateVolumes, AddFirstCheckpoint, CopyDisks, CopyingPaused, RemovePreviousSnapshot, CreateSnapshot, StoreIds, AddCheckpoint, StorePowerState, PowerOffSource, WaitForPowerOff, RemovePenultimateSnapshot, CreateFinalSnapshot, AddFinalCheckpoint, CopyFinal, RemoveFinalSnapshot, Completed, Cancelled, Failed}
@@ -26,23 +22,12 @@ use Rattle.ctl_state.specs.Steps.{fact_of_way, fact_of_end, with_snapshot, witho
 use Rattle.ctl_state.specs.MayStand.{goes_on_in, copies_disks, may_choose, is_later, may_take, may_store, is_current, adds_checkpoint, may_add, may_begin, may_finish, may_pause, may_remove, may_see, may_take_final, may_cancel, is_failure, may_end, may_step}
 use Rattle.ctl_state.specs.Sound.{HaveCopied, facts_in, is_open, is_final_done, FitsPhase, StandsNow, HasEnded, IsComplete, EndSays, phase_of_end, IsSound}
 use Rattle.ctl_state.specs.SoundLaws.{StepsKeepSound}
+use Rattle.ctl_state.proofs.NextFacts.{is_that}
 use Rattle.ctl_state.proofs.SoundCopies.{done-change}
 use Rattle.ctl_state.proofs.SoundMoves.{phase_is, at, is-at, by-phase, keeps, move, closed, first-snapshot, next-snapshot, final-snapshot, first-ids, next-ids, volumes-made, paused, power-stored, previous-removed, penultimate-removed, goes-back, unmarked-stand}
 use Rattle.ctl_state.proofs.SoundStages.{opened, checkpoint-first, checkpoint-next, checkpoint-final, begins, stage_done, left-there, goes-on-copying, finished, finished-is, finishes-copying, finishes-final}
 
 -- ---- tests
-
-pub both : (a b : Bool) → (a && b) ≡ true → (a ≡ true) × (b ≡ true)
-both true b e = (refl, e)
-both false b e = absurd (false≢true e)
-
-pub either : (a b : Bool) → (a || b) ≡ true → (a ≡ true) ⊎ (b ≡ true)
-either true b e = inl refl
-either false b e = inr e
-
-pub not-true : (b : Bool) → not b ≡ true → b ≡ false
-not-true true e = absurd (false≢true e)
-not-true false e = refl
 
 pub record GoesOn (m : Migration) (p : Phase) : Type 0 where
   pub not_cancelled : m.cancel ≡ false
@@ -50,11 +35,8 @@ pub record GoesOn (m : Migration) (p : Phase) : Type 0 where
 
 pub goes-on : (m : Migration) (p : Phase) → goes_on_in m p ≡ true → GoesOn m p
 goes-on m p e =
-    let parts = both (not m.cancel) (same_phase m.phase p) e in
+    let parts = and_parts (not m.cancel) (same_phase m.phase p) e in
     record { not_cancelled = not-true m.cancel parts.0; phase = phase_is m.phase p parts.1 }
-
-above : (a b : ℕ) → nat_lt a b ≡ true → a < b
-above a b e = grind (arith, nat_tests)
 
 -- ---- record by record
 
@@ -81,12 +63,12 @@ way-is m way k e s = subst (λ (w : ℕ). IsSound (moved m (fact_of_way w))) (sy
 
 chosen : (m : Migration) (way : ℕ) → IsSound m → may_choose m way ≡ true → IsSound (moved m (fact_of_way way))
 chosen m way s h =
-    elim (either (goes_on_in m Started && way == 0) (goes_on_in m CopyingPaused && (way == 1 || way == 2)) h) [
-      | inl first ↦ (let parts = both (goes_on_in m Started) (way == 0) first in way-is m way 0 parts.1 (chosen-first m s (goes-on m Started parts.0).phase))
+    elim (or_cases (goes_on_in m Started && way == 0) (goes_on_in m CopyingPaused && (way == 1 || way == 2)) h) [
+      | inl first ↦ (let parts = and_parts (goes_on_in m Started) (way == 0) first in way-is m way 0 parts.1 (chosen-first m s (goes-on m Started parts.0).phase))
       | inr later ↦ (
-          let parts = both (goes_on_in m CopyingPaused) (way == 1 || way == 2) later in
+          let parts = and_parts (goes_on_in m CopyingPaused) (way == 1 || way == 2) later in
           let e = (goes-on m CopyingPaused parts.0).phase in
-          elim (either (way == 1) (way == 2) parts.1) [
+          elim (or_cases (way == 1) (way == 2) parts.1) [
             | inl one ↦ way-is m way 1 one (chosen-copy m s e)
             | inr two ↦ way-is m way 2 two (chosen-cutover m s e)
           ])
@@ -94,18 +76,18 @@ chosen m way s h =
 
 taken : (m : Migration) (snap mark : ℕ) → IsSound m → may_take m snap ≡ true → IsSound (moved (with_snapshot snap mark m) Facts.Done)
 taken m snap mark s h =
-    let parts = both (goes_on_in m CreateInitialSnapshot || goes_on_in m CreateSnapshot) (is_later m snap) h in
-    let later = above (reached m) snap parts.1 in
-    elim (either (goes_on_in m CreateInitialSnapshot) (goes_on_in m CreateSnapshot) parts.0) [
+    let parts = and_parts (goes_on_in m CreateInitialSnapshot || goes_on_in m CreateSnapshot) (is_later m snap) h in
+    let later = ltb-true (reached m) snap parts.1 in
+    elim (or_cases (goes_on_in m CreateInitialSnapshot) (goes_on_in m CreateSnapshot) parts.0) [
       | inl e ↦ by-phase m CreateInitialSnapshot (λ x. moved (with_snapshot snap mark x) Facts.Done) refl s (goes-on m CreateInitialSnapshot e).phase (first-snapshot m snap mark later)
       | inr e ↦ by-phase m CreateSnapshot (λ x. moved (with_snapshot snap mark x) Facts.Done) refl s (goes-on m CreateSnapshot e).phase (next-snapshot m snap mark later)
     ]
 
 stored : (m : Migration) (ids : List ChangeId) → IsSound m → may_store m ids ≡ true → IsSound (moved (record m { copies = named_copies m.copies ids }) Facts.Done)
 stored m ids s h =
-    let parts = both (goes_on_in m StoreInitialIds || goes_on_in m StoreIds) (length ids == m.disks && list_all (λ id. nat_lt 0 id.seq) ids) h in
-    let e = eqb-true (length ids) m.disks (both (length ids == m.disks) (list_all (λ id. nat_lt 0 id.seq) ids) parts.1).0 in
-    elim (either (goes_on_in m StoreInitialIds) (goes_on_in m StoreIds) parts.0) [
+    let parts = and_parts (goes_on_in m StoreInitialIds || goes_on_in m StoreIds) (length ids == m.disks && list_all (λ id. nat_lt 0 id.seq) ids) h in
+    let e = eqb-true (length ids) m.disks (and_parts (length ids == m.disks) (list_all (λ id. nat_lt 0 id.seq) ids) parts.1).0 in
+    elim (or_cases (goes_on_in m StoreInitialIds) (goes_on_in m StoreIds) parts.0) [
       | inl p ↦ by-phase m StoreInitialIds (λ x. moved (record x { copies = named_copies x.copies ids }) Facts.Done) refl s (goes-on m StoreInitialIds p).phase (first-ids m ids e)
       | inr p ↦ by-phase m StoreIds (λ x. moved (record x { copies = named_copies x.copies ids }) Facts.Done) refl s (goes-on m StoreIds p).phase (next-ids m ids e)
     ]
@@ -113,33 +95,29 @@ stored m ids s h =
 made : (m : Migration) → IsSound m → goes_on_in m CreateVolumes ≡ true → IsSound (moved (record m { volumes = true }) Facts.Done)
 made m s h = by-phase m CreateVolumes (λ x. moved (record x { volumes = true }) Facts.Done) refl s (goes-on m CreateVolumes h).phase (volumes-made m)
 
-current-is : (snap : Option ℕ) (current : ℕ) → option_map_or (λ c. c == current) snap false ≡ true → snap ≡ Some current
-current-is None current e = absurd (false≢true e)
-current-is (Some snap) current e = ap (λ (k : ℕ). Some k) (eqb-true snap current e)
-
-none-is : (refusal : Option CheckRefused) → is_none refusal ≡ true → refusal ≡ None
+pub none-is : {X : Type 0} (o : Option X) → is_none o ≡ true → o ≡ None
 none-is None e = refl
-none-is (Some r) e = absurd (false≢true e)
+none-is (Some x) e = absurd (false≢true e)
 
 added : (m : Migration) (previous current : ℕ) (last : Bool) → IsSound m → may_add m previous current last ≡ true → IsSound (moved (opened m previous current last) Facts.Done)
 added m previous current last s h =
-    let parts = both (adds_checkpoint m last) (is_current m current && is_none (add_refusal m.dv previous current)) h in
-    let rest = both (is_current m current) (is_none (add_refusal m.dv previous current)) parts.1 in
-    by-last m previous current last s parts.0 (current-is m.snap current rest.0) (none-is (add_refusal m.dv previous current) rest.1)
+    let parts = and_parts (adds_checkpoint m last) (is_current m current && is_none (add_refusal m.dv previous current)) h in
+    let rest = and_parts (is_current m current) (is_none (add_refusal m.dv previous current)) parts.1 in
+    by-last m previous current last s parts.0 (is_that m.snap current rest.0) (none-is (add_refusal m.dv previous current) rest.1)
   where
     by-last : (m : Migration) (previous current : ℕ) (last : Bool) → IsSound m → adds_checkpoint m last ≡ true → m.snap ≡ Some current → add_refusal m.dv previous current ≡ None → IsSound (moved (opened m previous current last) Facts.Done)
     by-last m previous current true s p snap may =
         by-phase m AddFinalCheckpoint (λ x. moved (opened x previous current true) Facts.Done) refl s (goes-on m AddFinalCheckpoint p).phase (checkpoint-final m previous current snap may)
     by-last m previous current false s p snap may =
-        elim (either (goes_on_in m AddFirstCheckpoint) (goes_on_in m AddCheckpoint) p) [
+        elim (or_cases (goes_on_in m AddFirstCheckpoint) (goes_on_in m AddCheckpoint) p) [
           | inl e ↦ by-phase m AddFirstCheckpoint (λ x. moved (opened x previous current false) Facts.Done) refl s (goes-on m AddFirstCheckpoint e).phase (checkpoint-first m previous current snap may)
           | inr e ↦ by-phase m AddCheckpoint (λ x. moved (opened x previous current false) Facts.Done) refl s (goes-on m AddCheckpoint e).phase (checkpoint-next m previous current snap may)
         ]
 
 begun-keeps : (m : Migration) (disk : ℕ) → IsSound m → may_begin m disk ≡ true → IsSound (record m { copies = change_at m.copies disk begun_copy })
 begun-keeps m disk s h =
-    let parts = both (copies_disks m) (is_left m disk) (both (not m.cancel) (copies_disks m && is_left m disk) h).1 in
-    elim (either (same_phase m.phase CopyDisks) (same_phase m.phase CopyFinal) parts.0) [
+    let parts = and_parts (copies_disks m) (is_left m disk) (and_parts (not m.cancel) (copies_disks m && is_left m disk) h).1 in
+    elim (or_cases (same_phase m.phase CopyDisks) (same_phase m.phase CopyFinal) parts.0) [
       | inl e ↦ by-phase m CopyDisks (λ x. record x { copies = change_at x.copies disk begun_copy }) refl s (phase_is m.phase CopyDisks e) (begins CopyDisks m disk refl (λ k. k))
       | inr e ↦ by-phase m CopyFinal (λ x. record x { copies = change_at x.copies disk begun_copy }) refl s (phase_is m.phase CopyFinal e)
           (begins CopyFinal m disk refl (λ k. done-change begun_copy (λ c. refl) m.copies disk ∙ k))
@@ -170,9 +148,9 @@ done-final m disk written true e now_open s =
 
 stage-keeps : (m : Migration) (disk written : ℕ) → IsSound m → may_finish m disk written ≡ true → IsSound (with_stage_done disk written m)
 stage-keeps m disk written s h =
-    let parts = both (copies_disks m) (is_being_copied m disk && nat_le written MAX_STAGE_SECTORS) h in
-    let left = left-there m.copies disk (both (is_being_copied m disk) (nat_le written MAX_STAGE_SECTORS) parts.1).0 in
-    elim (either (same_phase m.phase CopyDisks) (same_phase m.phase CopyFinal) parts.0) [
+    let parts = and_parts (copies_disks m) (is_being_copied m disk && nat_le written MAX_STAGE_SECTORS) h in
+    let left = left-there m.copies disk (and_parts (is_being_copied m disk) (nat_le written MAX_STAGE_SECTORS) parts.1).0 in
+    elim (or_cases (same_phase m.phase CopyDisks) (same_phase m.phase CopyFinal) parts.0) [
       | inl e ↦ by-phase m CopyDisks (with_stage_done disk written) refl s (phase_is m.phase CopyDisks e)
           (λ t. done-copying m disk written (all_done (change_at m.copies disk (done_copy m.mark written))) refl (t.now.unfinished ∙ ap not left) t)
       | inr e ↦ by-phase m CopyFinal (with_stage_done disk written) refl s (phase_is m.phase CopyFinal e)
@@ -181,13 +159,13 @@ stage-keeps m disk written s h =
 
 pauses : (m : Migration) (last : Option Moment) → IsSome last → IsSound m → may_pause m ≡ true → IsSound (moved (record m { last = last }) Facts.Done)
 pauses m last there s h =
-    let parts = both (goes_on_in m CopyDisks) (all_done m.copies) h in
+    let parts = and_parts (goes_on_in m CopyDisks) (all_done m.copies) h in
     by-phase m CopyDisks (λ x. moved (record x { last = last }) Facts.Done) refl s (goes-on m CopyDisks parts.0).phase (paused m last there parts.1)
 
 removed : (m : Migration) (snap : ℕ) → IsSound m → may_remove m snap ≡ true → IsSound (moved (without_snapshot m) Facts.Done)
 removed m snap s h =
-    let parts = both (goes_on_in m RemovePreviousSnapshot || goes_on_in m RemovePenultimateSnapshot) (snap == current_snapshot m) h in
-    elim (either (goes_on_in m RemovePreviousSnapshot) (goes_on_in m RemovePenultimateSnapshot) parts.0) [
+    let parts = and_parts (goes_on_in m RemovePreviousSnapshot || goes_on_in m RemovePenultimateSnapshot) (snap == current_snapshot m) h in
+    elim (or_cases (goes_on_in m RemovePreviousSnapshot) (goes_on_in m RemovePenultimateSnapshot) parts.0) [
       | inl e ↦ by-phase m RemovePreviousSnapshot (λ x. moved (without_snapshot x) Facts.Done) refl s (goes-on m RemovePreviousSnapshot e).phase (previous-removed m)
       | inr e ↦ by-phase m RemovePenultimateSnapshot (λ x. moved (without_snapshot x) Facts.Done) refl s (goes-on m RemovePenultimateSnapshot e).phase (penultimate-removed m)
     ]
@@ -213,19 +191,19 @@ unfolding next_of
 on-seen-late m s e = by-phase m CreateFinalSnapshot (λ x. moved x Facts.Running) refl s e (λ t. goes-back m t)
 
 seen : (m : Migration) (off : Bool) → IsSound m → may_see m off ≡ true → IsSound (moved m (cond off Facts.Done Facts.Running))
-seen m true s h = elim (either (goes_on_in m WaitForPowerOff) false h) [
+seen m true s h = elim (or_cases (goes_on_in m WaitForPowerOff) false h) [
   | inl e ↦ off-seen m s (goes-on m WaitForPowerOff e).phase
   | inr e ↦ absurd (false≢true e)
 ]
-seen m false s h = elim (either (goes_on_in m WaitForPowerOff) (goes_on_in m CreateFinalSnapshot) h) [
+seen m false s h = elim (or_cases (goes_on_in m WaitForPowerOff) (goes_on_in m CreateFinalSnapshot) h) [
   | inl e ↦ on-seen m s (goes-on m WaitForPowerOff e).phase
   | inr e ↦ on-seen-late m s (goes-on m CreateFinalSnapshot e).phase
 ]
 
 final-taken : (m : Migration) (snap mark place : ℕ) → IsSound m → may_take_final m snap mark place ≡ true → IsSound (moved (record (with_snapshot snap mark m) { place = Some place }) Facts.Done)
 final-taken m snap mark place s h =
-    let parts = both (goes_on_in m CreateFinalSnapshot) (nat_lt place mark && is_later m snap) h in
-    let later = above (reached m) snap (both (nat_lt place mark) (is_later m snap) parts.1).1 in
+    let parts = and_parts (goes_on_in m CreateFinalSnapshot) (nat_lt place mark && is_later m snap) h in
+    let later = ltb-true (reached m) snap (and_parts (nat_lt place mark) (is_later m snap) parts.1).1 in
     by-phase m CreateFinalSnapshot (λ x. moved (record (with_snapshot snap mark x) { place = Some place }) Facts.Done) refl s (goes-on m CreateFinalSnapshot parts.0).phase (final-snapshot m snap mark place later)
 
 -- ---- a cancel
@@ -248,7 +226,7 @@ cancelled-now None m e f = record {
 }
 
 cancel-asked : (m : Migration) → IsSound m → may_cancel m ≡ true → IsSound (record m { cancel = true })
-cancel-asked m s h = keeps m (record m { cancel = true }) s refl refl refl refl refl (cancelled-now m.how m (both (is_live m) (not m.cancel) h).0 s.now)
+cancel-asked m s h = keeps m (record m { cancel = true }) s refl refl refl refl refl (cancelled-now m.how m (and_parts (is_live m) (not m.cancel) h).0 s.now)
 
 -- ---- an end
 
@@ -298,9 +276,9 @@ ends-otherwise m how true e live h s =
     end-is m how 1 e (ends-with Hows.Cancelled m s (cancelled-phase m.phase f.live) h)
 ends-otherwise m how false e live h s =
     let f = live-fits m.how m live s.now in
-    let parts = both (is_failure how) (not m.cancel) h in
+    let parts = and_parts (is_failure how) (not m.cancel) h in
     let not_cancelled = not-true m.cancel parts.1 in
-    elim (either (how == 2) (how == 3) parts.0) [
+    elim (or_cases (how == 2) (how == 3) parts.0) [
       | inl two ↦ end-is m how 2 two (ends-with Hows.FailedVolume m s (failed-phase m.phase f.live) not_cancelled)
       | inr three ↦ end-is m how 3 three (ends-with Hows.FailedSpent m s (failed-phase m.phase f.live) not_cancelled)
     ]
@@ -311,14 +289,14 @@ ends_by_test how place zeroth m = cond zeroth (goes_on_in m RemoveFinalSnapshot 
 
 ends-by : (m : Migration) (how place : ℕ) (zeroth : Bool) → (how == 0) ≡ zeroth → is_live m ≡ true → ends_by_test how place zeroth m ≡ true → IsSound m → IsSound (end_by how m)
 ends-by m how place true e live h s =
-    let on = goes-on m RemoveFinalSnapshot (both (goes_on_in m RemoveFinalSnapshot) (place == stored_place m) h).0 in
+    let on = goes-on m RemoveFinalSnapshot (and_parts (goes_on_in m RemoveFinalSnapshot) (place == stored_place m) h).0 in
     end-is m how 0 e (by-phase m RemoveFinalSnapshot (with_end Hows.Completed) refl s on.phase (completes m on.not_cancelled))
 ends-by m how place false e live h s =
-    ends-otherwise m how (how == 1) refl live (both (place == 0) (other_end how (how == 1) m) h).1 s
+    ends-otherwise m how (how == 1) refl live (and_parts (place == 0) (other_end how (how == 1) m) h).1 s
 
 ended : (m : Migration) (how place : ℕ) → IsSound m → may_end m how place ≡ true → IsSound (end_by how m)
 ended m how place s h =
-    let parts = both (is_live m) (ends_by_test how place (how == 0) m) h in
+    let parts = and_parts (is_live m) (ends_by_test how place (how == 0) m) h in
     ends-by m how place (how == 0) refl parts.0 parts.1 s
 
 -- ---- all of them

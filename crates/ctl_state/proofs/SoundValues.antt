@@ -3,10 +3,9 @@ use Rattle.std.proofs.Common.{◌≡◌, ℕ, zero, suc, ◌+◌, ◌-◌, ◌<�
 use Rattle.std.specs.Prelude.{slice_get, nat_lt, nat_le, is_some, Contains, IsSomeAnd, slice_index_or}
 use Rattle.std.specs.List.{AllByRecursion}
 use Rattle.std.specs.Option.{option_map_or}
-use Rattle.std.proofs.lemmas.Bool.{eqb-true, eq-eqb, false≢true}
-use Rattle.std.proofs.lemmas.Bool.Decides.{nat_tests}
+use Rattle.std.proofs.lemmas.Bool.{and_parts, eqb-true, eq-eqb, ltb-true, leb-true, false≢true}
 use Rattle.std.proofs.lemmas.List.{length-replicate}
-use Rattle.std.proofs.lemmas.Option.{none-some}
+use Rattle.std.proofs.lemmas.Option.{none-some, same_Some}
 use Rattle.basics.specs.declared.limits.TheConstants.{MAX_DISKS}
 use Rattle.checkpoints.proofs.Order.{new_is_sound}
 use Rattle.plan_model.specs.declared.plan.Plan.{Plan}
@@ -25,21 +24,15 @@ use Rattle.ctl_state.specs.MayStand.{is_next_of, is_next, may_start, is_new_plan
 use Rattle.ctl_state.specs.Fold.{after_record, plan_of}
 use Rattle.ctl_state.specs.Sound.{StandsBy, FitsPhase, IsSound, IsMember, IsSoundValue}
 use Rattle.ctl_state.specs.SoundLaws.{RecordsKeepSound, ValuesAreSound}
-use Rattle.ctl_state.proofs.ListFacts.{length-change_at}
-use Rattle.ctl_state.proofs.SoundSteps.{both, steps_keep_sound}
-use Rattle.ctl_state.proofs.Came.{Came, made, stepped, stayed, came, fronts, numbered-before, numbered-added}
+use Rattle.ctl_state.proofs.ListFacts.{length-change_at, numbered-before, numbered-added}
+use Rattle.ctl_state.proofs.SoundSteps.{steps_keep_sound}
+use Rattle.ctl_state.proofs.Came.{Came, made, stepped, stayed, came, fronts}
 
 -- ---- a new one
 
 each-new : (P : DiskCopy → Type 0) (n : ℕ) → P new_copy → AllByRecursion P (replicate n new_copy)
 each-new P zero h = tt
 each-new P (suc n) h = (h, each-new P n h)
-
-above : (a b : ℕ) → nat_lt a b ≡ true → a < b
-above a b e = grind (arith, nat_tests)
-
-at-most : (a b : ℕ) → nat_le a b ≡ true → a ≤ b
-at-most a b e = grind (arith, nat_tests)
 
 new-sound : (mig plan vm disks : ℕ) → 0 < disks → disks ≤ MAX_DISKS → IsSound (new_migration mig plan vm disks)
 new-sound mig plan vm disks some few = record {
@@ -180,13 +173,13 @@ names-stay v r p vm h = names-by v r p vm (plan_in v p) refl h
 
 member : (v : CtlValue) (r : Record) (mig : ℕ) (n : Migration) → IsSoundValue v → Came v r mig n → IsMember (after_record v r) mig n
 member v r mig n s (made plan vm disks is may new) =
-    let rest = both (mig == length v.migrations + 1) (is_next v plan vm && (nat_lt 0 disks && nat_le disks MAX_DISKS)) may in
-    let more = both (is_next v plan vm) (nat_lt 0 disks && nat_le disks MAX_DISKS) rest.1 in
-    let size = both (nat_lt 0 disks) (nat_le disks MAX_DISKS) more.1 in
+    let rest = and_parts (mig == length v.migrations + 1) (is_next v plan vm && (nat_lt 0 disks && nat_le disks MAX_DISKS)) may in
+    let more = and_parts (is_next v plan vm) (nat_lt 0 disks && nat_le disks MAX_DISKS) rest.1 in
+    let size = and_parts (nat_lt 0 disks) (nat_le disks MAX_DISKS) more.1 in
     subst (IsMember (after_record v r) mig) (sym new) (record {
       numbered = refl;
       planned = names-stay v r plan vm (next-by vm (plan_in v plan) (course_in v plan) more.0);
-      sound = new-sound mig plan vm disks (above 0 disks size.0) (at-most disks MAX_DISKS size.1);
+      sound = new-sound mig plan vm disks (ltb-true 0 disks size.0) (leb-true disks MAX_DISKS size.1);
     })
 member v r mig n s (stepped m there may is of) =
     let old = s.migrations mig m there in
@@ -203,21 +196,18 @@ member v r mig n s (stayed there other) =
 
 -- ---- plans behind one more record
 
-some-same : {X : Type 0} (a b : X) → Some a ≡ Some b → a ≡ b
-some-same a b e = cc
-
 new-plan : (v : CtlValue) (number : ℕ) (name : List ℕ) (interval : ℕ) (vms : List ℕ) (p : ℕ) (plan : Plan) → IsSoundValue v → may_plan v number name vms ≡ true
     → numbered (v.plans ++ plan_of number name interval vms ∷ []) p ≡ Some plan → plan.number ≡ p
 new-plan v number name interval vms p plan s may there = by_number (p == length v.plans + 1) refl
   where
     next : number ≡ length v.plans + 1
-    next = eqb-true number (length v.plans + 1) (both (number == length v.plans + 1) _ (both (is_new_plan v number name) _ may).0).0
+    next = eqb-true number (length v.plans + 1) (and_parts (number == length v.plans + 1) _ (and_parts (is_new_plan v number name) _ may).0).0
 
     by_number : (b : Bool) → (p == length v.plans + 1) ≡ b → plan.number ≡ p
     by_number true e =
         let at = eqb-true p (length v.plans + 1) e in
         let new = sym (numbered-added v.plans (plan_of number name interval vms)) ∙ ap (numbered (v.plans ++ plan_of number name interval vms ∷ [])) (sym at) ∙ there in
-        ap (λ (q : Plan). q.number) (sym (some-same (plan_of number name interval vms) plan new)) ∙ next ∙ sym at
+        ap (λ (q : Plan). q.number) (sym (same_Some (plan_of number name interval vms) plan new)) ∙ next ∙ sym at
     by_number false e =
         s.plans p plan (sym (numbered-before v.plans (plan_of number name interval vms) p (λ at. false≢true (sym e ∙ eq-eqb p (length v.plans + 1) at))) ∙ there)
 

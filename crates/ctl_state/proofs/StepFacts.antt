@@ -1,6 +1,7 @@
 -- What each step of a migration keeps of it, and that an end ends it.
 use Rattle.std.proofs.Common.{◌≡◌, ℕ, ◌==◌, Bool, true, false, cond, ◌&&◌, ◌||◌, not, List, [], ◌∷◌, ◌++◌, Option, Some, None, Result, Ok, Err, OnOk, OnErr, refl, ap, subst, sym, ◌∙◌}
 use Rattle.std.specs.Option.{option_map_or}
+use Rattle.std.proofs.lemmas.Bool.{and_parts}
 use Rattle.record_codec.specs.declared.record.Record.{Record}
 use Rattle.record_codec.specs.declared.record.Record.TheVariants.{PlanMade, MigrationStarted, Chosen, SnapTaken, IdsStored, VolumesMade, CheckpointAdded, StageBegun, StageDone, Paused, SnapRemoved, CutoverSet, PowerStored, PoweredOff, OffSeen, FinalSnapTaken, CancelAsked, Ended}
 use Rattle.phase_table.specs.declared.phases.Phase.TheVariants as Phases
@@ -78,10 +79,6 @@ step_keeps m (FinalSnapTaken mig snap mark place) h =
 step_keeps m (CancelAsked mig) h = record { how = refl; machine = refl; number = refl }
 step_keeps m (Ended mig how place) h = absurd (cc)
 
-and_left : (a b : Bool) → (a && b) ≡ true → a ≡ true
-and_left true b h = refl
-and_left false b h = h
-
 end_by_tests : (m : Migration) (b0 b1 b2 b3 live x y cancel : Bool)
     → (live && cond b0 x (y && cond b1 cancel ((b2 || b3) && not cancel))) ≡ true
     → is_live (option_map_or (λ end. with_end end m)
@@ -97,7 +94,7 @@ end_by_tests m false false false false false x y cancel h = absurd (cc)
 
 -- what may end is live, and has ended then
 pub may_end_live : (m : Migration) (how place : ℕ) → may_end m how place ≡ true → is_live m ≡ true
-may_end_live m how place h = and_left (is_live m) _ h
+may_end_live m how place h = (and_parts (is_live m) _ h).0
 
 pub end_ends : (m : Migration) (how place : ℕ) → may_end m how place ≡ true
     → is_live (end_by how m) ≡ false

@@ -6,10 +6,11 @@ use Rattle.std.specs.BTreeMap.{get, is_at}
 use Rattle.std.specs.Ordering.{nat_cmp, is_eq}
 use Rattle.std.proofs.lemmas.Bool.{eqb-true, eq-eqb}
 use Rattle.std.proofs.lemmas.Bool.Decides.{eqb_tells}
+use Rattle.log_model.proofs.Options.{none_is}
 use Rattle.ctl_state.specs.Value.{is_listed}
 use Rattle.ctl_state.specs.MayStand.{has_double}
 use Rattle.ctl_state.specs.Work.{Work, is_in, HasNone, Joins}
-use Rattle.ctl_state.proofs.KeptFacts.{is_eq-nat_cmp, listed_fails, not_some, neither}
+use Rattle.ctl_state.proofs.KeptFacts.{is_eq-nat_cmp, listed_fails}
 
 -- the list from a place on has the machine there first
 from_place : (vms : List ℕ) (i v : ℕ) → i < length vms
@@ -108,7 +109,7 @@ listed_drop (x ∷ xs) (suc i) v h = listed_more x v xs (listed_drop xs i v h)
 pub none_from : (work : Work) (vms : List ℕ) (i v : ℕ) → HasNone work vms
     → is_listed (drop i vms) v ≡ true → get nat_cmp work v ≡ None
 none_from work vms i v free listed =
-    not_some (get nat_cmp work v) (listed_fails (is_in work) vms v free (listed_drop vms i v listed))
+    none_is (get nat_cmp work v) (listed_fails (is_in work) vms v free (listed_drop vms i v listed))
 
 pub none_at : (work : Work) (vms : List ℕ) (i : ℕ) → HasNone work vms → i < length vms
     → get nat_cmp work (get_or vms i 0) ≡ None

@@ -1,9 +1,10 @@
--- What the records of one migration ask of its machine and of its volumes: that the log has the
--- snapshots, the place and the identifiers that they name, and what each stage had to write; that
--- the current snapshot is there; and that each volume holds what its disk's stages left. The log is
--- the machine's, whose number and capacities stand beside it; what a store tells are its volumes by
--- name. What is asked for all migrations is this for each one.
-use Rattle.std.specs.Prelude.{◌≡◌, ℕ, ◌+◌, ◌<◌, ◌≤◌, ◌⊎◌, Bool, true, false, ◌&&◌, ◌||◌, List, ◌∷◌, ◌++◌, length, drop, take, Option, Some, None, option_map, option_and_then, IsSomeAnd, Ok, slice_get}
+-- What the records of one migration ask of its machine and of its volumes: that it is the machine
+-- with its disks, tracked; that the log has the snapshots, the place and the identifiers that they
+-- name, and what each stage had to write; that the current snapshot is there; and that each volume
+-- holds what its disk's stages left, or what the disk held where the migration is completed. The
+-- log is the machine's, whose number and capacities stand beside it; what a store tells are its
+-- volumes by name. What is asked for all migrations is this for each one.
+use Rattle.std.specs.Prelude.{◌≡◌, ℕ, ◌+◌, ◌<◌, ◌≤◌, ◌⊎◌, Bool, true, false, ◌&&◌, ◌||◌, List, ◌∷◌, ◌++◌, length, drop, take, Option, Some, None, option_map, option_and_then, replicate, IsSomeAnd, Ok, slice_get}
 use Rattle.std.specs.List.{list_any}
 use Rattle.std.specs.Option.{ForSome}
 use Rattle.sector_model.specs.VolumeContents.{VolumeContents, IsSized}
@@ -12,10 +13,10 @@ use Rattle.log_model.specs.declared.entry.Owner.TheVariants.{Migration as OfMigr
 use Rattle.log_model.specs.declared.entry.Act.TheVariants.{Snap}
 use Rattle.log_model.specs.declared.entry.Entry.{Entry}
 use Rattle.log_model.specs.declared.link.Snapped.{Snapped}
-use Rattle.log_model.specs.Entry.{removes, resets}
-use Rattle.log_model.specs.Legal.{is_enabled, capacity_of}
-use Rattle.log_model.specs.Link.{Owns}
-use Rattle.log_model.specs.Marks.{mark, id_at, in_force}
+use Rattle.log_model.specs.Entry.{removes, resets, contents}
+use Rattle.log_model.specs.Legal.{Legal, all_of, is_enabled, capacity_of}
+use Rattle.log_model.specs.Link.{Owns, is_active}
+use Rattle.log_model.specs.Marks.{mark, id_at, in_force, tracking}
 use Rattle.log_model.specs.Frozen.{off_place}
 use Rattle.log_model.specs.Touched.{touched}
 use Rattle.warm_core.specs.declared.disk_world.Base.{Base}
@@ -29,10 +30,11 @@ use Rattle.phase_table.specs.declared.phases.Phase.TheVariants as Phases
 use Rattle.record_codec.specs.declared.record.Record.{Record}
 use Rattle.record_codec.specs.declared.record.Record.TheVariants.{PlanMade, MigrationStarted, Chosen, SnapTaken, IdsStored, VolumesMade, CheckpointAdded, StageBegun, StageDone, Paused, SnapRemoved, CutoverSet, PowerStored, PoweredOff, OffSeen, FinalSnapTaken, CancelAsked, Ended}
 use Rattle.record_codec.specs.Record.{migration_of}
+use Rattle.ctl_state.specs.declared.migration.How.TheVariants.{Completed}
 use Rattle.ctl_state.specs.declared.migration.Migration.{Migration}
 use Rattle.ctl_state.specs.declared.copies.DiskCopy.{DiskCopy}
 use Rattle.ctl_state.specs.declared.copies.CopyBase.{CopyBase}
-use Rattle.ctl_state.specs.Migration.{same_phase, is_live, current_snapshot, copy_of}
+use Rattle.ctl_state.specs.Migration.{same_phase, is_live, current_snapshot, stored_place, copy_of}
 use Rattle.ctl_state.specs.Value.{CtlValue, migration_in}
 use Rattle.ctl_state.specs.Fold.{after}
 use Rattle.ctl_state.specs.MayStand.{goes_on_in}
@@ -43,6 +45,15 @@ pub record MachineFacts : Type 0 where
   pub number : ℕ
   pub capacities : List ℕ
   pub log : List Entry
+
+-- ---- what it asks of its machine
+
+-- the machine is the one that it was started for, with as many disks, and its changes are tracked
+pub record MachineAsks (at : MachineFacts) (m : Migration) : Type 0 where
+  pub numbered : at.number ≡ m.vm
+  pub sized : length at.capacities ≡ m.disks
+  pub legal : Legal (all_of at.capacities) at.log
+  pub tracked : is_active (tracking at.log) ≡ true
 
 -- ---- what its records ask of the log
 
@@ -168,19 +179,32 @@ pub record IsOfDisk (at : MachineFacts) (m : Migration) (disk : ℕ) (stored : S
   pub known : disk < m.disks
   pub sized : stored.capacity ≡ capacity_of at.capacities disk
 
+-- what a completed migration's volume holds: what the disk's writes before the power-off place
+-- left, and nothing of it is loose
+abbrev pub final_contents : MachineFacts → Migration → (disk : ℕ) → VolumeContents
+final_contents at m disk = record {
+  sectors = contents (capacity_of at.capacities disk) disk (take (stored_place m) at.log);
+  loose = replicate (capacity_of at.capacities disk) false;
+}
+
 -- while the migration is live, each of its disks has its volume, at home and as it has to be, from
--- the record on that says so; and whatever stands under its name is of a disk of its
+-- the record on that says so; once it is completed, each holds its disk; and whatever stands under
+-- its name is of a disk of its
 pub record VolumesAsk (mig : ℕ) (at : MachineFacts) (m : Migration)
     (told : List (VolumeName × StoredVolume)) : Type 0 where
   pub each_disk : is_live m ≡ true → m.volumes ≡ true → (disk : ℕ) (copy : DiskCopy)
       → copy_of m disk ≡ Some copy → IsSomeAnd (find_volume (Disk mig disk) told)
       (λ stored. IsSomeAnd stored.contents (VolumeAgrees at m disk copy))
+  pub complete : m.how ≡ Some Completed → (disk : ℕ) → disk < m.disks
+      → IsSomeAnd (find_volume (Disk mig disk) told)
+      (λ stored. stored.contents ≡ Some (final_contents at m disk))
   pub named : (disk : ℕ) → ForSome (find_volume (Disk mig disk) told) (IsOfDisk at m disk)
 
 -- ---- all of it, of one migration; what its volumes hold is asked where the store tells that
 
 pub record AsksOf (mig : ℕ) (at : MachineFacts) (records : List Record) (m : Migration)
     (told : Option (List (VolumeName × StoredVolume))) : Type 0 where
+  pub of_machine : MachineAsks at m
   pub of_log : RecordsAsk mig at records
   pub of_snapshot : SnapshotAsks mig at.log m
   pub of_volumes : ForSome told (VolumesAsk mig at m)

@@ -1,5 +1,5 @@
--- What the state keeps beside plans and migrations, so that names and machines are looked up and not
--- looked for: each is what plans and migrations say.
+-- What the state keeps beside plans and migrations, so that names and machines are looked up and
+-- not looked for: each is what plans and migrations say.
 use Rattle.std.specs.Prelude.{◌≡◌, ℕ, ◌+◌, ◌^◌, ◌<◌, ◌≤◌, ◌==◌, List, length, Option, Some, None, if◌then◌else◌}
 use Rattle.std.specs.List.{AllByRecursion}
 use Rattle.std.specs.BTreeMap.{BTreeMap, get}

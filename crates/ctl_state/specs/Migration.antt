@@ -1,6 +1,6 @@
--- One migration as its records left it, and what is read from that: its current snapshot, the disks
--- that are left to copy, whether it is live. What a stage of one disk does to the disk's copy stands
--- here too.
+-- One migration as its records left it, and what is read from that: its current snapshot, the
+-- disks that are left to copy, whether it is live. What a stage of one disk does to the disk's
+-- copy stands here too.
 use Rattle.std.specs.Prelude.{◌≡◌, ℕ, ◌+◌, ◌==◌, nat_lt, Bool, true, false, not, List, [], ◌∷◌, length, Option, Some, None, is_none, is_some, unwrap_or, slice_get, slice_set, if◌then◌else◌}
 use Rattle.std.specs.List.{list_all, sum_by}
 use Rattle.std.specs.Option.{option_map_or}

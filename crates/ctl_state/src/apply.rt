@@ -1,5 +1,5 @@
-//! One record more: it is strange where it may not stand, and else takes effect. What can be refused
-//! is looked at before memory is taken, and memory is taken before anything changes.
+//! One record more: it is strange where it may not stand, and else takes effect. What can be
+//! refused is looked at before memory is taken, and memory is taken before anything changes.
 ghost use Rattle.std.specs.Prelude.{◌≡◌, false, not, OnOk, OnErr};
 ghost use Rattle.std.specs.Bool.{OnTrue};
 ghost use Rattle.std.specs.List.{list_any};

@@ -1,4 +1,5 @@
-//! The records of one migration: whether each may stand where the migration is, and what it changes.
+//! The records of one migration: whether each may stand where the migration is, and what it
+//! changes.
 ghost use Rattle.std.specs.Prelude.{◌≡◌, ◌≤◌, ◌==◌, ◌&&◌, Some, None, true, OnOk, OnErr, is_none};
 ghost use Rattle.record_codec.specs.declared.record.Record.{Record};
 ghost use Rattle.checkpoints.specs.DataVolume.{add_refusal, after_add};

@@ -11,7 +11,8 @@ use plan_model::{Moment, Way};
 use record_codec::Record;
 use target_volume::VolumeStore;
 
-/// What a phase or a clean-up is told of its migration. A snapshot or a place that there isn't is 0.
+/// What a phase or a clean-up is told of its migration. A snapshot or a place that there isn't
+/// is 0.
 #[derive(Clone, Copy, Debug, PartialEq, Eq)]
 pub struct PhaseTask {
     /// The number of the migration.

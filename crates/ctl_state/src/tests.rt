@@ -1,6 +1,7 @@
 //! The records of one migration from its plan to its end: what each leaves, and that one which is
 //! missing or stands twice makes a record strange.
 use crate::*;
+use checkpoints::Checkpoint;
 use phase_table::Phase;
 use plan_model::{Moment, Way};
 use record_codec::{Record, decode};
@@ -40,6 +41,48 @@ const BODIES: [&[u8]; 29] = [
     b"\x12\0\0\0\x01\0\0\0\0\0\0\0\0\x09",
 ];
 
+/// Behind each record from the second on: the phase of the migration, how many checkpoints it has,
+/// and how many of them are finished.
+const STATES: [(Phase, usize, usize); 28] = [
+    (Phase::Started, 0, 0),
+    (Phase::CreateInitialSnapshot, 0, 0),
+    (Phase::StoreInitialIds, 0, 0),
+    (Phase::CreateVolumes, 0, 0),
+    (Phase::AddFirstCheckpoint, 0, 0),
+    (Phase::CopyDisks, 1, 0),
+    (Phase::CopyDisks, 1, 0),
+    (Phase::CopyDisks, 1, 1),
+    (Phase::CopyingPaused, 1, 1),
+    (Phase::RemovePreviousSnapshot, 1, 1),
+    (Phase::CreateSnapshot, 1, 1),
+    (Phase::StoreIds, 1, 1),
+    (Phase::AddCheckpoint, 1, 1),
+    (Phase::CopyDisks, 2, 1),
+    (Phase::CopyDisks, 2, 1),
+    (Phase::CopyDisks, 2, 2),
+    (Phase::CopyingPaused, 2, 2),
+    (Phase::CopyingPaused, 2, 2),
+    (Phase::StorePowerState, 2, 2),
+    (Phase::PowerOffSource, 2, 2),
+    (Phase::WaitForPowerOff, 2, 2),
+    (Phase::RemovePenultimateSnapshot, 2, 2),
+    (Phase::CreateFinalSnapshot, 2, 2),
+    (Phase::AddFinalCheckpoint, 2, 2),
+    (Phase::CopyFinal, 3, 2),
+    (Phase::CopyFinal, 3, 2),
+    (Phase::RemoveFinalSnapshot, 3, 3),
+    (Phase::Completed, 3, 3),
+];
+
+/// The snapshots of its checkpoints: the one before, 0 for none, and the one that is copied.
+const SNAPSHOTS: [(u32, u32); 3] = [(0, 2), (2, 3), (3, 4)];
+
+/// The marks of its checkpoints.
+const MARKS: [u64; 3] = [4, 7, 11];
+
+/// The sectors that the stages of each checkpoint wrote.
+const WRITTEN: [u64; 3] = [256, 128, 128];
+
 const FIRST: u64 = 1_714_557_600;
 
 fn record(rt: &HostRuntime, number: usize) -> Result<Record, Fail> {
@@ -72,6 +115,56 @@ fn refused_at(rt: &HostRuntime, missing: usize, double: usize) -> Result<usize, 
         }
     }
     Ok(0)
+}
+
+/// Whether these are the first so many checkpoints, of which so many are finished.
+fn are_checkpoints(checkpoints: &[Checkpoint], count: usize, finished: usize) -> bool {
+    let mut number: usize = 0;
+    for (checkpoint, (previous, current)) in checkpoints.iter().zip(&SNAPSHOTS) {
+        number = number.saturating_add(1);
+        let expected = Checkpoint {
+            previous: *previous,
+            current: *current,
+            done: number <= finished,
+        };
+        if *checkpoint != expected {
+            return false;
+        }
+    }
+    checkpoints.len() == count
+}
+
+/// Whether these are the first so many of all numbers.
+fn are_first(numbers: &[u64], all: &[u64], count: usize) -> bool {
+    numbers.len() == count && all.starts_with(numbers)
+}
+
+#[test]
+fn each_record_leaves_its_state(rt: HostRuntime) -> Result<(), Fail> {
+    let mut state = state_after(&rt, 1)?;
+    assert!(rt; state.status(1).is_none());
+    let mut number: usize = 1;
+    for (phase, count, finished) in STATES {
+        number = number.saturating_add(1);
+        state.apply(&record(&rt, number)?)?;
+        let migration = state.status(1).ok_or("no migration")?;
+        let checkpoints = migration.dv.checkpoints();
+        assert!(rt; migration.phase == phase, "phase after {number}");
+        assert!(rt;
+            are_checkpoints(checkpoints, count, finished),
+            "checkpoints after {number}"
+        );
+        assert!(rt;
+            are_first(migration.marks.as_slice(), &MARKS, finished),
+            "marks after {number}"
+        );
+        let written = migration.written.as_slice();
+        assert!(rt;
+            are_first(written, &WRITTEN, finished),
+            "written after {number}"
+        );
+    }
+    Ok(())
 }
 
 #[test]

@@ -1,5 +1,5 @@
-//! The machines that are in some plan's unfinished work, each with its live migration, if it has one,
-//! so that machines are looked up one by one. A plan puts all of its machines in, or none.
+//! The machines that are in some plan's unfinished work, each with its live migration, if it has
+//! one, so that machines are looked up one by one. A plan puts all of its machines in, or none.
 ghost use Rattle.std.specs.Prelude.{◌≡◌, not, OnOk, OnErr};
 ghost use Rattle.basics.specs.Refusal.{IsRefusedOr};
 ghost use Rattle.ctl_state.specs.Refusal.{strange_unless};
@@ -9,8 +9,8 @@ ghost use Rattle.ctl_state.specs.Work.{HasNone, Joins, Leaves, HasSame, Begins, 
 use crate::StateRefused;
 use std::collections::BTreeMap;
 
-/// Puts these machines, none of which is in the map, into it, all waiting. Strange exactly where one
-/// stands twice; then, and for want of memory, the map stays.
+/// Puts these machines, none of which is in the map, into it, all waiting. Strange exactly where
+/// one stands twice; then, and for want of memory, the map stays.
 pub(crate) fn put_to_work(
     work: &mut BTreeMap<u32, Option<u32>>,
     vms: &[u32],

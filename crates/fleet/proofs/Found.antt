@@ -12,7 +12,7 @@ use Rattle.log_model.specs.declared.entry.TheConstants.{MIGRATION_CALLER}
 use Rattle.log_model.specs.declared.entry.Entry.{Entry}
 use Rattle.log_model.specs.Link.{LinkState}
 use Rattle.source_vm.specs.Machine.{MachineState, link_of}
-use Rattle.fleet.specs.Fleet.{HostState, VmState, FleetState, host_place, vm_number, vm_of, vm_in, with_vm_at, with_log, VmGoesOn, FleetGoesOn}
+use Rattle.fleet.specs.Fleet.{HostState, VmState, FleetState, host_place, vm_number, vm_of, vm_in, machine_of, with_vm_at, with_log, VmGoesOn, FleetGoesOn}
 use Rattle.fleet.specs.Lending.{lifted, after_lift, after_lower, IsOver, MayGoBack}
 use Rattle.fleet.proofs.Logs.{at_place, found_changed, later_counts, log_is, changed_goes_on, goes_on_itself}
 use Rattle.fleet.proofs.Replacing.{vm_of-at}
@@ -95,6 +95,16 @@ lifted_is number before fleet h = by (vm_of number fleet) refl h
         in_or_out true out f = absurd (none-some before f)
         in_or_out false out f =
             (vm, is, out, ap (λ (l : LinkState). l.machine) (sym (same_Some _ before f)))
+
+-- and nobody else reaches it
+pub lifted-alone : (number : ℕ) (before : LinkState) (fleet : FleetState)
+    → lifted number fleet ≡ Some before → before.unshared ≡ true
+lifted-alone number before fleet is = by (machine_of number fleet) is
+  where
+    by : (o : Option MachineState)
+        → option_map (link_of MIGRATION_CALLER) o ≡ Some before → before.unshared ≡ true
+    by None e = absurd (none-some before e)
+    by (Some m) e = ap (λ (l : LinkState). l.unshared) (sym (same_Some _ before e))
 
 after_lift_is : (number : ℕ) (vm : VmState) (fleet : FleetState) → vm_of number fleet ≡ Some vm
     → vm.out ≡ false → after_lift number fleet ≡ with_vm_at number (record vm { out = true }) fleet

@@ -2,13 +2,10 @@
 use Rattle.std.proofs.Common.{◌≡◌, ◌≢◌, ℕ, ◌<◌, Bool, true, false, true≢false, cond, not, List, length, get_or, Option, Some, None, is_some, refl, ap, ◌∙◌, sym, nat_lt, map, arith}
 use Rattle.std.specs.List.{position, position_or_len}
 use Rattle.std.specs.Str.{bytes_eq}
+use Rattle.std.proofs.lemmas.Bool.{not-true}
 use Rattle.std.proofs.lemmas.List.Sums.{prefix_len_passes}
 use Rattle.std.proofs.lemmas.Slice.Eq.{bytes_eq-Decides}
 use Rattle.fleet.proofs.Places.{position-map}
-
-not_told : (b : Bool) → not b ≡ true → b ≡ false
-not_told true h = sym h
-not_told false h = refl
 
 none_told : (b : Bool) (n : ℕ) → cond b (Some n) None ≡ None → b ≡ false
 none_told true n h = absurd (true≢false (ap is_some h))
@@ -20,7 +17,7 @@ pub position-None : {X : Type 0} (p : X → Bool) (xs : List X) → position p x
 position-None p xs none k d within =
     let past : nat_lt (position_or_len p xs) (length xs) ≡ false = none_told _ _ none in
     let before : k < position_or_len p xs = grind (arith, past, within) in
-    not_told _ (prefix_len_passes (λ x. not (p x)) xs k d before)
+    not-true _ (prefix_len_passes (λ x. not (p x)) xs k d before)
 
 -- so a name that isn't among others can stand behind them
 pub names_differ : {X : Type 0} (name_of : X → List ℕ) (name : List ℕ) (xs : List X)

@@ -9,6 +9,7 @@ use Rattle.std.specs.String.{string_eq}
 use Rattle.indexmap.specs.IndexMap.{insert_entry}
 use Rattle.indexmap.specs.Layout.{set_value_at}
 use Rattle.indexmap.proofs.MapLemmas.{absent_from_lookup, some_index, insert_entry-absent}
+use Rattle.log_model.proofs.Options.{none_is}
 use Rattle.fleet.specs.NameMap.{with_bytes, place_of, value_at, with_value_at}
 
 prefix_len-map : {X Y : Type 0} (p : Y → Bool) (f : X → Y) (xs : List X)
@@ -55,10 +56,6 @@ pub place_of-keys : {Z V : Type 0} (name : List ℕ) (entries : List (String Z �
 place_of-keys name entries =
     position-map (λ k. bytes_eq name (string_bytes k)) (λ e. e.0) entries
     ∙ sym (position-map (λ e. bytes_eq name e.0) (λ e. (string_bytes e.0, e.1)) entries)
-
-pub none_is : {X : Type 0} (o : Option X) → is_some o ≡ false → o ≡ None
-none_is None h = refl
-none_is (Some x) h = absurd (true≢false h)
 
 -- a key whose name isn't there goes last
 pub with_bytes-insert : {Z V : Type 0} (entries : List (String Z × V)) (key : String Z) (value : V)

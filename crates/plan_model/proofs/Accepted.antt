@@ -5,7 +5,7 @@ use Rattle.std.specs.Bool.{one_answer}
 use Rattle.std.specs.List.{find, list_any, AllByRecursion, IsDistinct}
 use Rattle.std.specs.Option.{option_or}
 use Rattle.std.specs.Str.{bytes_eq}
-use Rattle.std.proofs.lemmas.Bool.{eqb-true, false≢true, or_parts as any_split}
+use Rattle.std.proofs.lemmas.Bool.{eqb-true, false≢true, not-false, or_parts as any_split}
 use Rattle.std.proofs.lemmas.Bool.Decides.{nat_tests}
 use Rattle.std.proofs.lemmas.Slice.Eq.{bytes_eq-Decides}
 use Rattle.std.proofs.lemmas.List.Elements.{All-from_recursion, recursion_from_All}
@@ -158,17 +158,13 @@ doubled_none vms distinct =
     (once_where_distinct vms distinct))
 
 -- machines
-not_false : (b : Bool) → not b ≡ false → b ≡ true
-not_false true e = refl
-not_false false e = sym e
-
 free_where : (known : List VmFact) (name : List ℕ) (found : Option VmFact)
     → fact_of known name ≡ found → is_unknown (option_map standing_of found) ≡ false
     → is_in_plan (option_map standing_of found) ≡ false
     → is_untracked (option_map standing_of found) ≡ false → IsFree known name
 free_where known name None e u p t = cc
 free_where known name (Some fact) e u p t =
-    record { fact = fact; is_known = e; in_no_plan = p; tracked = not_false fact.tracking t }
+    record { fact = fact; is_known = e; in_no_plan = p; tracked = not-false fact.tracking t }
 
 abbrev Passes : (test : Option Standing → Bool) (known : List VmFact) → List ℕ → Type 0
 Passes test known name = test (standing_in known name) ≡ false

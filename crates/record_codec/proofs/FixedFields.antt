@@ -2,7 +2,7 @@
 use Rattle.std.proofs.Common.{◌≡◌, ℕ, zero, suc, ◌+◌, ◌<◌, ◌≤◌, Bool, true, false, List, [], ◌∷◌, ◌++◌, length, drop, Option, Some, None, refl, sym, ap, ◌∙◌, subst, arith, eq-eqb}
 use Rattle.std.specs.Prelude.{◌==◌, nat_lt, nat_le, ◌&&◌, ◌||◌, slice_index_or, option_map, if◌then◌else◌}
 use Rattle.std.specs.List.{AllByRecursion}
-use Rattle.std.proofs.lemmas.Bool.{eqb-true}
+use Rattle.std.proofs.lemmas.Bool.{eqb-true, ltb-true, lt-ltb}
 use Rattle.std.proofs.lemmas.Option.{same_Some}
 use Rattle.std.proofs.lemmas.Bool.Decides.{nat_tests}
 use Rattle.std.proofs.lemmas.List.{length-drop}
@@ -207,12 +207,6 @@ has_forth : (has : Bool) (at : ℕ) → (has ≡ false → at ≡ 0) → (has ||
 has_forth true at e = refl
 has_forth false at e = zero_is at (e refl)
 
-place_back : (place mark : ℕ) → nat_lt place mark ≡ true → place < mark
-place_back place mark e = grind (arith, nat_tests)
-
-place_forth : (place mark : ℕ) → place < mark → nat_lt place mark ≡ true
-place_forth place mark e = grind (arith, nat_tests)
-
 how_most : (how place : ℕ) → (nat_le how MAX_HOW && (how == 0 || place == 0)) ≡ true → how ≤ MAX_HOW
 how_most how place e = grind (arith, nat_tests)
 
@@ -234,7 +228,7 @@ rule_back (PlanMade plan name interval vms) fixed e = absurd (no_size fixed)
 rule_back (Chosen mig way at) fixed e = way_least way e
 rule_back (IdsStored mig ids) fixed e = absurd (no_size fixed)
 rule_back (CutoverSet plan has at) fixed e = has_back has at e
-rule_back (FinalSnapTaken mig snap mark place) fixed e = place_back place mark e
+rule_back (FinalSnapTaken mig snap mark place) fixed e = ltb-true place mark e
 rule_back (Ended mig how place) fixed e = how_back how place e
 rule_back _ fixed e = tt
 
@@ -243,7 +237,7 @@ rule_forth (PlanMade plan name interval vms) fixed e = absurd (no_size fixed)
 rule_forth (Chosen mig way at) fixed e = way_forth way e
 rule_forth (IdsStored mig ids) fixed e = absurd (no_size fixed)
 rule_forth (CutoverSet plan has at) fixed e = has_forth has at e
-rule_forth (FinalSnapTaken mig snap mark place) fixed e = place_forth place mark e
+rule_forth (FinalSnapTaken mig snap mark place) fixed e = lt-ltb place mark e
 rule_forth (Ended mig how place) fixed e = how_forth how place e
 rule_forth _ fixed e = refl
 

@@ -64,8 +64,10 @@ fn a_digest_has_its_digits(rt: HostRuntime) -> Result<(), Fail> {
         digest: *b"0123456789abcdef0123456789abcdef0123456789abcdef0123456789abcdef",
         sectors: u64::MAX,
     };
-    let text =
-        r#"{"digest":"0123456789abcdef0123456789abcdef0123456789abcdef0123456789abcdef","ok":true,"sectors":18446744073709551615}"#;
+    let text = concat!(
+        r#"{"digest":"0123456789abcdef0123456789abcdef0123456789abcdef0123456789abcdef","#,
+        r#""ok":true,"sectors":18446744073709551615}"#,
+    );
     shows(&rt, rt.alloc(), &reply, text)
 }
 
@@ -131,8 +133,11 @@ fn texts_have_the_shortest_escapes(rt: HostRuntime) -> Result<(), Fail> {
     let name = "\"\\\u{8}\t\n\u{c}\r/\0\u{1}\u{b}\u{e}\u{1b}\u{1f} \u{7f}\u{80}ä\u{2028}😀";
     let name = Text::of(rt.alloc(), name)?;
     let reply = refused(rt.alloc(), "field", Carried::Name(name))?;
-    let text =
-        "{\"error\":\"field\",\"name\":\"\\\"\\\\\\b\\t\\n\\f\\r/\\u0000\\u0001\\u000b\\u000e\\u001b\\u001f \u{7f}\u{80}ä\u{2028}😀\",\"ok\":false}";
+    let text = concat!(
+        r#"{"error":"field","name":"\"\\\b\t\n\f\r/\u0000\u0001\u000b\u000e\u001b\u001f "#,
+        "\u{7f}\u{80}ä\u{2028}😀",
+        r#"","ok":false}"#,
+    );
     shows(&rt, rt.alloc(), &reply, text)
 }
 
@@ -175,8 +180,10 @@ fn an_area_is_its_start_and_length(rt: HostRuntime) -> Result<(), Fail> {
 #[test]
 fn a_query_may_find_no_area(rt: HostRuntime) -> Result<(), Fail> {
     let reply = query(Vec::new(rt.alloc()), Some(id(0, 2)));
-    let text =
-        r#"{"areas":[],"id":"00000001-0000-0000-0000-000000000000/2","length":131072,"ok":true,"start":0}"#;
+    let text = concat!(
+        r#"{"areas":[],"id":"00000001-0000-0000-0000-000000000000/2","length":131072,"#,
+        r#""ok":true,"start":0}"#,
+    );
     shows(&rt, rt.alloc(), &reply, text)
 }
 
@@ -252,8 +259,11 @@ fn a_fleet_may_be_empty(rt: HostRuntime) -> Result<(), Fail> {
 #[test]
 fn hosts_and_machines_are_listed(rt: HostRuntime) -> Result<(), Fail> {
     let reply = fleet(rt.alloc())?;
-    let text =
-        r#"{"hosts":[{"limit":20,"name":"h"}],"ok":true,"vms":[{"disks":[83886080,209715200],"host":"h","name":"a","number":1,"on":true,"tracking":false}]}"#;
+    let text = concat!(
+        r#"{"hosts":[{"limit":20,"name":"h"}],"ok":true,"#,
+        r#""vms":[{"disks":[83886080,209715200],"host":"h","name":"a","number":1,"on":true,"#,
+        r#""tracking":false}]}"#,
+    );
     shows(&rt, rt.alloc(), &reply, text)
 }
 
@@ -282,8 +292,11 @@ fn ran(alloc: Global) -> Result<Reply, Fail> {
 #[test]
 fn a_run_tells_guests_and_disturbances(rt: HostRuntime) -> Result<(), Fail> {
     let reply = ran(rt.alloc())?;
-    let text =
-        r#"{"disturbed":[true,"no-migration"],"guests":[{"accepted":1000,"stopped":"end","vm":"a"}],"migrations":[],"ok":true,"peaks":[0,4]}"#;
+    let text = concat!(
+        r#"{"disturbed":[true,"no-migration"],"#,
+        r#""guests":[{"accepted":1000,"stopped":"end","vm":"a"}],"#,
+        r#""migrations":[],"ok":true,"peaks":[0,4]}"#,
+    );
     shows(&rt, rt.alloc(), &reply, text)
 }
 
@@ -325,8 +338,12 @@ fn paused(alloc: Global) -> Result<MigLine, Fail> {
 fn a_run_tells_migrations(rt: HostRuntime) -> Result<(), Fail> {
     let migrations = vec![in rt.alloc(); paused(rt.alloc())?]?;
     let reply = ran_quietly(migrations, rt.alloc());
-    let text =
-        r#"{"disturbed":[],"guests":[],"migrations":[{"cause":null,"checkpoints":[["","snapshot-2"]],"dv":"Paused","marks":[4],"mig":1,"phase":"CopyingPaused","place":null,"plan":"p","state":"paused","vm":"a","writes":null,"written":[256]}],"ok":true,"peaks":[]}"#;
+    let text = concat!(
+        r#"{"disturbed":[],"guests":[],"migrations":[{"cause":null,"#,
+        r#""checkpoints":[["","snapshot-2"]],"dv":"Paused","marks":[4],"mig":1,"#,
+        r#""phase":"CopyingPaused","place":null,"plan":"p","state":"paused","vm":"a","#,
+        r#""writes":null,"written":[256]}],"ok":true,"peaks":[]}"#,
+    );
     shows(&rt, rt.alloc(), &reply, text)
 }
 
@@ -367,15 +384,22 @@ fn status(alloc: Global, line: MigLine) -> Result<Reply, Fail> {
 #[test]
 fn a_completed_migration_has_a_place_and_no_cause(rt: HostRuntime) -> Result<(), Fail> {
     let reply = status(rt.alloc(), completed(rt.alloc())?)?;
-    let text =
-        r#"{"migrations":[{"cause":null,"checkpoints":[["","snapshot-2"],["snapshot-2","snapshot-3"],["snapshot-3","snapshot-4"]],"dv":"Succeeded","marks":[4,7,11],"mig":1,"phase":"Completed","place":9,"plan":"p","state":"complete","vm":"a","writes":3,"written":[256,128,128]}],"ok":true}"#;
+    let text = concat!(
+        r#"{"migrations":[{"cause":null,"checkpoints":["#,
+        r#"["","snapshot-2"],["snapshot-2","snapshot-3"],["snapshot-3","snapshot-4"]],"#,
+        r#""dv":"Succeeded","marks":[4,7,11],"mig":1,"phase":"Completed","place":9,"plan":"p","#,
+        r#""state":"complete","vm":"a","writes":3,"written":[256,128,128]}],"ok":true}"#,
+    );
     shows(&rt, rt.alloc(), &reply, text)
 }
 
 #[test]
 fn a_failed_migration_has_a_cause_and_no_place(rt: HostRuntime) -> Result<(), Fail> {
     let reply = status(rt.alloc(), failed(rt.alloc())?)?;
-    let text =
-        r#"{"migrations":[{"cause":"volume","checkpoints":[["","snapshot-2"]],"dv":"Paused","marks":[4],"mig":1,"phase":"Failed","place":null,"plan":"p","state":"failed","vm":"a","writes":null,"written":[256]}],"ok":true}"#;
+    let text = concat!(
+        r#"{"migrations":[{"cause":"volume","checkpoints":[["","snapshot-2"]],"dv":"Paused","#,
+        r#""marks":[4],"mig":1,"phase":"Failed","place":null,"plan":"p","state":"failed","#,
+        r#""vm":"a","writes":null,"written":[256]}],"ok":true}"#,
+    );
     shows(&rt, rt.alloc(), &reply, text)
 }

@@ -4,7 +4,7 @@ use Rattle.std.specs.List.{list_any, range_with_len, All, AllByRecursion}
 use Rattle.std.specs.BTreeMap.{is_at}
 use Rattle.std.specs.Map.Iter.{deref_pair}
 use Rattle.std.proofs.Math.Bool.{or-false, and-false}
-use Rattle.std.proofs.lemmas.Bool.{cases_eq, eq-eqb, ne_eqb, false≢true}
+use Rattle.std.proofs.lemmas.Bool.{cases_eq, eq-eqb, ne_eqb, false≢true, or_right}
 use Rattle.std.proofs.lemmas.List.Folds.{list_any-append}
 use Rattle.std.proofs.lemmas.Map.Lookups.{exact_unsigned}
 use Rattle.std.proofs.lemmas.Map.Views.{tells_apart}
@@ -139,11 +139,7 @@ take_within c (suc n) (l ∷ layers) within = (within.0, take_within c n layers 
 in_itself : (blocks : List ℕ) (k d : ℕ) → k < length blocks → list_any (nat_eq (get_or blocks k d)) blocks ≡ true
 in_itself [] k d less = absurd (omega (arith, less))
 in_itself (b ∷ blocks) zero d less = ap (λ x. x || list_any (nat_eq b) blocks) (eq-eqb b b refl)
-in_itself (b ∷ blocks) (suc k) d less = ap (λ x. nat_eq (get_or blocks k d) b || x) (in_itself blocks k d (omega (arith, less))) ∙ or_true (nat_eq (get_or blocks k d) b)
-  where
-    or_true : (x : Bool) → (x || true) ≡ true
-    or_true true = refl
-    or_true false = refl
+in_itself (b ∷ blocks) (suc k) d less = ap (λ x. nat_eq (get_or blocks k d) b || x) (in_itself blocks k d (omega (arith, less))) ∙ or_right (nat_eq (get_or blocks k d) b) true refl
 
 pub begin_below : (c : ℕ) (layers : List LayerState) (blocks : List ℕ) → AllByRecursion (IsWithin c) layers → ((b : ℕ) → list_any (nat_eq b) blocks ≡ has_found layers b) → All (λ b. 128 * b < c) blocks
 begin_below c layers blocks within members = λ k d less. found_within c layers (get_or blocks k d) within (sym (members (get_or blocks k d)) ∙ in_itself blocks k d less)

@@ -3,7 +3,7 @@ use Rattle.std.proofs.Common.{◌≡◌, ℕ, zero, suc, ◌+◌, ◌<◌, ◌�
 use Rattle.std.specs.Option.{option_or}
 use Rattle.std.specs.List.{fold, list_any, range_with_len, filter, find, position_or_len, All, AllPairs}
 use Rattle.std.proofs.Math.Bool.{or-true}
-use Rattle.std.proofs.lemmas.Bool.{eq-eqb, cases_eq, ne_eqb, false≢true, false_from_ne_true}
+use Rattle.std.proofs.lemmas.Bool.{eq-eqb, cases_eq, ne_eqb, false≢true, false_from_ne_true, or_right}
 use Rattle.std.proofs.lemmas.List.{take-append-le, append-nil, map-append}
 use Rattle.std.proofs.lemmas.List.Kept.{AllPairs-filter}
 use Rattle.std.proofs.lemmas.List.Quantifiers.{all_pairs_push}
@@ -39,13 +39,9 @@ any_kept p q (id ∷ ids) is = by (q id) (filter q ids) (any_kept p q ids) is
     both true y z more is = refl
     both false y z more is = more is
 
-    late : (x y : Bool) → y ≡ true → (x || y) ≡ true
-    late true y is = refl
-    late false y is = is
-
     by : (kept : Bool) (rest : List ℕ) → (list_any p rest ≡ true → list_any p ids ≡ true) → list_any p (cond kept (id ∷ rest) rest) ≡ true → (p id || list_any p ids) ≡ true
     by true rest more is = both (p id) (list_any p rest) (list_any p ids) more is
-    by false rest more is = late (p id) (list_any p ids) (more is)
+    by false rest more is = or_right (p id) (list_any p ids) (more is)
 
 -- a snapshot that is live was frozen
 live_was_frozen : (s : ℕ) (live : List ℕ) (history : List DiskEvent) → list_any (λ id. id == s) (fold live_after live history) ≡ true
@@ -54,13 +50,9 @@ live_was_frozen s live [] is = inl is
 live_was_frozen s live (Written write ∷ history) is = live_was_frozen s live history is
 live_was_frozen s live (Frozen id ∷ history) is = elim (live_was_frozen s (live ++ id ∷ []) history is) [
   | inl was ↦ now (list_any (λ k. k == s) live) refl (sym (list_any-append (λ k. k == s) live (id ∷ [])) ∙ was)
-  | inr later ↦ inr (late (id == s) (list_any (λ k. k == s) (frozen_ids history)) later)
+  | inr later ↦ inr (or_right (id == s) (list_any (λ k. k == s) (frozen_ids history)) later)
 ]
   where
-    late : (x y : Bool) → y ≡ true → (x || y) ≡ true
-    late true y h = refl
-    late false y h = h
-
     here : (x y : Bool) → (x || false) ≡ true → (x || y) ≡ true
     here true y h = refl
     here false y h = absurd (false≢true h)

@@ -1,23 +1,19 @@
 -- What a chain keeps of its ids and layers when one comes or goes.
 use Rattle.std.proofs.Common.{◌≡◌, ℕ, zero, suc, ◌+◌, ◌<◌, ◌≤◌, List, [], ◌∷◌, ◌++◌, length, set, get_or, Bool, false, eqb, nat_eq, ◌||◌, Result, Ok, Err, None, ◌∙◌, arith, refl}
 use Rattle.std.specs.List.{list_any, remove, AllByRecursion}
-use Rattle.std.proofs.lemmas.Bool.{ne_eqb}
+use Rattle.std.proofs.lemmas.Bool.{ne_eqb, or_parts, or_from}
 use Rattle.std.proofs.lemmas.List.Folds.{list_any-append}
 use Rattle.std.specs.Result.{IsErrAnd}
 use Rattle.snapshot_chain.specs.declared.chain.ChainRefused.{ChainRefused}
 use Rattle.snapshot_chain.specs.declared.chain.ChainRefused.TheVariants.{NoMemory}
 use Rattle.snapshot_chain.specs.Chain.{ChainState, IsKeptAfter}
 use Rattle.snapshot_chain.specs.Kept.{AreIds}
-use Rattle.std.proofs.lemmas.Bool.{or_parts}
-
-either : (a b : Bool) → a ≡ false → b ≡ false → (a || b) ≡ false
-either a b ea eb = rw (ea, eb) refl
 
 pub ids-push : (free id : ℕ) (ids : List ℕ) → free ≤ id → AreIds free ids → AreIds (id + 1) (ids ++ id ∷ [])
 ids-push free id [] le are = (omega arith, refl, tt)
 ids-push free id (j ∷ ids) le are = (
   omega (arith, le, are.0),
-  list_any-append (nat_eq j) ids (id ∷ []) ∙ either (list_any (nat_eq j) ids) (eqb j id || false) are.1 (rw (ne_eqb j id (λ same. omega (arith, same, le, are.0))) refl),
+  list_any-append (nat_eq j) ids (id ∷ []) ∙ or_from (list_any (nat_eq j) ids) (eqb j id || false) are.1 (rw (ne_eqb j id (λ same. omega (arith, same, le, are.0))) refl),
   ids-push free id ids le are.2,
 )
 
@@ -25,7 +21,7 @@ remove-none : (p : ℕ → Bool) (ids : List ℕ) (i : ℕ) → list_any p ids �
 remove-none p [] zero none = refl
 remove-none p [] (suc i) none = refl
 remove-none p (j ∷ ids) zero none = (or_parts (p j) (list_any p ids) none).1
-remove-none p (j ∷ ids) (suc i) none = either (p j) (list_any p (remove ids i)) ((or_parts (p j) (list_any p ids) none).0) (remove-none p ids i ((or_parts (p j) (list_any p ids) none).1))
+remove-none p (j ∷ ids) (suc i) none = or_from (p j) (list_any p (remove ids i)) ((or_parts (p j) (list_any p ids) none).0) (remove-none p ids i ((or_parts (p j) (list_any p ids) none).1))
 
 pub ids-remove : (free : ℕ) (ids : List ℕ) (i : ℕ) → AreIds free ids → AreIds free (remove ids i)
 ids-remove free [] zero are = tt

@@ -9,7 +9,7 @@ use Rattle.std.proofs.Math.Pow.{pow_mono}
 use Rattle.std.proofs.lemmas.Nat.{ones_cat, one_shl, mod-pow-add, mod-mul-add, mod_below, and_mask, zero_from_ones, pow-add, div-add-mod'}
 use Rattle.std.proofs.lemmas.Nat.Bits.{bit_at_cat_low, bit_at_cat_high, bit_at_above, bit_at-lt, and_pow, bit_at-trailing_zeros}
 use Rattle.std.specs.Int.Bits.{or_shifted_r}
-use Rattle.std.proofs.lemmas.Bool.{cases_eq, cases_lt, eqb-true, eq-eqb, ne_eqb}
+use Rattle.std.proofs.lemmas.Bool.{cases_eq, cases_lt, eqb-true, eq-eqb, ne_eqb, or_right}
 use Rattle.basics.proofs.ItemAt.{slice_get-front, slice_get-last}
 use Rattle.sector_model.specs.declared.sector.Sector.{Sector}
 use Rattle.basics.specs.Bits.{has_bit}
@@ -117,12 +117,15 @@ rank_apart m j k less set =
     let cut : m % 2 ^ k % 2 ^ j ≡ m % 2 ^ j = ap (λ n. m % 2 ^ n % 2 ^ j) at ∙ nested m (k - j) j in
     omega (arith, rank_less (m % 2 ^ k) j low, ap count_ones cut)
 
-set_same : {X : Type 0} (xs : List X) (i : ℕ) (x : X) → i < length xs → slice_get (set xs i x) i ≡ Some x
+-- the item that was set, and the others
+pub set_same : {X : Type 0} (xs : List X) (i : ℕ) (x : X) → i < length xs
+    → slice_get (set xs i x) i ≡ Some x
 set_same [] i x less = absurd (omega (arith, less))
 set_same (y ∷ xs) zero x less = refl
 set_same (y ∷ xs) (suc i) x less = set_same xs i x (omega (arith, less))
 
-set_other : {X : Type 0} (xs : List X) (i j : ℕ) (x : X) → i ≢ j → slice_get (set xs i x) j ≡ slice_get xs j
+pub set_other : {X : Type 0} (xs : List X) (i j : ℕ) (x : X) → i ≢ j
+    → slice_get (set xs i x) j ≡ slice_get xs j
 set_other [] i j x apart = refl
 set_other (y ∷ xs) zero zero x apart = absurd (apart refl)
 set_other (y ∷ xs) zero (suc j) x apart = refl
@@ -191,12 +194,8 @@ any_at : (p : ℕ → Bool) (a n k : ℕ) → a ≤ k → k < a + n → p k ≡ 
 any_at p a zero k from less is = absurd (omega (arith, from, less))
 any_at p a (suc n) k from less is = elim (cases_eq k a) [
   | inl same ↦ rw (← same, is) refl
-  | inr other ↦ or_late (p a) (list_any p (range_with_len (a + 1) n)) (any_at p (a + 1) n k (omega (arith, from, other)) (omega (arith, less)) is)
+  | inr other ↦ or_right (p a) (list_any p (range_with_len (a + 1) n)) (any_at p (a + 1) n k (omega (arith, from, other)) (omega (arith, less)) is)
 ]
-  where
-    or_late : (x y : Bool) → y ≡ true → (x || y) ≡ true
-    or_late true y h = refl
-    or_late false y h = h
 
 none_at : (p : ℕ → Bool) (xs : List ℕ) → ((k : ℕ) → p k ≡ false) → list_any p xs ≡ false
 none_at p [] none = refl

@@ -2,7 +2,7 @@
 use Rattle.std.proofs.Common.{◌≡◌, ℕ, zero, suc, ◌+◌, ◌-◌, ◌*◌, ◌<◌, min, max, List, [], ◌∷◌, ◌++◌, length, Bool, true, false, Option, Some, None, is_some, sym, ap, refl, ◌∙◌, arith, ltb, leb, nat_eq, ◌||◌, ◌&&◌, inl, inr}
 use Rattle.std.specs.Option.{option_or}
 use Rattle.std.specs.List.{list_any, range_with_len, filter, slice_get}
-use Rattle.std.proofs.Math.Bool.{or-false}
+use Rattle.std.proofs.Math.Bool.{or-false, or_assoc, or_comm}
 use Rattle.std.proofs.lemmas.Bool.{eqb-true, cases_lt, lt-ltb, le-ltb, le-leb, lt-leb}
 use Rattle.std.proofs.lemmas.Bool.Decides.{nat_tests}
 use Rattle.std.proofs.lemmas.Option.{slice_get_past}
@@ -41,13 +41,13 @@ any_between low high base a (suc n) = ap (λ x. (leb low (base + a) && ltb (base
 
 pub any-or : (f g h : ℕ → Bool) (xs : List ℕ) → ((k : ℕ) → h k ≡ (f k || g k)) → list_any h xs ≡ (list_any f xs || list_any g xs)
 any-or f g h [] same = refl
-any-or f g h (x ∷ xs) same = rw (same x, any-or f g h xs same) (four (f x) (g x) (list_any f xs) (list_any g xs))
-  where
-    four : (a b c d : Bool) → ((a || b) || (c || d)) ≡ ((a || c) || (b || d))
-    four true b c d = refl
-    four false true true d = refl
-    four false true false d = refl
-    four false false c d = refl
+any-or f g h (x ∷ xs) same = rw (same x, any-or f g h xs same)
+    (or_assoc (f x) (g x) (list_any f xs || list_any g xs)
+    ∙ ap (λ (b : Bool). f x || b)
+    (sym (or_assoc (g x) (list_any f xs) (list_any g xs))
+    ∙ ap (λ (b : Bool). b || list_any g xs) (or_comm (g x) (list_any f xs))
+    ∙ or_assoc (list_any f xs) (g x) (list_any g xs))
+    ∙ sym (or_assoc (f x) (list_any f xs) (g x || list_any g xs)))
 
 pub either_found : (a b : Option Sector) → is_some (option_or a b) ≡ (is_some b || is_some a)
 either_found None b = sym (or-false (is_some b))

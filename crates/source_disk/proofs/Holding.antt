@@ -26,7 +26,7 @@ use Rattle.source_disk.specs.Told.{contents_told, allocated_told}
 use Rattle.source_disk.specs.Laws.{HoldsTheLog, NextIsFree}
 use Rattle.source_disk.proofs.Events.{present_told, live_told, frozen_told, areas_told}
 use Rattle.source_disk.proofs.Steps.{epoch_told}
-use Rattle.source_disk.proofs.Taking.{none_is}
+use Rattle.log_model.proofs.Options.{none_is}
 
 pub live_as : (d : SourceDiskState) (log : List Entry) (s : ℕ) → StandsFor d log → has_snapshot s d ≡ log_model.is_live s log
 live_as d log s stands = live_at d.chain (events_of (number_of d) log) s stands.chain ∙ live_told s (number_of d) log

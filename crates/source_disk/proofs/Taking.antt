@@ -1,7 +1,7 @@
 -- What a disk that stands for a log stands for after one entry more, and that room is no part of it.
 use Rattle.std.proofs.Common.{◌≡◌, ℕ, ◌≤◌, List, [], ◌∷◌, ◌++◌, length, Bool, true, false, ◌||◌, cond, eqb, Option, Some, None, is_some, Result, Ok, Err, OnOk, subst, sym, ap, refl, ◌∙◌, arith}
 use Rattle.std.specs.List.{cons_option}
-use Rattle.std.proofs.lemmas.Bool.{eq-eqb, false≢true}
+use Rattle.std.proofs.lemmas.Bool.{eq-eqb, false≢true, or_parts}
 use Rattle.std.proofs.lemmas.List.{append-nil}
 use Rattle.std.proofs.lemmas.List.Elements.{filter_map-append}
 use Rattle.sector_model.specs.declared.sector.Sector.{Sector}
@@ -9,6 +9,7 @@ use Rattle.log_model.specs.declared.entry.Owner.{Owner}
 use Rattle.log_model.specs.declared.entry.Act.{Act}
 use Rattle.log_model.specs.declared.entry.Act.TheVariants.{Write, Snap, Remove, Reset, Enable}
 use Rattle.log_model.specs.declared.entry.Entry.{Entry}
+use Rattle.log_model.proofs.Options.{none_is}
 use Rattle.snapshot_chain.specs.Chain.{ChainState}
 use Rattle.snapshot_chain.specs.History as chain
 use Rattle.snapshot_chain.proofs.Histories as chains
@@ -104,27 +105,16 @@ takes_reset old log who stands =
 
 -- ---- an act that is none for the disk
 
-pub none_is : {X : Type 0} (o : Option X) → is_some o ≡ false → o ≡ None
-none_is None is = refl
-none_is (Some x) is = absurd (false≢true (sym is))
-
-left_false : (a b : Bool) → (a || b) ≡ false → a ≡ false
-left_false true b is = is
-left_false false b is = refl
-
-right_false : (a b : Bool) → (a || b) ≡ false → b ≡ false
-right_false true b is = absurd (false≢true (sym is))
-right_false false b is = is
-
 pub others_pass : (d : SourceDiskState) (act : Act) → concerns (number_of d) act ≡ false → Takes act d d
 others_pass d act none log who stands =
     let e : Entry = record { who = who; act = act } in
     let event = chain_event (number_of d) act in
     let step = track_step (number_of d) act in
+    let neither = or_parts (is_some event) (is_some step) none in
     record {
       in_step = stands.in_step;
-      chain = chain_passes (number_of d) log e d.chain (none_is event (left_false (is_some event) (is_some step) none)) stands.chain;
-      tracker = tracker_passes (number_of d) log e d.tracker (none_is step (right_false (is_some event) (is_some step) none)) stands.tracker;
+      chain = chain_passes (number_of d) log e d.chain (none_is event neither.0) stands.chain;
+      tracker = tracker_passes (number_of d) log e d.tracker (none_is step neither.1) stands.tracker;
     }
 
 -- ---- room

@@ -1,7 +1,7 @@
 -- What a stage that begins leaves of a sound world.
 use Rattle.std.proofs.Common.{◌≡◌, ℕ, ◌+◌, ◌<◌, ◌≤◌, ◌==◌, ◌^◌, List, [], ◌∷◌, length, Bool, true, false, not, cond, ◌||◌, eqb, Option, Some, None, refl, sym, ap, subst, ◌∙◌, arith, ◌⊎◌, inl, inr, IsSome}
 use Rattle.std.specs.Option.{is_some, is_none, IsSomeAnd, IfSome}
-use Rattle.std.proofs.lemmas.Bool.{false_from_ne_true, false≢true, ne_eqb}
+use Rattle.std.proofs.lemmas.Bool.{false_from_ne_true, false≢true, ne_eqb, or_left}
 use Rattle.std.proofs.lemmas.Option.{same_Some, none-some}
 use Rattle.sector_model.specs.Run.{in_blocks}
 use Rattle.sector_model.specs.VolumeContents.{VolumeContents}
@@ -27,16 +27,12 @@ open-at : (b : Bool) (blocks : List ℕ) (s : ℕ) → in_blocks (cond b blocks 
 open-at true blocks s h = h
 open-at false blocks s h = absurd (false≢true h)
 
-or-left : (a b : Bool) → a ≡ true → (a || b) ≡ true
-or-left true b h = refl
-or-left false b h = absurd (false≢true h)
-
 open-grows : (c d : ℕ) (log : List Entry) (b : Base) (old new : Snapped) (s : ℕ) → is_unfinished (Some b) (Some new) ≡ true → b.mark ≤ old.mark → old.mark ≤ new.mark
     → in_blocks (open_blocks c d log b (Some old)) s ≡ true → in_blocks (open_blocks c d log b (Some new)) s ≡ true
 open-grows c d log b old new s unfinished low high inside =
     let early : in_blocks (touched c d b.mark old.mark log) s ≡ true = open-at (is_unfinished (Some b) (Some old)) (touched c d b.mark old.mark log) s inside in
     ap (λ x. in_blocks (cond x (touched c d b.mark new.mark log) []) s) unfinished ∙ touched_joins c d b.mark old.mark new.mark log s low high
-    ∙ or-left (in_blocks (touched c d b.mark old.mark log) s) (in_blocks (touched c d old.mark new.mark log) s) early
+    ∙ or_left (in_blocks (touched c d b.mark old.mark log) s) (in_blocks (touched c d old.mark new.mark log) s) early
 
 pub staged-grows : LaterSnapshotsStay
 staged-grows c d log None old new v unfinished after staged = tt

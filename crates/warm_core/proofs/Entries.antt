@@ -2,7 +2,7 @@
 use Rattle.std.proofs.Common.{◌≡◌, ℕ, ◌+◌, ◌<◌, ◌≤◌, ◌^◌, List, [], ◌∷◌, ◌++◌, length, take, Bool, true, false, cond, ◌||◌, eqb, Option, Some, None, refl, sym, ap, subst, ◌∙◌, arith, ◌⊎◌, inl, inr, IsSome, length-append}
 use Rattle.std.specs.List.{list_any, fold}
 use Rattle.std.specs.Option.{IsSomeAnd}
-use Rattle.std.proofs.lemmas.Bool.{false≢true}
+use Rattle.std.proofs.lemmas.Bool.{false≢true, or_parts}
 use Rattle.std.proofs.lemmas.Option.{same_Some, none-some}
 use Rattle.std.proofs.lemmas.List.Sums.{fold-append}
 use Rattle.change_id.specs.declared.ChangeId.{ChangeId}
@@ -89,20 +89,12 @@ still-owned s owner Enable none = refl
 still-owned s owner Off none = refl
 still-owned s owner On none = refl
 
-none-first : (a b : Bool) → (a || b) ≡ false → a ≡ false
-none-first true b h = absurd (false≢true (sym h))
-none-first false b h = refl
-
-none-rest : (a b : Bool) → (a || b) ≡ false → b ≡ false
-none-rest true b h = absurd (false≢true (sym h))
-none-rest false b h = h
-
 owned-on : (s : ℕ) (more : List Entry) (o : Option Owner) → IsSome o → list_any (λ e. removes s e.act) more ≡ false → IsSome (fold (owner_after s) o more)
 owned-on s [] o some none = some
 owned-on s (e ∷ more) None some none = absurd (false≢true some)
 owned-on s (e ∷ more) (Some owner) some none =
-    owned-on s more (owner_after s (Some owner) e) (still-owned s owner e.act (none-first (removes s e.act) (list_any (λ e. removes s e.act) more) none))
-    (none-rest (removes s e.act) (list_any (λ e. removes s e.act) more) none)
+    owned-on s more (owner_after s (Some owner) e) (still-owned s owner e.act (or_parts (removes s e.act) (list_any (λ e. removes s e.act) more) none).0)
+    (or_parts (removes s e.act) (list_any (λ e. removes s e.act) more) none).1
 
 live-later : (s : ℕ) (log more : List Entry) → IsLive s log → list_any (λ e. removes s e.act) more ≡ false → IsLive s (log ++ more)
 live-later s log more live none =

@@ -1,5 +1,6 @@
 use Rattle.std.proofs.Common.{◌≡◌, ℕ, ◌+◌, ◌==◌, Bool, true, false, ◌&&◌, not, List, [], ◌∷◌, ◌++◌, length, Result, refl, ap, subst, sym, ◌∙◌}
 use Rattle.std.specs.List.{list_any}
+use Rattle.std.proofs.lemmas.Bool.{and_parts, not-true}
 use Rattle.basics.specs.declared.refusal.NoMemory.{NoMemory}
 use Rattle.plan_model.specs.declared.plan.Plan.{Plan}
 use Rattle.plan_model.specs.Plans.{is_taken}
@@ -10,7 +11,7 @@ use Rattle.ctl_state.specs.MayStand.{is_new_plan, are_free, has_double}
 use Rattle.ctl_state.specs.Kept.{IsKept, AreNames}
 use Rattle.ctl_state.specs.Work.{HasNone, Joins, Leaves}
 use Rattle.ctl_state.proofs.KeptFacts.{kept_plan, kept_work, kept_names, taken_back, free_in_map}
-use Rattle.ctl_state.proofs.NextFacts.{and_parts, not_true, none_doubled, where_ok, where_err}
+use Rattle.ctl_state.proofs.NextFacts.{none_doubled, where_ok, where_err}
 use Rattle.ctl_state.proofs.state.CtlState.make_plan.Goals as goal
 
 pub add_plan-added-requires-clause-new : goal.add_plan-added-requires-clause-new
@@ -18,7 +19,7 @@ add_plan-added-requires-clause-new c =
     let N : CtlValue → Type 0 = λ v. is_new_plan v c.args.plan c.args.name.now ≡ true in
     let new = subst N (sym c.self.view_is)
     (sym c.is_new_plan.ensures ∙ c.if-not-is_new_plan.false) in
-    not_true (is_taken c.args.name.now c.self.inside.plans.items)
+    not-true (is_taken c.args.name.now c.self.inside.plans.items)
     (and_parts (c.args.plan == length c.self.inside.plans.items + 1) _ new).1
 
 pub invariant_of-self-2 : goal.invariant_of-self-2
@@ -35,7 +36,7 @@ invariant_of-self-2 c =
     let free = subst F (sym c.self.view_is) (subst G c.as_slice.ensures.numbers
     (sym c.are_free.ensures ∙ c.if-not-are_free.false)) in
     let none = free_in_map v kept.names kept.work vms c.self.invariant
-    (not_true (list_any (is_at_work v) vms) (and_parts (not (length vms == 0)) _ free).1) in
+    (not-true (list_any (is_at_work v) vms) (and_parts (not (length vms == 0)) _ free).1) in
     let J : List ℕ → Type 0 = λ ms. Joins kept.work c.put_to_work.new.work ms in
     let joins = subst J c.as_slice-2.ensures.numbers c.in_ok-put_to_work.ensures.put in
     let D : List ℕ → Type 0 = λ ms. has_double ms ≡ false in
@@ -75,7 +76,7 @@ invariant_of-self-then-is_err c =
     let free = subst F (sym c.self.view_is) (subst G c.as_slice.ensures.numbers
     (sym c.are_free.ensures ∙ c.if-not-are_free.false)) in
     let none = free_in_map v kept.names kept.work vms c.self.invariant
-    (not_true (list_any (is_at_work v) vms) (and_parts (not (length vms == 0)) _ free).1) in
+    (not-true (list_any (is_at_work v) vms) (and_parts (not (length vms == 0)) _ free).1) in
     let J : List ℕ → Type 0 = λ ms. Joins kept.work c.put_to_work.new.work ms in
     let joins = subst J c.as_slice-2.ensures.numbers c.in_ok-put_to_work.ensures.put in
     let L : List ℕ → Type 0 = λ ms. Leaves c.put_to_work.new.work c.take_from_work.new.work ms in

@@ -1,4 +1,5 @@
 use Rattle.std.proofs.Common.{◌≡◌, ℕ, true, List, [], ◌∷◌, ◌++◌, refl, ap, subst, sym, ◌∙◌}
+use Rattle.std.proofs.lemmas.Bool.{OnTrue_at}
 use Rattle.ctl_state.specs.declared.migration.Migration.{Migration}
 use Rattle.ctl_state.specs.declared.plans.PlanCourse.{PlanCourse}
 use Rattle.ctl_state.specs.Migration.{is_live}
@@ -8,13 +9,13 @@ use Rattle.ctl_state.specs.Value.{CtlValue, change_numbered}
 use Rattle.ctl_state.specs.MayStand.{may_start}
 use Rattle.ctl_state.specs.Kept.{IsKept, HasRoom}
 use Rattle.ctl_state.proofs.KeptFacts.{kept_start}
-use Rattle.ctl_state.proofs.NextFacts.{next_of_start, on_true}
+use Rattle.ctl_state.proofs.NextFacts.{next_of_start}
 use Rattle.ctl_state.proofs.state.CtlState.start_migration.Goals as goal
 
 pub start_one-requires-clause-started : goal.start_one-requires-clause-started
 start_one-requires-clause-started c =
     let P : CtlValue → Type 0 = λ v. HasRoom v.courses c.args.plan in
-    subst P (sym c.self.view_is) (on_true c.may_start.result (P c.args.self.now)
+    subst P (sym c.self.view_is) (OnTrue_at {b = c.may_start.result} {P = P c.args.self.now}
     c.if-not-may_start.false c.may_start.ensures.room)
 
 pub start_one-requires-clause-live : goal.start_one-requires-clause-live
