@@ -1,9 +1,11 @@
 -- What the program makes of its words, its source and its sink, and the exit status that it ends
--- with. What begins is fixed: a store without a volume, none of whose calls fails.
+-- with. What begins is fixed: a fleet without a host, and a store without a volume, none of whose
+-- calls fails.
 use Rattle.std.specs.Prelude.{◌≡◌, ◌⊎◌, ◌↔◌, ◌<◌, ℕ, [], true, Some}
 use Rattle.edge_traits.specs.Source.{SourceState}
 use Rattle.edge_traits.specs.Sink.{SinkState}
 use Rattle.edge_traits.specs.Disk.{DiskState, settled}
+use Rattle.fleet.specs.Fleet.{FleetState, empty_fleet}
 use Rattle.target_volume.specs.VolumeStore.{StoreState}
 use Rattle.migrate_server.specs.World.{world_of}
 use Rattle.migrate_server.specs.Serves.{Serves}
@@ -25,15 +27,16 @@ pub record Ends (words : ℕ) (source source_after : SourceState) (sink sink_aft
     (code : ℕ) : Type 0 where
   pub status : Status
   pub exits : code ≡ status_code status
-  -- what it left of the store
+  -- what it left of the store and of the fleet
   pub store : StoreState
+  pub fleet : FleetState
   pub usage : (status ≡ Usage) ↔ (0 < words)
   pub told : 0 < words → TellsUsage sink sink_after
   pub unread : 0 < words → source_after ≡ source
-  pub served : words ≡ 0 → Serves (world_of source sink unused_disk empty_store)
-      (world_of source_after sink_after unused_disk store) status
-  pub ends : words ≡ 0 → EndsFor (world_of source sink unused_disk empty_store)
-      (world_of source_after sink_after unused_disk store) status
+  pub served : words ≡ 0 → Serves (world_of source sink unused_disk empty_store empty_fleet)
+      (world_of source_after sink_after unused_disk store fleet) status
+  pub ends : words ≡ 0 → EndsFor (world_of source sink unused_disk empty_store empty_fleet)
+      (world_of source_after sink_after unused_disk store fleet) status
 
 -- there was no memory for the store or the disk
 pub record NeverBegins (source source_after : SourceState) (sink sink_after : SinkState)

@@ -15,8 +15,8 @@ struct ReturnAtOnce;
 
 impl Gate for ReturnAtOnce {}
 
-/// Serves the commands of a source over an empty store in memory, writes the replies to a sink, and
-/// gives the exit status of the program.
+/// Serves the commands of a source over an empty fleet and an empty store in memory, writes the
+/// replies to a sink, and gives the exit status of the program.
 pub(crate) fn run<H, S: Source, K: Sink>(
     rt: &H,
     alloc: Global,
@@ -30,7 +30,7 @@ pub(crate) fn run<H, S: Source, K: Sink>(
     let Ok(devices) = fresh_devices(alloc) else {
         return Status::NoMemory.code();
     };
-    let fleet = Fleet::empty();
+    let fleet = Fleet::empty(alloc);
     let outcome = migrate(
         rt,
         alloc,

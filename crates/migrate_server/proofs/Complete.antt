@@ -1,6 +1,7 @@
 -- A volume that was complete once is so at the end, and over a sound store no command is refused as `volume`.
-use Rattle.std.proofs.Common.{◌≡◌, ◌≢◌, ℕ, Bool, true, false, nat_le, length, List, [], ◌∷◌, Option, Some, None, Result, Ok, Err, option_map, if◌then◌else◌, inl, inr, refl, sym, ap, subst, ◌∙◌, arith}
-use Rattle.std.specs.Prelude.{MatchOption, IfSome, IsSome, IsSomeAnd, IsTrue, All, is_some}
+use Rattle.std.proofs.Common.{◌≡◌, ◌≢◌, ℕ, ◌/◌, Bool, true, false, nat_le, length, List, [], ◌∷◌, Option, Some, None, Result, Ok, Err, option_map, if◌then◌else◌, inl, inr, refl, sym, ap, subst, ◌∙◌, arith}
+use Rattle.std.specs.Prelude.{MatchOption, IfSome, IsSome, IsSomeAnd, IsTrue, All, is_some, option_and_then}
+use Rattle.std.specs.Option.{option_map_or}
 use Rattle.std.proofs.lemmas.Bool.{false≢true, true≢false}
 use Rattle.std.proofs.lemmas.List.Elements.{All-cons}
 use Rattle.target_volume.specs.VolumeName.{find_volume, with_volume}
@@ -17,17 +18,35 @@ use Rattle.cmd_json.specs.declared.refusal.CmdRefused.{CmdRefused}
 use Rattle.cmd_json.specs.declared.refusal.CmdRefused.TheVariants.{Json, Command as CmdCommand, Field, Number, NoMemory}
 use Rattle.reply_json.specs.declared.reply.Reply.{Reply}
 use Rattle.migrate_server.specs.declared.line.TheConstants.{LINE_LIMIT}
-use Rattle.migrate_server.specs.declared.refusal.Refusal.{Refusal}
-use Rattle.migrate_server.specs.declared.refusal.Refusal.TheVariants as refusal
-use Rattle.migrate_server.specs.declared.refusal.Refusal.TheVariants.{Range, LogFull, NameTaken, Volume}
-use Rattle.migrate_server.specs.Answer.{Answer}
+use Rattle.change_id.specs.declared.IdRefused.{IdRefused}
+use Rattle.change_id.specs.declared.Since.{Since}
+use Rattle.log_model.specs.Refusals.{snap_refusal, write_refusal as refusal_of_write, query_refusal as refusal_of_query}
+use Rattle.log_model.specs.declared.refusals.LinkRefused.{LinkRefused}
+use Rattle.log_model.specs.declared.refusals.LinkRefused.TheVariants as link
+use Rattle.log_model.specs.declared.refusals.WriteRefused.{WriteRefused}
+use Rattle.log_model.specs.declared.refusals.WriteRefused.TheVariants as write
+use Rattle.sector_model.specs.declared.sector.TheConstants.{SECTOR_BYTES}
+use Rattle.source_vm.specs.Machine.{MachineState}
+use Rattle.fleet.specs.Fleet.{FleetState}
+use Rattle.fleet.specs.Refusals.{add_host_refusal, add_vm_refusal}
+use Rattle.fleet.specs.declared.refusals.FleetRefused.{FleetRefused}
+use Rattle.fleet.specs.declared.refusals.FleetRefused.TheVariants as refused
+use Rattle.fleet_commands.specs.Machines.{machine_named}
+use Rattle.fleet_commands.specs.Refusal.{fleet_told, link_told, write_told}
+use Rattle.fleet_commands.specs.commands.Deed.{refusal_by, deed_refusal}
+use Rattle.fleet_commands.specs.commands.Query.{since_refusal}
+use Rattle.fleet_commands.specs.commands.Read.{refusal_at as refusal_at_read}
+use Rattle.fleet_commands.specs.declared.deed.Deed.{Deed}
+use Rattle.fleet_commands.specs.declared.deed.Deed.TheVariants as deed
+use Rattle.fleet_commands.specs.declared.refusal.Refusal.{Refusal}
+use Rattle.fleet_commands.specs.declared.refusal.Refusal.TheVariants as refusal
+use Rattle.fleet_commands.specs.declared.refusal.Refusal.TheVariants.{Range, LogFull, NameTaken, UnknownVm, Volume}
+use Rattle.fleet_commands.specs.Answer.{Answer}
 use Rattle.migrate_server.specs.Line.{AsksFor, Means, refusal_told, refused_by, line_refusal}
 use Rattle.migrate_server.specs.commands.Moves.{MoveRefusal, move_refusal, name_refusal, moved_volume}
 use Rattle.migrate_server.specs.NewVolume.{IsFree, FailsInCopy, with_new_volume}
-use Rattle.migrate_server.specs.Session.{State, HasRefusal, StoreRefusal, refusal_of, state_after, Fails, Answers, LineAnswers, Session, Stands, IsComplete, AllComplete}
-
-abbrev Volumes : Type 0
-Volumes = List (VolumeName × StoredVolume)
+use Rattle.migrate_server.proofs.NewVolumes.{Volumes}
+use Rattle.migrate_server.specs.Session.{State, power_deed, HasRefusal, LateRefusal, refusal_of, state_after, Fails, Answers, LineAnswers, Session, Stands, IsComplete, AllComplete}
 
 -- a store tells still, and has still each volume that it had
 record Keeps (old new : Option Volumes) : Type 0 where
@@ -107,7 +126,7 @@ after_keeps (Digest volume) old h = keeps_same old.store.volumes
 after_keeps Restart old h = keeps_same old.store.volumes
 
 failed_keep : (command : Command) (old new : State) → Fails command old new → Keeps old.store.volumes new.store.volumes
-failed_keep (Move name sectors writes) old new h = fails_keep (Given name) sectors old.store new.store h
+failed_keep (Move name sectors writes) old new h = fails_keep (Given name) sectors old.store new.store h.1
 failed_keep _ old new h = absurd h
 
 answers_keep : (command : Command) (answer : Answer) (old new : State) → Answers command answer old new → Keeps old.store.volumes new.store.volumes
@@ -185,20 +204,75 @@ record Sound (answer : Answer) (old new : State) : Type 0 where
 same_sound : (answer : Answer) (old new : State) → IsTrue old.store.sound → new ≡ old → answer ≢ Err Volume → Sound answer old new
 same_sound answer old new sound same other = record { still = ap (λ (s : State). s.store.sound) same ∙ sound; steady = ap (λ (s : State). s.store.faults) same; no_volume = other }
 
--- what a command asks for isn't refused as `volume`
+-- what a fleet, a machine, a write or a move refuses isn't told as `volume`
+fleet_why : (why : FleetRefused) → fleet_told why ≢ Some Volume
+fleet_why refused.NameTaken = λ same. cc
+fleet_why _ = λ same. cc
+
+link_why : (why : LinkRefused) → link_told why ≢ Some Volume
+link_why link.UnknownSnap = λ same. cc
+link_why _ = λ same. cc
+
+write_why : (why : WriteRefused) → write_told why ≢ Some Volume
+write_why write.Off = λ same. cc
+write_why _ = λ same. cc
+
+told_by : {X : Type 0} (o : Option X) (told : X → Option Refusal)
+    → ((x : X) → told x ≢ Some Volume) → option_and_then told o ≢ Some Volume
+told_by None told never = λ same. cc
+told_by (Some x) told never = never x
+
+machine_why : (found : Option MachineState) (by : MachineState → Option Refusal)
+    → ((m : MachineState) → by m ≢ Some Volume)
+    → option_map_or by found (Some UnknownVm) ≢ Some Volume
+machine_why None by never = λ same. cc
+machine_why (Some m) by never = never m
+
 move_why : (a b : Bool) → (if a then if b then None else Some LogFull else Some Range) ≢ Some Volume
 move_why true true = λ same. cc
 move_why true false = λ same. cc
 move_why false b = λ same. cc
 
+deed_why : (vm : List ℕ) (asked : Deed) (fleet : FleetState) → deed_refusal vm asked fleet ≢ Some Volume
+deed_why vm asked fleet = machine_why (machine_named vm fleet)
+    (λ m. option_and_then link_told (refusal_by asked m.capacities m.log))
+    (λ m. told_by (refusal_by asked m.capacities m.log) link_told link_why)
+
+-- what a command asks for isn't refused as `volume`
 asked_why : (command : Command) (s : State) → refusal_of command s ≢ Some Volume
 asked_why (Move name sectors writes) s = move_why _ _
+asked_why (Host name limit) s = told_by (add_host_refusal name s.fleet) fleet_told fleet_why
+asked_why (Vm name host disks) s = told_by (add_vm_refusal name host disks s.fleet) fleet_told fleet_why
+asked_why (Enable vm) s = deed_why vm deed.Enable s.fleet
+asked_why (Write vm disk first count fill) s = machine_why (machine_named vm s.fleet)
+    (λ m. option_and_then write_told (refusal_of_write m.capacities disk first count m.log))
+    (λ m. told_by (refusal_of_write m.capacities disk first count m.log) write_told write_why)
+asked_why (Snapshot vm) s = machine_why (machine_named vm s.fleet)
+    (λ m. option_and_then link_told (snap_refusal false m.log))
+    (λ m. told_by (snap_refusal false m.log) link_told link_why)
+asked_why (Remove vm snapshot) s = deed_why vm (deed.Remove snapshot) s.fleet
+asked_why (Query vm snapshot disk since start) s =
+    machine_why (machine_named vm s.fleet) (λ m. None) (λ m. λ same. cc)
+asked_why (Read vm disk first count snapshot) s = machine_why (machine_named vm s.fleet)
+    (λ m. option_and_then link_told (refusal_at_read snapshot disk first count m))
+    (λ m. told_by (refusal_at_read snapshot disk first count m) link_told link_why)
+asked_why (Power vm on) s = deed_why vm (power_deed on) s.fleet
+asked_why (Reset vm disk) s = deed_why vm (deed.Reset disk) s.fleet
 asked_why _ s = λ same. cc
 
--- nor is a name that is taken
-store_why : (command : Command) (s : State) → StoreRefusal command (Some Volume) s → ⊥
-store_why (Move name sectors writes) s h = elim h.0 [ inl none ↦ cc | inr taken ↦ cc ]
-store_why _ s h = let e = h in cc
+since_why : (snapshot disk : ℕ) (asked : Result Since IdRefused) (start : ℕ) (m : MachineState)
+    → since_refusal snapshot disk asked start m ≢ Some Volume
+since_why snapshot disk (Ok since) start m =
+    told_by (refusal_of_query m.number m.capacities snapshot disk since start m.log) link_told link_why
+since_why snapshot disk (Err why) start m = λ same. cc
+
+-- nor is a name that is taken, or what the text of an identifier asks for
+late_why : (command : Command) (s : State) → LateRefusal command (Some Volume) s → ⊥
+late_why (Move name sectors writes) s h = elim h.0 [ inl none ↦ cc | inr taken ↦ cc ]
+late_why (Query vm snapshot disk since start) s h =
+    machine_why (machine_named vm s.fleet) (since_refusal snapshot disk h.0 (start / SECTOR_BYTES))
+    (since_why snapshot disk h.0 (start / SECTOR_BYTES)) (sym h.2)
+late_why _ s h = let e = h in cc
 
 not_volume_at : (refusal : Option Refusal) (P : Type 0) → refusal ≢ Some Volume → (P → ⊥) → MatchOption refusal P (λ why. Some Volume ≡ Some why) → ⊥
 not_volume_at None P other none h = none h
@@ -206,7 +280,7 @@ not_volume_at (Some why) P other none h = other (sym h)
 
 not_volume : (command : Command) (why : Refusal) (s : State) → HasRefusal command (Some why) s → why ≢ Volume
 not_volume command why s h = λ same.
-    not_volume_at (refusal_of command s) (StoreRefusal command (Some Volume) s) (asked_why command s) (store_why command s)
+    not_volume_at (refusal_of command s) (LateRefusal command (Some Volume) s) (asked_why command s) (late_why command s)
     (subst (λ (w : Refusal). HasRefusal command (Some w) s) same h)
 
 after_sound : (command : Command) (old : State) → ((state_after command old).store.sound ≡ old.store.sound) × ((state_after command old).store.faults ≡ old.store.faults)
@@ -214,7 +288,7 @@ after_sound (Move name sectors writes) old = (refl, refl)
 after_sound _ old = (refl, refl)
 
 fails_unsound : (command : Command) (old new : State) → Fails command old new → old.store.sound ≡ false
-fails_unsound (Move name sectors writes) old new h = h.unsound
+fails_unsound (Move name sectors writes) old new h = h.1.unsound
 fails_unsound _ old new h = absurd h
 
 answers_sound : (command : Command) (answer : Answer) (old new : State) → IsTrue old.store.sound → Answers command answer old new → Sound answer old new

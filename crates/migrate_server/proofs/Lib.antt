@@ -1,7 +1,11 @@
-pub mod Lists
 pub mod DiskLemmas
 pub mod PartLines
 pub mod Copying
 pub mod NewVolumes
+pub mod Moving
 pub mod Complete
+pub mod Meanings
+pub mod Answered
+pub mod LogsAfter
+pub mod Agreeing
 pub mod Serving

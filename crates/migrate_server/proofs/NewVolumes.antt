@@ -17,7 +17,7 @@ use Rattle.migrate_server.specs.Copy.{after_copy, copied_contents, CopyFails}
 use Rattle.migrate_server.specs.NewVolume.{IsFree, FailsInCopy, with_new_volume, copied_volume}
 use Rattle.target_volume.proofs.StoreLemmas.{and_implied}
 
-abbrev Volumes : Type 0
+abbrev pub Volumes : Type 0
 Volumes = List (VolumeName × StoredVolume)
 
 -- ---- what is lent out

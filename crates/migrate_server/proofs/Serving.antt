@@ -11,6 +11,7 @@ use Rattle.std.proofs.lemmas.List.Sums.{sum_by-append, sum_by-cons}
 use Rattle.std.proofs.lemmas.Grind.{flat_map-append}
 use Rattle.basics.specs.Faults.{Rose, HasRisen}
 use Rattle.edge_traits.specs.Source.{SourceState}
+use Rattle.fleet.specs.Sound.{AllAreIn}
 use Rattle.edge_traits.specs.Sink.{SinkState, AppendsPrefix}
 use Rattle.migrate_server.specs.declared.line_buffer.LineBuffer.{LineBuffer}
 use Rattle.cmd_json.specs.Line.{command_of}
@@ -22,8 +23,8 @@ use Rattle.migrate_server.specs.declared.line.Line.TheVariants.{Blank, Asks, Ref
 use Rattle.migrate_server.specs.declared.reader.TheConstants.{INPUT_LIMIT}
 use Rattle.migrate_server.specs.declared.reader.NoLine.{NoLine}
 use Rattle.migrate_server.specs.declared.reader.NoLine.TheVariants.{Fault as LineFault, Limit, NoMemory as NoLineMemory}
-use Rattle.migrate_server.specs.declared.refusal.Refusal.{Refusal}
-use Rattle.migrate_server.specs.declared.refusal.Refusal.TheVariants.{Long}
+use Rattle.fleet_commands.specs.declared.refusal.Refusal.{Refusal}
+use Rattle.fleet_commands.specs.declared.refusal.Refusal.TheVariants.{Long}
 use Rattle.migrate_server.specs.declared.serve.NoReply.{NoReply}
 use Rattle.migrate_server.specs.declared.serve.NoReply.TheVariants.{Fault, NoMemory as NoReplyMemory}
 use Rattle.migrate_server.specs.declared.status.Status.{Status}
@@ -31,7 +32,7 @@ use Rattle.migrate_server.specs.declared.serve.Stop.{Stop}
 use Rattle.migrate_server.specs.declared.serve.Stop.TheVariants.{WriteFault, NoMemory}
 use Rattle.migrate_server.specs.EndsFor.{EndsFor, TellsUsage, usage_line}
 use Rattle.migrate_server.specs.declared.line.TheConstants.{LINE_LIMIT}
-use Rattle.migrate_server.specs.Answer.{Answer, answer_line, reply_for}
+use Rattle.fleet_commands.specs.Answer.{Answer, answer_line, reply_for}
 use Rattle.migrate_server.specs.Line.{AsksToQuit, Means, line_refusal, refused_by, quits, is_space, is_blank, is_lf, lines_of, ended_lines, before_first_line, requests_among}
 use Rattle.migrate_server.specs.LineBuffer.{Holds}
 use Rattle.migrate_server.specs.Reader.{ReaderState, HasNoLf, IsIdle, TakesLine, TakesEnd, HasNoLine, budget}
@@ -40,6 +41,8 @@ use Rattle.migrate_server.specs.Serves.{Serves, NoneQuits, QuitsLast, EndsByQuit
 use Rattle.migrate_server.specs.Session.{State, state_of, Session, Step}
 use Rattle.migrate_server.specs.World.{World}
 use Rattle.migrate_server.proofs.Complete.{session_complete, session_sound, no_volume}
+use Rattle.migrate_server.proofs.LogsAfter.{session_log, session_in}
+use Rattle.migrate_server.proofs.Meanings.{means_one}
 
 -- ---- one line
 
@@ -71,27 +74,13 @@ short_line buffer text what short means (inr long) = let h = long.0 in cc
 
 -- ---- a line that asks to quit
 
-none_refused : (fits : Bool) (read : Result Command CmdRefused) (command : Command) (why : Refusal) → fits ≡ true → read ≡ Ok command → (if fits then refused_by read else Some Long) ≡ Some why → ⊥
-none_refused true (Ok c) command why fits read is = cc
-none_refused true (Err e) command why fits read is = cc
-none_refused false read command why fits is told = cc
-
-ok_same : (c d : Command) → ◌≡◌ {A = Result Command CmdRefused} (Ok c) (Ok d) → c ≡ d
-ok_same c d same = cc
-
--- a line means one thing
-means_quit : (line : List ℕ) (what : Line) → Means line what → AsksToQuit line → what ≡ Asks Quit
-means_quit line Blank means asks = absurd (true≢false (sym means ∙ asks.some))
-means_quit line (Asks command) means asks = let same : command ≡ Quit = ok_same command Quit (sym means.reads ∙ asks.reads) in ap Asks same
-means_quit line (Refuses why) means asks = absurd (none_refused (nat_le (length line) LINE_LIMIT) (command_of line) Quit why (le-leb (length line) LINE_LIMIT asks.fits) asks.reads means.1)
-
 quits_line : (line : List ℕ) (what : Line) → quits what ≡ true → Means line what → AsksToQuit line
 quits_line line (Asks Quit) is means = means
 quits_line line _ is means = cc
 
 pub tells_quit : (line : List ℕ) (what : Line) (told : Bool) → told ≡ quits what → Means line what → TellsQuit told line
 tells_quit line what true is means = quits_line line what (sym is) means
-tells_quit line what false is means = λ asks. false≢true (is ∙ ap quits (means_quit line what means asks))
+tells_quit line what false is means = λ asks. false≢true (is ∙ ap quits (means_one line what (Asks Quit) means asks))
 
 -- ---- one line's answer
 
@@ -402,7 +391,7 @@ pub record Ended (old new : World) (status : Result (Unit {0}) Stop) : Type 0 wh
 
 -- the world with its source after more was read
 abbrev pub read_on : World → SourceState → World
-read_on now source = record { source = source; sink = now.sink; disk = now.disk; store = now.store }
+read_on now source = record now { source = source }
 
 -- no reader could be made
 pub ended_at_once : (old : World) → Ended old old (Err NoMemory)
@@ -419,6 +408,8 @@ ended_at_once old = record {
     replies = [];
     session = refl;
     complete = λ tells. tt;
+    only_writes = λ name. refl;
+    all_in = λ are. are;
     no_volume = λ sound. λ k d within. absurd (omega arith);
     written = [];
     unwritten = [];
@@ -452,6 +443,8 @@ ended_whole_input old now source reader reader_after p t =
         replies = p.replies;
         session = p.session;
         complete = session_complete (state_of old) (state_of now) (requests_among p.lines) p.replies p.session;
+        only_writes = session_log (state_of old) (state_of now) (requests_among p.lines) p.replies p.session;
+        all_in = session_in (state_of old) (state_of now) (requests_among p.lines) p.replies p.session;
         no_volume = λ sound. no_volume (state_of old) (state_of now) (requests_among p.lines) p.replies p.session sound;
         written = text_of p.replies;
         unwritten = [];
@@ -488,6 +481,8 @@ ended_by_quit old now after reader reader_after buffer p t serves asks =
         replies = replied.replies;
         session = replied.session;
         complete = session_complete (state_of old) (state_of after) (requests_among lines) replied.replies replied.session;
+        only_writes = session_log (state_of old) (state_of after) (requests_among lines) replied.replies replied.session;
+        all_in = session_in (state_of old) (state_of after) (requests_among lines) replied.replies replied.session;
         no_volume = λ sound. no_volume (state_of old) (state_of after) (requests_among lines) replied.replies replied.session sound;
         written = text_of replied.replies;
         unwritten = [];
@@ -534,6 +529,8 @@ ended_without_line old now source reader reader_after LineFault p f =
         replies = p.replies;
         session = p.session;
         complete = session_complete (state_of old) (state_of now) (requests_among p.lines) p.replies p.session;
+        only_writes = session_log (state_of old) (state_of now) (requests_among p.lines) p.replies p.session;
+        all_in = session_in (state_of old) (state_of now) (requests_among p.lines) p.replies p.session;
         no_volume = λ sound. no_volume (state_of old) (state_of now) (requests_among p.lines) p.replies p.session sound;
         written = text_of p.replies;
         unwritten = [];
@@ -568,6 +565,8 @@ ended_without_line old now source reader reader_after Limit p f =
         replies = p.replies;
         session = p.session;
         complete = session_complete (state_of old) (state_of now) (requests_among p.lines) p.replies p.session;
+        only_writes = session_log (state_of old) (state_of now) (requests_among p.lines) p.replies p.session;
+        all_in = session_in (state_of old) (state_of now) (requests_among p.lines) p.replies p.session;
         no_volume = λ sound. no_volume (state_of old) (state_of now) (requests_among p.lines) p.replies p.session sound;
         written = text_of p.replies;
         unwritten = [];
@@ -599,6 +598,8 @@ ended_without_line old now source reader reader_after NoLineMemory p f =
         replies = p.replies;
         session = p.session;
         complete = session_complete (state_of old) (state_of now) (requests_among p.lines) p.replies p.session;
+        only_writes = session_log (state_of old) (state_of now) (requests_among p.lines) p.replies p.session;
+        all_in = session_in (state_of old) (state_of now) (requests_among p.lines) p.replies p.session;
         no_volume = λ sound. no_volume (state_of old) (state_of now) (requests_among p.lines) p.replies p.session sound;
         written = text_of p.replies;
         unwritten = [];
@@ -641,6 +642,8 @@ ended_at_fault old now after reader reader_after buffer p t f =
         replies = p.replies ++ f.reply ∷ [];
         session = session;
         complete = session_complete (state_of old) (state_of after) (requests_among (p.lines ++ t.text ∷ [])) (p.replies ++ f.reply ∷ []) session;
+        only_writes = session_log (state_of old) (state_of after) (requests_among (p.lines ++ t.text ∷ [])) (p.replies ++ f.reply ∷ []) session;
+        all_in = session_in (state_of old) (state_of after) (requests_among (p.lines ++ t.text ∷ [])) (p.replies ++ f.reply ∷ []) session;
         no_volume = λ sound. no_volume (state_of old) (state_of after) (requests_among (p.lines ++ t.text ∷ [])) (p.replies ++ f.reply ∷ []) session sound;
         written = text_of p.replies ++ take place (answer_line f.reply);
         unwritten = drop place (answer_line f.reply);
@@ -673,6 +676,8 @@ ended_before_reply old now after reader reader_after buffer p t sink (inl stays)
         replies = p.replies;
         session = session;
         complete = session_complete (state_of old) (state_of after) (requests_among p.lines) p.replies session;
+        only_writes = session_log (state_of old) (state_of after) (requests_among p.lines) p.replies session;
+        all_in = session_in (state_of old) (state_of after) (requests_among p.lines) p.replies session;
         no_volume = λ sound. no_volume (state_of old) (state_of after) (requests_among p.lines) p.replies session sound;
         written = text_of p.replies;
         unwritten = [];
@@ -701,6 +706,8 @@ ended_before_reply old now after reader reader_after buffer p t sink (inr r) =
         replies = p.replies ++ reply ∷ [];
         session = session;
         complete = session_complete (state_of old) (state_of after) (requests_among (p.lines ++ t.text ∷ [])) (p.replies ++ reply ∷ []) session;
+        only_writes = session_log (state_of old) (state_of after) (requests_among (p.lines ++ t.text ∷ [])) (p.replies ++ reply ∷ []) session;
+        all_in = session_in (state_of old) (state_of after) (requests_among (p.lines ++ t.text ∷ [])) (p.replies ++ reply ∷ []) session;
         no_volume = λ sound. no_volume (state_of old) (state_of after) (requests_among (p.lines ++ t.text ∷ [])) (p.replies ++ reply ∷ []) session sound;
         written = text_of p.replies;
         unwritten = answer_line reply;
@@ -732,6 +739,10 @@ pub tells_usage : {E : Type 0} (result : Result (Unit {0}) E) (old new : SinkSta
     → OnOk result (Appends old.held new.held bytes) → OnErr result (AppendsPrefix old.held new.held bytes) → OnOk result (new.faults ≡ old.faults) → old.faults ≤ new.faults → OnErr result (Rose old.faults new.faults) → TellsUsage old new
 tells_usage (Ok v) old new bytes same whole part steady later rose = inl (subst (Appends old.held new.held) same whole, steady)
 tells_usage (Err e) old new bytes same whole part steady later rose = inr (subst (AppendsPrefix old.held new.held) same part, (later, rose))
+
+-- where all machines were in before the lines that were served, they are now
+pub all_in_now : (old now : World) (reader : ReaderState) → Progress old now reader → AllAreIn old.fleet → AllAreIn now.fleet
+all_in_now old now reader p are = session_in (state_of old) (state_of now) (requests_among p.lines) p.replies p.session are
 
 -- ---- a sound store
 

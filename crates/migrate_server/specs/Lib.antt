@@ -1,6 +1,4 @@
 pub mod World
-pub mod Refusal
-pub mod Answer
 pub mod Line
 pub mod LineBuffer
 pub mod Reader
@@ -9,6 +7,8 @@ pub mod Copy
 pub mod NewVolume
 pub mod commands
 pub mod Session
+pub mod Sources
+pub mod Laws
 pub mod Serve
 pub mod Status
 pub mod Serves

@@ -4,12 +4,15 @@
 use Rattle.std.specs.Prelude.{◌≡◌, ◌≢◌, ◌⊎◌, ℕ, ◌+◌, ◌<◌, ◌≤◌, All, List, [], ◌∷◌, ◌++◌, ◌-◌, length, take, drop, Option, Err, IfSome, IsSome, IsTrue}
 use Rattle.std.specs.List.{flat_map}
 use Rattle.std.specs.Io.KnownBytes.{Appends, Consumes, IsAtEnd}
-use Rattle.migrate_server.specs.Answer.{Answer, answer_line}
+use Rattle.fleet.specs.Sound.{AllAreIn}
+use Rattle.fleet_commands.specs.Answer.{Answer, answer_line}
+use Rattle.fleet_commands.specs.Logs.{log_named}
+use Rattle.migrate_server.specs.Sources.{log_after}
 use Rattle.migrate_server.specs.Line.{lines_of, ended_lines, requests_among, AsksToQuit}
 use Rattle.migrate_server.specs.Session.{state_of, Session, AllComplete}
 use Rattle.migrate_server.specs.World.{World}
 use Rattle.migrate_server.specs.declared.reader.TheConstants.{INPUT_LIMIT}
-use Rattle.migrate_server.specs.declared.refusal.Refusal.TheVariants.{Volume}
+use Rattle.fleet_commands.specs.declared.refusal.Refusal.TheVariants.{Volume}
 use Rattle.migrate_server.specs.declared.status.Status.{Status}
 use Rattle.migrate_server.specs.declared.status.Status.TheVariants.{Ok, Usage, ReadFault, JournalFault, WriteFault, StrangeJournal, InputLimit, JournalFull, NoMemory}
 
@@ -101,6 +104,10 @@ pub record Serves (old new : World) (status : Status) : Type 0 where
   pub session : Session (state_of old) (requests_among lines) replies (state_of new)
   pub complete : IsSome old.store.volumes
       → AllComplete (requests_among lines) replies (state_of new)
+  -- each log has besides what it had just the entries of the commands that weren't refused
+  pub only_writes : (name : List ℕ) → log_named name new.fleet
+      ≡ log_after name (log_named name old.fleet) (requests_among lines) replies
+  pub all_in : AllAreIn old.fleet → AllAreIn new.fleet
   pub no_volume : IsTrue old.store.sound → All (λ reply. reply ≢ Err Volume) replies
   -- the bytes that were written, and those that were not
   pub written : List ℕ

@@ -1,33 +1,55 @@
 -- What the server answers to the lines of an input, one after another, and what it leaves. A
--- command has a row in each of `refusal_of`, `StoreRefusal`, `reply_of`, `state_after`, `Fails` and
--- `Stands`; nothing else here grows with the commands, their refusals or their replies. A command
--- that isn't built is refused, whatever it asks for.
-use Rattle.std.specs.Prelude.{◌≡◌, ◌⊎◌, ℕ, List, [], ◌∷◌, Option, Some, None, Ok, Err, MatchOption}
+-- command has a row in each of `refusal_of`, `LateRefusal`, `reply_of`, `state_after`, `Fails` and
+-- `Stands`, and `Replies` has one for a command whose reply is a relation; nothing else here grows
+-- with the commands, their refusals or their replies. A command that isn't built is refused,
+-- whatever it asks for.
+use Rattle.std.specs.Prelude.{◌≡◌, ◌⊎◌, ℕ, List, [], ◌∷◌, Bool, true, false, Option, Some, None, Ok, Err, MatchOption}
 use Rattle.cmd_json.specs.declared.command.Command.{Command}
 use Rattle.cmd_json.specs.declared.command.Command.TheVariants.{Move, Host, Vm, Enable, Write, Snapshot, Remove, Query, Read, Power, Reset, Inventory, Plan, Start, Run, Cutover, Cancel, Status, Target, Digest, Restart, Quit}
+use Rattle.fleet.specs.Fleet.{FleetState}
+use Rattle.fleet_commands.specs.Answer.{Answer}
+use Rattle.fleet_commands.specs.commands.Deed.{deed_refusal, deed_reply, after_deed}
+use Rattle.fleet_commands.specs.commands.Host.{host_refusal, host_reply, after_host}
+use Rattle.fleet_commands.specs.commands.Inventory.{inventory_reply}
+use Rattle.fleet_commands.specs.commands.Query.{unknown_refusal, QueryRefusal, QueryReplies}
+use Rattle.fleet_commands.specs.commands.Read.{read_refusal, read_reply}
+use Rattle.fleet_commands.specs.commands.Snapshot.{snapshot_refusal, snapshot_reply, after_snapshot}
+use Rattle.fleet_commands.specs.commands.Vm.{vm_refusal, vm_reply, after_vm}
+use Rattle.fleet_commands.specs.commands.Write.{write_refusal, write_reply, after_write}
+use Rattle.fleet_commands.specs.declared.deed.Deed.{Deed}
+use Rattle.fleet_commands.specs.declared.deed.Deed.TheVariants as deed
+use Rattle.fleet_commands.specs.declared.refusal.Refusal.{Refusal}
+use Rattle.fleet_commands.specs.declared.refusal.Refusal.TheVariants as refusal
 use Rattle.reply_json.specs.declared.reply.Reply.{Reply}
 use Rattle.reply_json.specs.declared.reply.Reply.TheVariants.{Done}
 use Rattle.target_volume.specs.VolumeStore.{StoreState}
-use Rattle.migrate_server.specs.Answer.{Answer}
 use Rattle.migrate_server.specs.Line.{AsksFor, Means}
 use Rattle.migrate_server.specs.World.{World}
 use Rattle.migrate_server.specs.commands.Moves.{move_refusal, MoveRefusal, move_reply, after_move, MoveFails, HasMoved}
 use Rattle.migrate_server.specs.commands.Quit.{quit_reply}
 use Rattle.migrate_server.specs.declared.line.Line.{Line}
 use Rattle.migrate_server.specs.declared.line.Line.TheVariants.{Blank, Asks, Refuses}
-use Rattle.migrate_server.specs.declared.refusal.Refusal.{Refusal}
-use Rattle.migrate_server.specs.declared.refusal.Refusal.TheVariants as refusal
 
 -- what a line finds and leaves
 pub record State : Type 0 where
+  pub fleet : FleetState
   pub store : StoreState
 
--- the state of a server that has this store
-abbrev pub serving : StoreState → State
-serving store = record { store = store }
+-- the state of a server that has this fleet and this store
+abbrev pub serving : FleetState → StoreState → State
+serving fleet store = record { fleet = fleet; store = store }
 
 abbrev pub state_of : World → State
-state_of world = serving world.store
+state_of world = serving world.fleet world.store
+
+-- the state with another fleet
+abbrev pub with_fleet : FleetState → State → State
+with_fleet fleet s = record s { fleet = fleet }
+
+-- what `power` asks for
+abbrev pub power_deed : Bool → Deed
+power_deed true = deed.On
+power_deed false = deed.Off
 
 -- a command that isn't built is refused, so the other two are never reached for it
 abbrev pub not_built : Option Refusal
@@ -43,17 +65,19 @@ never_left s = s
 abbrev pub refusal_of : Command → State → Option Refusal
 refusal_of (Move name sectors writes) s = move_refusal sectors writes
 refusal_of Quit s = None
-refusal_of (Host name limit) s = not_built
-refusal_of (Vm name host disks) s = not_built
-refusal_of (Enable vm) s = not_built
-refusal_of (Write vm disk first count fill) s = not_built
-refusal_of (Snapshot vm) s = not_built
-refusal_of (Remove vm snapshot) s = not_built
-refusal_of (Query vm snapshot disk since start) s = not_built
-refusal_of (Read vm disk first count snapshot) s = not_built
-refusal_of (Power vm on) s = not_built
-refusal_of (Reset vm disk) s = not_built
-refusal_of Inventory s = not_built
+refusal_of (Host name limit) s = host_refusal name s.fleet
+refusal_of (Vm name host disks) s = vm_refusal name host disks s.fleet
+refusal_of (Enable vm) s = deed_refusal vm deed.Enable s.fleet
+refusal_of (Write vm disk first count fill) s =
+    write_refusal vm disk first count s.fleet
+refusal_of (Snapshot vm) s = snapshot_refusal vm s.fleet
+refusal_of (Remove vm snapshot) s = deed_refusal vm (deed.Remove snapshot) s.fleet
+refusal_of (Query vm snapshot disk since start) s = unknown_refusal vm s.fleet
+refusal_of (Read vm disk first count snapshot) s =
+    read_refusal vm disk first count snapshot s.fleet
+refusal_of (Power vm on) s = deed_refusal vm (power_deed on) s.fleet
+refusal_of (Reset vm disk) s = deed_refusal vm (deed.Reset disk) s.fleet
+refusal_of Inventory s = None
 refusal_of (Plan name vms interval) s = not_built
 refusal_of (Start plan) s = not_built
 refusal_of (Run at workers guests disturb) s = not_built
@@ -64,51 +88,53 @@ refusal_of (Target volume first count) s = not_built
 refusal_of (Digest volume) s = not_built
 refusal_of Restart s = not_built
 
--- where there is none, the refusal that only the store can show
-abbrev pub StoreRefusal : Command → Option Refusal → State → Type 0
-StoreRefusal (Move name sectors writes) refusal s = MoveRefusal name refusal s.store
-StoreRefusal Quit refusal s = refusal ≡ None
-StoreRefusal (Host name limit) refusal s = refusal ≡ None
-StoreRefusal (Vm name host disks) refusal s = refusal ≡ None
-StoreRefusal (Enable vm) refusal s = refusal ≡ None
-StoreRefusal (Write vm disk first count fill) refusal s = refusal ≡ None
-StoreRefusal (Snapshot vm) refusal s = refusal ≡ None
-StoreRefusal (Remove vm snapshot) refusal s = refusal ≡ None
-StoreRefusal (Query vm snapshot disk since start) refusal s = refusal ≡ None
-StoreRefusal (Read vm disk first count snapshot) refusal s = refusal ≡ None
-StoreRefusal (Power vm on) refusal s = refusal ≡ None
-StoreRefusal (Reset vm disk) refusal s = refusal ≡ None
-StoreRefusal Inventory refusal s = refusal ≡ None
-StoreRefusal (Plan name vms interval) refusal s = refusal ≡ None
-StoreRefusal (Start plan) refusal s = refusal ≡ None
-StoreRefusal (Run at workers guests disturb) refusal s = refusal ≡ None
-StoreRefusal (Cutover plan at) refusal s = refusal ≡ None
-StoreRefusal (Cancel vm) refusal s = refusal ≡ None
-StoreRefusal Status refusal s = refusal ≡ None
-StoreRefusal (Target volume first count) refusal s = refusal ≡ None
-StoreRefusal (Digest volume) refusal s = refusal ≡ None
-StoreRefusal Restart refusal s = refusal ≡ None
+-- where there is none, the refusal that only the store can show, or the reading of an identifier
+abbrev pub LateRefusal : Command → Option Refusal → State → Type 0
+LateRefusal (Move name sectors writes) refusal s = MoveRefusal name refusal s.store
+LateRefusal Quit refusal s = refusal ≡ None
+LateRefusal (Host name limit) refusal s = refusal ≡ None
+LateRefusal (Vm name host disks) refusal s = refusal ≡ None
+LateRefusal (Enable vm) refusal s = refusal ≡ None
+LateRefusal (Write vm disk first count fill) refusal s = refusal ≡ None
+LateRefusal (Snapshot vm) refusal s = refusal ≡ None
+LateRefusal (Remove vm snapshot) refusal s = refusal ≡ None
+LateRefusal (Query vm snapshot disk since start) refusal s =
+    QueryRefusal vm snapshot disk since start refusal s.fleet
+LateRefusal (Read vm disk first count snapshot) refusal s = refusal ≡ None
+LateRefusal (Power vm on) refusal s = refusal ≡ None
+LateRefusal (Reset vm disk) refusal s = refusal ≡ None
+LateRefusal Inventory refusal s = refusal ≡ None
+LateRefusal (Plan name vms interval) refusal s = refusal ≡ None
+LateRefusal (Start plan) refusal s = refusal ≡ None
+LateRefusal (Run at workers guests disturb) refusal s = refusal ≡ None
+LateRefusal (Cutover plan at) refusal s = refusal ≡ None
+LateRefusal (Cancel vm) refusal s = refusal ≡ None
+LateRefusal Status refusal s = refusal ≡ None
+LateRefusal (Target volume first count) refusal s = refusal ≡ None
+LateRefusal (Digest volume) refusal s = refusal ≡ None
+LateRefusal Restart refusal s = refusal ≡ None
 
 -- the refusal of a command, or that there is none
 abbrev pub HasRefusal : Command → Option Refusal → State → Type 0
 HasRefusal command refusal s = MatchOption (refusal_of command s)
-    (StoreRefusal command refusal s) (λ why. refusal ≡ Some why)
+    (LateRefusal command refusal s) (λ why. refusal ≡ Some why)
 
--- the reply to a command that is not refused
+-- the reply to a command that is not refused, where the command and the state determine it at once
 abbrev pub reply_of : Command → State → Reply
 reply_of (Move name sectors writes) s = move_reply sectors writes
 reply_of Quit s = quit_reply
-reply_of (Host name limit) s = never_answered
-reply_of (Vm name host disks) s = never_answered
-reply_of (Enable vm) s = never_answered
-reply_of (Write vm disk first count fill) s = never_answered
-reply_of (Snapshot vm) s = never_answered
-reply_of (Remove vm snapshot) s = never_answered
+reply_of (Host name limit) s = host_reply
+reply_of (Vm name host disks) s = vm_reply s.fleet
+reply_of (Enable vm) s = deed_reply
+reply_of (Write vm disk first count fill) s = write_reply
+reply_of (Snapshot vm) s = snapshot_reply vm s.fleet
+reply_of (Remove vm snapshot) s = deed_reply
 reply_of (Query vm snapshot disk since start) s = never_answered
-reply_of (Read vm disk first count snapshot) s = never_answered
-reply_of (Power vm on) s = never_answered
-reply_of (Reset vm disk) s = never_answered
-reply_of Inventory s = never_answered
+reply_of (Read vm disk first count snapshot) s =
+    read_reply vm disk first count snapshot s.fleet
+reply_of (Power vm on) s = deed_reply
+reply_of (Reset vm disk) s = deed_reply
+reply_of Inventory s = inventory_reply s.fleet
 reply_of (Plan name vms interval) s = never_answered
 reply_of (Start plan) s = never_answered
 reply_of (Run at workers guests disturb) s = never_answered
@@ -119,22 +145,30 @@ reply_of (Target volume first count) s = never_answered
 reply_of (Digest volume) s = never_answered
 reply_of Restart s = never_answered
 
+-- the reply to a command that is not refused; that to a query goes by what its text asks for
+abbrev pub Replies : Command → Reply → State → Type 0
+Replies (Query vm snapshot disk since start) reply s =
+    QueryReplies vm snapshot disk since start reply s.fleet
+Replies command reply s = reply ≡ reply_of command s
+
 -- what a command leaves that is not refused
 abbrev pub state_after : Command → State → State
 state_after (Move name sectors writes) s =
     record s { store = after_move name sectors writes s.store }
 state_after Quit s = s
-state_after (Host name limit) s = never_left s
-state_after (Vm name host disks) s = never_left s
-state_after (Enable vm) s = never_left s
-state_after (Write vm disk first count fill) s = never_left s
-state_after (Snapshot vm) s = never_left s
-state_after (Remove vm snapshot) s = never_left s
-state_after (Query vm snapshot disk since start) s = never_left s
-state_after (Read vm disk first count snapshot) s = never_left s
-state_after (Power vm on) s = never_left s
-state_after (Reset vm disk) s = never_left s
-state_after Inventory s = never_left s
+state_after (Host name limit) s = with_fleet (after_host name limit s.fleet) s
+state_after (Vm name host disks) s = with_fleet (after_vm name host disks s.fleet) s
+state_after (Enable vm) s = with_fleet (after_deed vm deed.Enable s.fleet) s
+state_after (Write vm disk first count fill) s =
+    with_fleet (after_write vm disk first count fill s.fleet) s
+state_after (Snapshot vm) s = with_fleet (after_snapshot vm s.fleet) s
+state_after (Remove vm snapshot) s =
+    with_fleet (after_deed vm (deed.Remove snapshot) s.fleet) s
+state_after (Query vm snapshot disk since start) s = s
+state_after (Read vm disk first count snapshot) s = s
+state_after (Power vm on) s = with_fleet (after_deed vm (power_deed on) s.fleet) s
+state_after (Reset vm disk) s = with_fleet (after_deed vm (deed.Reset disk) s.fleet) s
+state_after Inventory s = s
 state_after (Plan name vms interval) s = never_left s
 state_after (Start plan) s = never_left s
 state_after (Run at workers guests disturb) s = never_left s
@@ -147,7 +181,8 @@ state_after Restart s = never_left s
 
 -- what a command may leave where the store fails in it
 abbrev pub Fails : Command → (old new : State) → Type 0
-Fails (Move name sectors writes) old new = MoveFails name sectors old.store new.store
+Fails (Move name sectors writes) old new =
+    (new.fleet ≡ old.fleet) × MoveFails name sectors old.store new.store
 Fails Quit old new = ⊥
 Fails (Host name limit) old new = ⊥
 Fails (Vm name host disks) old new = ⊥
@@ -174,7 +209,7 @@ Fails Restart old new = ⊥
 -- `volume`, which comes where the store fails in a command that nothing else refuses
 abbrev pub Answers : Command → Answer → (old new : State) → Type 0
 Answers command (Ok reply) old new = HasRefusal command None old
-    × (reply ≡ reply_of command old) × (new ≡ state_after command old)
+    × Replies command reply old × (new ≡ state_after command old)
 Answers command (Err why) old new = (HasRefusal command (Some why) old × (new ≡ old))
     ⊎ ((why ≡ refusal.Volume) × (refusal_of command old ≡ None) × Fails command old new)
 

@@ -3,6 +3,7 @@
 use Rattle.edge_traits.specs.Source.{SourceState}
 use Rattle.edge_traits.specs.Sink.{SinkState}
 use Rattle.edge_traits.specs.Disk.{DiskState}
+use Rattle.fleet.specs.Fleet.{FleetState}
 use Rattle.target_volume.specs.VolumeStore.{StoreState}
 
 pub record World : Type 0 where
@@ -12,8 +13,15 @@ pub record World : Type 0 where
   pub disk : DiskState
   -- of the target volumes
   pub store : StoreState
+  -- the hosts and machines
+  pub fleet : FleetState
 
 abbrev pub world_of : (source : SourceState) (sink : SinkState) (disk : DiskState)
-    (store : StoreState) → World
-world_of source sink disk store =
-    record { source = source; sink = sink; disk = disk; store = store }
+    (store : StoreState) (fleet : FleetState) → World
+world_of source sink disk store fleet = record {
+  source = source;
+  sink = sink;
+  disk = disk;
+  store = store;
+  fleet = fleet;
+}

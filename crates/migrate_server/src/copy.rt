@@ -1,41 +1,44 @@
 //! A full copy of a disk to a volume.
 ghost use Rattle.std.specs.Prelude.{◌≡◌, ◌+◌, ◌-◌, ◌≤◌, ◌<◌, ℕ, true, false, length, All, OnOk, OnErr, MatchOption, min};
 ghost use Rattle.sector_model.specs.Run.{end_of, in_runs, AreSpaced, IsNext, NoneFrom};
-ghost use Rattle.migrate_server.specs.Copy.{after_copy, CopyFails, IsClearOutside};
+ghost use Rattle.migrate_server.specs.Copy.{after_copy, CopyFails};
+ghost use Rattle.migrate_server.specs.WrittenDisk.{frozen_sectors, IsFrozen};
 
+use crate::written_disk::WrittenDisk;
 use sector_model::{Run, Runs, Sector};
 use target_volume::{Volume, VolumeFailed};
 
 /// The most sectors that are copied or zeroed at once.
-const PIECE_SECTORS: u64 = 128;
+pub(crate) const PIECE_SECTORS: u64 = 128;
 
-/// Copies the allocated runs of a disk to a volume that was never written, zeroes the rest, and
-/// flushes. Each sector is written once, in one pass. A failure is the volume's, and leaves open
-/// what that holds.
+/// Copies the allocated runs of a frozen disk to a volume that was never written, zeroes the rest,
+/// and flushes. Each sector is written once, in one pass, by a buffer that a piece fits into. A
+/// failure is the volume's, and leaves open what that holds.
 pub(crate) fn copy_full<V: Volume>(
-    disk: &[Sector],
-    allocated: &Runs,
+    disk: &WrittenDisk,
+    buffer: &mut [Sector],
     volume: &mut V,
 ) -> Result<(), VolumeFailed>
-    requires sized { (V.state volume.old).capacity ≡ length disk.now }
+    requires frozen { IsFrozen disk.now }
+    requires room { PIECE_SECTORS ≤ length buffer.old }
+    requires sized { (V.state volume.old).capacity ≡ length (frozen_sectors disk.now) }
     requires fresh { (V.state volume.old).written ≡ 0 }
-    requires spaced { AreSpaced allocated.now }
-    requires within { All (λ run. end_of run ≤ length disk.now) allocated.now }
-    requires clear { IsClearOutside allocated.now disk.now }
-    ensures copied { OnOk result (V.state volume.new ≡ after_copy disk.now (V.state volume.old)) }
+    ensures copied { OnOk result
+        (V.state volume.new ≡ after_copy (frozen_sectors disk.now) (V.state volume.old)) }
     ensures failed { OnErr result (CopyFails (V.state volume.old) (V.state volume.new)) }
 {
     let capacity = volume.capacity();
     let mut at = 0;
     while at < capacity {
-        let piece = next_piece(allocated, at, capacity);
-        let end = at + piece.count;
+        let piece = next_piece(&disk.allocated, at, capacity);
         if piece.is_data {
-            volume.write(at, &disk[at as usize..end as usize])?;
+            let sectors = &mut buffer[..piece.count as usize];
+            disk.read(at, sectors);
+            volume.write(at, sectors)?;
         } else {
             volume.zero(at, piece.count)?;
         }
-        at = end;
+        at += piece.count;
     }
     volume.flush()
 }

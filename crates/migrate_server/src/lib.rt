@@ -2,18 +2,18 @@
 #![tactic(auto)]
 
 ghost use Rattle.std.specs.Prelude.{◌≡◌, ◌<◌, ◌↔◌, length, IsTrue};
+ghost use Rattle.fleet.specs.Sound.{AllAreIn};
 ghost use Rattle.migrate_server.specs.World.{world_of};
 ghost use Rattle.migrate_server.specs.Serve.{status_of};
 ghost use Rattle.migrate_server.specs.Serves.{Serves};
 ghost use Rattle.migrate_server.specs.EndsFor.{EndsFor, TellsUsage};
 
-mod answer;
 mod commands;
 mod copy;
+mod laws;
 mod line;
 mod line_buffer;
 mod reader;
-mod refusal;
 mod serve;
 mod status;
 #[cfg(test)]
@@ -22,6 +22,8 @@ mod written_disk;
 
 use crate::serve::{Stop, serve};
 use edge_traits::{Disk, Sink, Source};
+pub use fleet::Fleet;
+pub use laws::sessions_agree;
 pub use status::Status;
 use std::alloc::Global;
 use target_volume::VolumeStore;
@@ -38,17 +40,6 @@ pub struct Devices<D, T> {
     pub volumes: T,
 }
 
-/// The hosts and machines whose disks are moved. None can be made yet.
-#[derive(Clone, Copy, Debug, PartialEq, Eq)]
-pub struct Fleet;
-
-impl Fleet {
-    /// A fleet without a host.
-    pub fn empty() -> Fleet {
-        Fleet
-    }
-}
-
 /// Where those who act for a machine wait for their turn. No command needs one yet.
 pub trait Gate {}
 
@@ -61,7 +52,7 @@ pub struct Outcome<D, T> {
     pub disk: D,
     /// The store of the devices.
     pub volumes: T,
-    /// The fleet, as it was given.
+    /// The fleet, with what the commands made of it.
     pub fleet: Fleet,
 }
 
@@ -75,7 +66,8 @@ pub struct Outcome<D, T> {
 /// [`Status::InputLimit`] only where one byte comes past the limit. With [`Status::NoMemory`] the
 /// line that met it has no reply, and may have been carried out. A move is refused as `volume` only
 /// where the store failed in it, which a sound store doesn't. Whatever the status is, the outcome
-/// has the devices and the fleet.
+/// has the devices and the fleet, and a later call goes on with them. No machine of the fleet may
+/// be out, and none is afterwards.
 pub fn migrate<R, S: Source, K: Sink, D: Disk, T: VolumeStore, G: Gate>(
     _rt: &R,
     alloc: Global,
@@ -86,28 +78,31 @@ pub fn migrate<R, S: Source, K: Sink, D: Disk, T: VolumeStore, G: Gate>(
     fleet: Fleet,
     _gate: &G,
 ) -> Outcome<D, T>
+    requires all_in { AllAreIn fleet }
     ensures usage { (result.status ≡ Status.Usage) ↔ (0 < length words.now) }
     ensures told { 0 < length words.now → TellsUsage (K.state out.old) (K.state out.new) }
-    ensures untouched { 0 < length words.now
-        → (input.new ≡ input.old) × (result.volumes ≡ devices.volumes) }
+    ensures untouched { 0 < length words.now → (input.new ≡ input.old)
+        × (result.volumes ≡ devices.volumes) × (result.fleet ≡ fleet) }
     ensures served { length words.now ≡ 0 → Serves
         (world_of (S.state input.old) (K.state out.old)
-        (D.state devices.disk) (T.state devices.volumes))
+        (D.state devices.disk) (T.state devices.volumes) fleet)
         (world_of (S.state input.new) (K.state out.new)
-        (D.state result.disk) (T.state result.volumes)) result.status }
+        (D.state result.disk) (T.state result.volumes) result.fleet) result.status }
     ensures ends { length words.now ≡ 0 → EndsFor
         (world_of (S.state input.old) (K.state out.old)
-        (D.state devices.disk) (T.state devices.volumes))
+        (D.state devices.disk) (T.state devices.volumes) fleet)
         (world_of (S.state input.new) (K.state out.new)
-        (D.state result.disk) (T.state result.volumes)) result.status }
+        (D.state result.disk) (T.state result.volumes) result.fleet) result.status }
     ensures sound { IsTrue (T.state devices.volumes).sound
         → IsTrue (T.state result.volumes).sound
         × ((T.state result.volumes).faults ≡ (T.state devices.volumes).faults) }
-    ensures same { (result.disk ≡ devices.disk) × (result.fleet ≡ fleet) }
+    ensures all_in { AllAreIn result.fleet }
+    ensures same { result.disk ≡ devices.disk }
 {
     let mut devices = devices;
+    let mut fleet = fleet;
     let status = if words.is_empty() {
-        status_of(serve(alloc, input, out, &mut devices))
+        status_of(serve(alloc, input, out, &mut devices, &mut fleet))
     } else {
         refuse_words(out)
     };

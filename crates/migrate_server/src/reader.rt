@@ -68,7 +68,13 @@ impl Model for LineReader {
 
 impl LineReader {
     ghost use Rattle.migrate_server.specs.LineBuffer.{Holds};
-    ghost use Rattle.migrate_server.specs.Reader.{IsIdle, TakesLine, TakesEnd, ReadsMore, HasNoLine};
+    ghost use Rattle.migrate_server.specs.Reader.{
+      IsIdle,
+      TakesLine,
+      TakesEnd,
+      ReadsMore,
+      HasNoLine,
+    };
 
     /// A reader that has read nothing. It answers only want of memory.
     pub(crate) fn new(alloc: Global) -> Result<LineReader, NoMemory>

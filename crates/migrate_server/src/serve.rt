@@ -1,26 +1,32 @@
 //! The lines of an input, answered one after another.
 ghost use Rattle.std.specs.Prelude.{◌≡◌, ℕ, List, IfOk, OnOk, OnErr, IfErr, length};
 ghost use Rattle.std.specs.Io.KnownBytes.{Appends};
+ghost use Rattle.fleet.specs.Sound.{AllAreIn};
 ghost use Rattle.cmd_json.specs.Known.{IsAskable};
-ghost use Rattle.migrate_server.specs.Answer.{answer_line};
+ghost use Rattle.cmd_json.specs.declared.command.Command.TheVariants.{Query};
+ghost use Rattle.fleet_commands.specs.Answer.{answer_line};
+ghost use Rattle.target_volume.specs.VolumeStore.{StoreState};
 ghost use Rattle.migrate_server.specs.LineBuffer.{Holds};
 ghost use Rattle.migrate_server.specs.Line.{AsksInRange};
-ghost use Rattle.migrate_server.specs.Session.{serving, Answers};
+ghost use Rattle.migrate_server.specs.Session.{serving, power_deed, Answers};
 ghost use Rattle.migrate_server.specs.Serve.{IsAnswered, TellsQuit, ServesLine, LacksReply, LacksBytes, status_of};
 ghost use Rattle.migrate_server.specs.World.{world_of};
 ghost use Rattle.migrate_server.specs.Serves.{Serves};
 ghost use Rattle.migrate_server.specs.EndsFor.{EndsFor};
 
 use crate::Devices;
-use crate::answer::{Answer, line_for};
 use crate::commands::moves::run_move;
 use crate::line::{Line, meaning_of};
 use crate::line_buffer::LineBuffer;
 use crate::reader::{LineReader, NoLine};
-use crate::refusal::Refusal;
-use basics::NoMemory;
+use basics::{Name, NoMemory, Text};
 use cmd_json::Command;
 use edge_traits::{Disk, Sink, Source};
+use fleet::Fleet;
+use fleet_commands::{
+    Answer, Deed, QueryLine, ReadLine, Refusal, WriteLine, line_for, run_deed, run_host,
+    run_inventory, run_query, run_read, run_snapshot, run_vm, run_write,
+};
 use reply_json::Reply;
 use std::alloc::Global;
 use target_volume::VolumeStore;
@@ -93,18 +99,20 @@ pub(crate) fn serve<S: Source, K: Sink, D: Disk, T: VolumeStore>(
     input: &mut S,
     out: &mut K,
     devices: &mut Devices<D, T>,
+    fleet: &mut Fleet,
 ) -> Result<(), Stop>
+    requires all_in { AllAreIn fleet.old }
     ensures served { Serves
         (world_of (S.state input.old) (K.state out.old)
-        (D.state devices.old.disk) (T.state devices.old.volumes))
+        (D.state devices.old.disk) (T.state devices.old.volumes) fleet.old)
         (world_of (S.state input.new) (K.state out.new)
-        (D.state devices.new.disk) (T.state devices.new.volumes))
+        (D.state devices.new.disk) (T.state devices.new.volumes) fleet.new)
         (status_of result) }
     ensures ends { EndsFor
         (world_of (S.state input.old) (K.state out.old)
-        (D.state devices.old.disk) (T.state devices.old.volumes))
+        (D.state devices.old.disk) (T.state devices.old.volumes) fleet.old)
         (world_of (S.state input.new) (K.state out.new)
-        (D.state devices.new.disk) (T.state devices.new.volumes))
+        (D.state devices.new.disk) (T.state devices.new.volumes) fleet.new)
         (status_of result) }
     ensures disk { devices.new.disk ≡ devices.old.disk }
 {
@@ -116,7 +124,7 @@ pub(crate) fn serve<S: Source, K: Sink, D: Disk, T: VolumeStore>(
         if !reader.next(&mut line, input)? {
             return Ok(());
         }
-        let quits = serve_line(alloc, &line, out, &mut devices.volumes)?;
+        let quits = serve_line(alloc, &line, out, fleet, &mut devices.volumes)?;
         if quits {
             return Ok(());
         }
@@ -128,20 +136,22 @@ fn serve_line<K: Sink, T: VolumeStore>(
     alloc: Global,
     line: &LineBuffer,
     out: &mut K,
+    fleet: &mut Fleet,
     store: &mut T,
 ) -> Result<bool, NoReply>
+    requires all_in { AllAreIn fleet.old }
     ensures served { OnOk result ((text : List ℕ) → Holds line.now text
         → ServesLine text (K.state out.old) (K.state out.new)
-        (serving (T.state store.old)) (serving (T.state store.new))) }
+        (serving fleet.old (T.state store.old)) (serving fleet.new (T.state store.new))) }
     ensures quits { IfOk result (λ quits. (text : List ℕ) → Holds line.now text
         → TellsQuit quits text) }
     ensures lacks { IfErr result (λ why. (text : List ℕ) → Holds line.now text
         → LacksReply why text (K.state out.old) (K.state out.new)
-        (serving (T.state store.old)) (serving (T.state store.new))) }
+        (serving fleet.old (T.state store.old)) (serving fleet.new (T.state store.new))) }
 {
     let what = meaning_of(alloc, line)?;
     let quits = what.quits();
-    if let Some(answer) = answer_to(alloc, what, store)? {
+    if let Some(answer) = answer_to(alloc, what, fleet, store)? {
         put_answer(alloc, answer, out)?;
     }
     Ok(quits)
@@ -167,26 +177,36 @@ fn put_answer<K: Sink>(alloc: Global, answer: Answer, out: &mut K) -> Result<(),
 fn answer_to<T: VolumeStore>(
     alloc: Global,
     what: Line,
+    fleet: &mut Fleet,
     store: &mut T,
 ) -> Result<Option<Answer>, NoMemory>
-    requires { AsksInRange what }
+    requires known { AsksInRange what }
+    requires all_in { AllAreIn fleet.old }
     ensures answer { IfOk result (λ answer. IsAnswered what answer
-        (serving (T.state store.old)) (serving (T.state store.new))) }
-    ensures err { OnErr result (T.state store.new ≡ T.state store.old) }
+        (serving fleet.old (T.state store.old)) (serving fleet.new (T.state store.new))) }
+    ensures err { OnErr result
+        (serving fleet.new (T.state store.new) ≡ serving fleet.old (T.state store.old)) }
 {
     match what {
         Line::Blank => Ok(None),
         Line::Refuses(why) => Ok(Some(Err(why))),
-        Line::Asks(command) => Ok(Some(run(alloc, command, store)?)),
+        Line::Asks(command) => Ok(Some(run(alloc, command, fleet, store)?)),
     }
 }
 
 /// Carries out a command. It answers only want of memory, and has then changed nothing.
-fn run<T: VolumeStore>(alloc: Global, command: Command, store: &mut T) -> Result<Answer, NoMemory>
-    requires { IsAskable command }
+fn run<T: VolumeStore>(
+    alloc: Global,
+    command: Command,
+    fleet: &mut Fleet,
+    store: &mut T,
+) -> Result<Answer, NoMemory>
+    requires known { IsAskable command }
+    requires all_in { AllAreIn fleet.old }
     ensures answer { IfOk result (λ answer. Answers command answer
-        (serving (T.state store.old)) (serving (T.state store.new))) }
-    ensures err { OnErr result (T.state store.new ≡ T.state store.old) }
+        (serving fleet.old (T.state store.old)) (serving fleet.new (T.state store.new))) }
+    ensures err { OnErr result
+        (serving fleet.new (T.state store.new) ≡ serving fleet.old (T.state store.old)) }
 {
     match command {
         Command::Move {
@@ -194,7 +214,90 @@ fn run<T: VolumeStore>(alloc: Global, command: Command, store: &mut T) -> Result
             sectors,
             writes,
         } => run_move(alloc, name, sectors, writes.as_slice(), store),
+        Command::Host { name, limit } => run_host(fleet, &name, limit),
+        Command::Vm { name, host, disks } => run_vm(fleet, &name, &host, disks.as_slice()),
+        Command::Enable { vm } => run_deed(fleet, &vm, Deed::Enable),
+        Command::Write {
+            vm,
+            disk,
+            first,
+            count,
+            fill,
+        } => run_write(alloc, fleet, &vm, write_line(disk, first, count, fill)),
+        Command::Snapshot { vm } => run_snapshot(alloc, fleet, &vm),
+        Command::Remove { vm, snapshot } => run_deed(fleet, &vm, Deed::Remove(snapshot)),
+        Command::Query {
+            vm,
+            snapshot,
+            disk,
+            since,
+            start,
+        } => answer_query(alloc, fleet, &vm, snapshot, disk, &since, start),
+        Command::Read {
+            vm,
+            disk,
+            first,
+            count,
+            snapshot,
+        } => run_read(alloc, fleet, &vm, read_line(disk, first, count, snapshot)),
+        Command::Power { vm, on } => run_deed(fleet, &vm, power_deed(on)),
+        Command::Reset { vm, disk } => run_deed(fleet, &vm, Deed::Reset(disk)),
+        Command::Inventory => Ok(Ok(run_inventory(alloc, fleet)?)),
         Command::Quit => Ok(Ok(Reply::Done)),
         _ => Ok(Err(Refusal::Command)),
+    }
+}
+
+/// What `power` asks for.
+fn power_deed(on: bool) -> Deed
+    ensures { result ≡ power_deed on }
+{
+    if on { Deed::On } else { Deed::Off }
+}
+
+fn write_line(disk: u32, first: u64, count: u64, fill: u8) -> WriteLine
+    ensures { result ≡ record { disk = disk; first = first; count = count; fill = fill } }
+{
+    WriteLine {
+        disk,
+        first,
+        count,
+        fill,
+    }
+}
+
+/// Shows a page of what changed on a disk, as the members of a line ask. It answers want of memory
+/// too. Nothing changes.
+fn answer_query(
+    alloc: Global,
+    fleet: &mut Fleet,
+    vm: &Name,
+    snapshot: u32,
+    disk: u32,
+    since: &Text,
+    start: u64,
+) -> Result<Answer, NoMemory>
+    ensures answer { IfOk result (λ answer. (store : StoreState)
+        → Answers (Query vm.now snapshot disk since.now start) answer
+        (serving fleet.old store) (serving fleet.new store)) }
+    ensures err { OnErr result (fleet.new ≡ fleet.old) }
+{
+    let line = QueryLine {
+        snapshot,
+        disk,
+        since: since.as_str(),
+        start,
+    };
+    run_query(alloc, fleet, vm, line)
+}
+
+fn read_line(disk: u32, first: u64, count: u64, snapshot: Option<u32>) -> ReadLine
+    ensures { result ≡ record { disk = disk; first = first; count = count; snapshot = snapshot } }
+{
+    ReadLine {
+        disk,
+        first,
+        count,
+        snapshot,
     }
 }

@@ -1,3 +1,8 @@
+ghost use Rattle.std.specs.Prelude.{IfOk};
+ghost use Rattle.fleet.specs.Sound.{AllAreIn};
+
+mod machines;
+
 use crate::{Devices, Fleet, Gate, Outcome, Status, migrate};
 use basics::NoMemory;
 use edge_traits::{Failed, MemDisk, MemSink, MemSource, Source};
@@ -36,13 +41,14 @@ const SOUND: Setting<'static> = Setting {
     failing_calls: &[],
 };
 
-/// How a run ended, what is left of the input, what was written, and the store.
+/// How a run ended, what is left of the input, what was written, the store and the fleet.
 #[derive(Drop)]
 struct EndedRun {
     status: Status,
     source: MemSource,
     sink: MemSink,
     volumes: MemVolumes,
+    fleet: Fleet,
 }
 
 fn served_in(
@@ -50,7 +56,23 @@ fn served_in(
     setting: &Setting,
     words: &[String],
     lines: &[u8],
-) -> Result<EndedRun, Fail> {
+) -> Result<EndedRun, Fail>
+    ensures { IfOk result (λ run. AllAreIn run.fleet) }
+{
+    served_over(rt, setting, words, lines, Fleet::empty(rt.alloc()))
+}
+
+/// The same, over a fleet that another run has left.
+fn served_over(
+    rt: &HostRuntime,
+    setting: &Setting,
+    words: &[String],
+    lines: &[u8],
+    fleet: Fleet,
+) -> Result<EndedRun, Fail>
+    requires { AllAreIn fleet }
+    ensures { IfOk result (λ run. AllAreIn run.fleet) }
+{
     let alloc = rt.alloc();
     let piece = setting.piece.max(1);
     let mut source = MemSource::new(alloc, lines, piece, setting.failing_reads)?;
@@ -59,7 +81,6 @@ fn served_in(
         disk: MemDisk::new(alloc, &[], 0, &[])?,
         volumes: MemVolumes::new(alloc, 90, setting.failing_calls)?,
     };
-    let fleet = Fleet::empty();
     let outcome = migrate(
         rt,
         alloc,
@@ -73,6 +94,7 @@ fn served_in(
     let Outcome {
         status,
         volumes,
+        fleet,
         ..
     } = outcome;
     Ok(EndedRun {
@@ -80,10 +102,13 @@ fn served_in(
         source,
         sink,
         volumes,
+        fleet,
     })
 }
 
-fn served(rt: &HostRuntime, lines: &str) -> Result<EndedRun, Fail> {
+fn served(rt: &HostRuntime, lines: &str) -> Result<EndedRun, Fail>
+    ensures { IfOk result (λ run. AllAreIn run.fleet) }
+{
     served_in(rt, &SOUND, &[], lines.as_bytes())
 }
 

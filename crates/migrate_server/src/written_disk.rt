@@ -1,102 +1,104 @@
-//! The disk of a move: a plain list of its sectors, and which of its blocks were written.
-ghost use Rattle.std.specs.Prelude.{◌≡◌, ◌+◌, ◌*◌, ◌/◌, ◌^◌, ◌<◌, ◌≤◌, ℕ, length, All, IfOk, OnOk, replicate, slice_index_or, true, false, take, ◌||◌};
-ghost use Rattle.std.specs.List.{filter, range_with_len};
-ghost use Rattle.basics.specs.Replaced.{replaced};
-ghost use Rattle.sector_model.specs.Sector.{zero_sector};
-ghost use Rattle.sector_model.specs.Run.{block_count, touches, touched_blocks, areas_of, AreSpaced, end_of};
-ghost use Rattle.migrate_server.specs.Copy.{IsClearOutside};
-ghost use Rattle.migrate_server.specs.WrittenDisk.{disk_write, disk_writes, written_disk, AreFlagged, FlagsAfter};
+//! The disk of a move: a source disk to which the writes are applied, and which is frozen then.
+ghost use Rattle.std.specs.Prelude.{◌≡◌, ◌+◌, ◌<◌, ◌≤◌, ◌∷◌, ◌++◌, [], ℕ, List, length, All, IfOk, OnOk, slice_range};
+ghost use Rattle.sector_model.specs.Run.{touched_blocks, areas_of};
+ghost use Rattle.source_disk.specs.SourceDisk.{capacity_of};
+ghost use Rattle.cmd_json.specs.declared.command.MoveWrite.{MoveWrite};
+ghost use Rattle.migrate_server.specs.WrittenDisk.{disk_writes, written_disk, AreWithin, IsWritten, IsFrozenAfter, frozen_sectors, IsFrozen};
 
-use basics::NoMemory;
 use cmd_json::MoveWrite;
-use sector_model::{BLOCK_SECTORS, Runs, Sector};
+use sector_model::{NoMemory, Runs, Sector};
+use source_disk::SourceDisk;
 use std::alloc::Global;
 
-/// The sectors that the writes leave of a disk that was never written.
-pub(crate) fn written_sectors(
+/// The number of the snapshot that is copied.
+pub(crate) const SNAPSHOT: u32 = 1;
+
+/// A source disk that was written and then frozen, and the runs of it that were allocated by then.
+/// Outside these its snapshot is zero.
+#[derive(Debug, Drop)]
+pub(crate) struct WrittenDisk {
+    source: SourceDisk,
+    pub(crate) allocated: Runs,
+}
+
+impl WrittenDisk {
+    /// Applies the writes to a disk of so many sectors that was never written, and freezes it. It
+    /// answers only want of memory.
+    pub(crate) fn new(
+        alloc: Global,
+        capacity: u64,
+        writes: &[MoveWrite],
+    ) -> Result<WrittenDisk, NoMemory>
+        requires { AreWithin capacity writes.now }
+        ensures sectors { IfOk result (λ disk. frozen_sectors disk
+            ≡ written_disk capacity writes.now) }
+        ensures long { IfOk result (λ disk. length (frozen_sectors disk) ≡ capacity) }
+        ensures areas { IfOk result (λ disk. disk.allocated
+            ≡ areas_of capacity (touched_blocks capacity (disk_writes writes.now))) }
+        ensures frozen { IfOk result (λ disk. IsFrozen disk) }
+    {
+        let source = written_source(alloc, capacity, writes)?;
+        match source.allocated(SNAPSHOT) {
+            Ok(allocated) => Ok(WrittenDisk { source, allocated }),
+            Err(_) => Err(NoMemory),
+        }
+    }
+
+    /// Reads sectors of the snapshot from sector `first` on. They are some, and lie within it.
+    pub(crate) fn read(&self, first: u64, buffer: &mut [Sector])
+        requires frozen { IsFrozen self.now }
+        requires some { 0 < length buffer.old }
+        requires within { first + length buffer.old ≤ length (frozen_sectors self.now) }
+        ensures { buffer.new
+            ≡ slice_range (frozen_sectors self.now) first (first + length buffer.old) }
+    {
+        self.source.read(Some(SNAPSHOT), first, buffer).unwrap();
+    }
+}
+
+/// A disk of so many sectors that was never written, after the writes, frozen once.
+fn written_source(
     alloc: Global,
     capacity: u64,
     writes: &[MoveWrite],
-) -> Result<Vec<Sector>, NoMemory>
-    requires { All (λ w. w.first + w.count ≤ capacity) writes.now }
-    ensures disk { IfOk result (λ disk. disk.items ≡ written_disk capacity writes.now) }
-    ensures long { IfOk result (λ disk. length disk.items ≡ capacity) }
+) -> Result<SourceDisk, NoMemory>
+    requires { AreWithin capacity writes.now }
+    ensures { IfOk result (λ disk. IsFrozenAfter capacity writes.now disk) }
 {
-    let mut disk = vec![in alloc; Sector::filled(0); capacity as usize]?;
+    let mut disk = SourceDisk::new(alloc, 0, 0, capacity)?;
+    let mut buffer = vec![in alloc; Sector::filled(0); longest(writes) as usize]?;
     for write in writes {
-        apply(&mut disk, write);
+        apply(write, &mut buffer, &mut disk)?;
     }
+    disk.freeze(SNAPSHOT)?;
     Ok(disk)
 }
 
-/// Applies a write.
-fn apply(disk: &mut [Sector], write: &MoveWrite)
-    requires { write.now.first + write.now.count ≤ length disk.old }
-    ensures { disk.new ≡ replaced disk.old write.now.first (disk_write write.now).sectors }
+/// The most sectors that one of the writes has.
+fn longest(writes: &[MoveWrite]) -> u64
+    ensures { All (λ w. w.count ≤ result) writes.now }
 {
-    let first = write.first as usize;
-    let end = first + write.count as usize;
-    disk[first..end].fill(Sector::filled(write.fill));
+    let mut most: u64 = 0;
+    for write in writes {
+        most = most.max(write.count);
+    }
+    most
 }
 
-/// The areas of the blocks that the writes touch.
-pub(crate) fn touched_areas(
-    alloc: Global,
-    capacity: u64,
-    writes: &[MoveWrite],
-) -> Result<Runs, NoMemory>
-    requires within { All (λ w. w.first + w.count ≤ capacity) writes.now }
-    ensures areas { IfOk result (λ areas.
-        areas ≡ areas_of capacity (touched_blocks capacity (disk_writes writes.now))) }
-    ensures spaced { IfOk result (λ areas. AreSpaced areas) }
-    ensures inside { IfOk result (λ areas. All (λ run. end_of run ≤ capacity) areas) }
-    ensures clear { IfOk result (λ areas. IsClearOutside areas (written_disk capacity writes.now)) }
+/// Applies a write by a buffer that its sectors fit into. A write without sectors changes nothing.
+fn apply(write: &MoveWrite, buffer: &mut [Sector], disk: &mut SourceDisk) -> Result<(), NoMemory>
+    requires room { write.now.count ≤ length buffer.old }
+    requires within { write.now.first + write.now.count ≤ capacity_of disk.old }
+    ensures { OnOk result ((c : ℕ) (writes : List MoveWrite) → IsWritten c writes disk.old
+        → IsWritten c (writes ++ write.now ∷ []) disk.new) }
 {
-    let flags = touched_flags(alloc, capacity, writes)?;
-    let blocks = flagged(alloc, &flags)?;
-    match Runs::from_blocks(alloc, &blocks, capacity) {
-        Ok(areas) => Ok(areas),
+    if write.count == 0 {
+        return Ok(());
+    }
+    let sectors = &mut buffer[..write.count as usize];
+    sectors.fill(Sector::filled(write.fill));
+    match disk.write(write.first, sectors) {
+        Ok(()) => Ok(()),
         Err(_) => Err(NoMemory),
     }
-}
-
-/// For each block whether a write replaces a sector of it.
-fn touched_flags(alloc: Global, capacity: u64, writes: &[MoveWrite]) -> Result<Vec<bool>, NoMemory>
-    requires within { All (λ w. w.first + w.count ≤ capacity) writes.now }
-    ensures { IfOk result (λ flags. AreFlagged capacity (disk_writes writes.now) flags.items) }
-{
-    let blocks = capacity.div_ceil(BLOCK_SECTORS);
-    let mut flags = vec![in alloc; false; blocks as usize]?;
-    for touching in writes {
-        flag(&mut flags, touching.first, touching.count);
-    }
-    Ok(flags)
-}
-
-/// Flags the blocks of a range of sectors.
-fn flag(flags: &mut [bool], first: u64, count: u64)
-    requires within { first + count ≤ BLOCK_SECTORS * length flags.old }
-    requires fits { first + count < 2 ^ 64 }
-    ensures { FlagsAfter first count flags.old flags.new }
-{
-    if count == 0 {
-        return;
-    }
-    let low = first / BLOCK_SECTORS;
-    let high = (first + count - 1) / BLOCK_SECTORS;
-    flags[low as usize..high as usize + 1].fill(true);
-}
-
-/// The numbers of the blocks that are flagged, ascending.
-fn flagged(alloc: Global, flags: &[bool]) -> Result<Vec<u64>, NoMemory>
-    ensures { IfOk result (λ blocks. blocks.items
-        ≡ filter (λ b. slice_index_or flags.now b false) (range_with_len 0 (length flags.now))) }
-{
-    let mut blocks = Vec::new(alloc);
-    for (block, flag) in flags.iter().enumerate() {
-        if *flag {
-            blocks.push(block as u64)?;
-        }
-    }
-    Ok(blocks)
 }

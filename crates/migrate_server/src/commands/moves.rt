@@ -3,20 +3,19 @@ ghost use Rattle.std.specs.Prelude.{◌≡◌, ◌+◌, ◌-◌, ◌^◌, ◌≤
 ghost use Rattle.std.specs.List.{list_all, sum_by};
 ghost use Rattle.basics.specs.Refusal.{IsRefusedBy};
 ghost use Rattle.cmd_json.specs.declared.command.Command.TheVariants.{Move};
-ghost use Rattle.sector_model.specs.Run.{AreSpaced, end_of};
-ghost use Rattle.migrate_server.specs.Copy.{IsClearOutside};
+ghost use Rattle.fleet.specs.Fleet.{FleetState};
 ghost use Rattle.migrate_server.specs.NewVolume.{CopyAnswers};
 ghost use Rattle.migrate_server.specs.Session.{serving, Answers};
+ghost use Rattle.migrate_server.specs.WrittenDisk.{AreWithin, frozen_sectors, IsFrozen};
 ghost use Rattle.migrate_server.specs.commands.Moves.{move_refusal};
 
-use crate::answer::Answer;
-use crate::copy::copy_full;
-use crate::refusal::Refusal;
-use crate::written_disk::{touched_areas, written_sectors};
+use crate::copy::{PIECE_SECTORS, copy_full};
+use crate::written_disk::WrittenDisk;
 use basics::{MAX_LOGGED_SECTORS, Name, NoMemory};
 use cmd_json::MoveWrite;
+use fleet_commands::{Answer, Refusal};
 use reply_json::Reply;
-use sector_model::{Runs, Sector};
+use sector_model::Sector;
 use std::alloc::Global;
 use target_volume::{StoreRefused, VolumeName, VolumeStore};
 
@@ -32,17 +31,20 @@ pub(crate) fn run_move<T: VolumeStore>(
     writes: &[MoveWrite],
     store: &mut T,
 ) -> Result<Answer, NoMemory>
-    ensures answer { IfOk result (λ answer. Answers (Move name sectors writes.now) answer
-        (serving (T.state store.old)) (serving (T.state store.new))) }
+    ensures answer { IfOk result (λ answer. (fleet : FleetState)
+        → Answers (Move name sectors writes.now) answer
+        (serving fleet (T.state store.old)) (serving fleet (T.state store.new))) }
     ensures err { OnErr result (T.state store.new ≡ T.state store.old) }
 {
     if let Err(why) = fits(sectors, writes) {
         return Ok(Err(why));
     }
-    let disk = written_sectors(alloc, sectors, writes)?;
-    let allocated = touched_areas(alloc, sectors, writes)?;
+    let Ok(disk) = WrittenDisk::new(alloc, sectors, writes) else {
+        return Err(NoMemory);
+    };
+    let mut buffer = vec![in alloc; Sector::filled(0); PIECE_SECTORS as usize]?;
     let name = VolumeName::Given(name);
-    match copy_to_new_volume(&disk, &allocated, &name, sectors, store) {
+    match copy_to_new_volume(&disk, &mut buffer, &name, sectors, store) {
         Ok(()) => Ok(Ok(Reply::Moved {
             writes: writes.len() as u64,
             written: sectors,
@@ -56,7 +58,7 @@ pub(crate) fn run_move<T: VolumeStore>(
 /// Whether the writes lie within a disk and are few enough, by what they are alone.
 fn fits(sectors: u64, writes: &[MoveWrite]) -> Result<(), Refusal>
     ensures refused { IsRefusedBy (move_refusal sectors writes.now) result }
-    ensures within { IfOk result (λ _. All (λ w. w.first + w.count ≤ sectors) writes.now) }
+    ensures within { IfOk result (λ _. AreWithin sectors writes.now) }
 {
     if !all_end_by(sectors, writes) {
         return Err(Refusal::Range);
@@ -69,7 +71,7 @@ fn fits(sectors: u64, writes: &[MoveWrite]) -> Result<(), Refusal>
 
 fn all_end_by(sectors: u64, writes: &[MoveWrite]) -> bool
     ensures value { result ≡ list_all (λ w. nat_le (w.first + w.count) sectors) writes.now }
-    ensures within { result ≡ true → All (λ w. w.first + w.count ≤ sectors) writes.now }
+    ensures within { result ≡ true → AreWithin sectors writes.now }
 {
     writes.iter().all(|write| ends_by(write, sectors))
 }
@@ -94,20 +96,20 @@ fn written_by(writes: &[MoveWrite]) -> u64
 /// Makes a volume, copies the disk to it, and gives it back to the store, also where the copy
 /// failed.
 fn copy_to_new_volume<T: VolumeStore>(
-    disk: &[Sector],
-    allocated: &Runs,
+    disk: &WrittenDisk,
+    buffer: &mut [Sector],
     name: &VolumeName,
     sectors: u64,
     store: &mut T,
 ) -> Result<(), StoreRefused>
-    requires sized { length disk.now ≡ sectors }
-    requires spaced { AreSpaced allocated.now }
-    requires inside { All (λ run. end_of run ≤ sectors) allocated.now }
-    requires clear { IsClearOutside allocated.now disk.now }
-    ensures { CopyAnswers disk.now name.now sectors result (T.state store.old) (T.state store.new) }
+    requires sized { length (frozen_sectors disk.now) ≡ sectors }
+    requires frozen { IsFrozen disk.now }
+    requires room { PIECE_SECTORS ≤ length buffer.old }
+    ensures { CopyAnswers (frozen_sectors disk.now) name.now sectors result
+        (T.state store.old) (T.state store.new) }
 {
     let mut volume = store.create(name, sectors)?;
-    let copied = copy_full(disk, allocated, &mut volume);
+    let copied = copy_full(disk, buffer, &mut volume);
     store.keep_back(volume);
     copied?;
     Ok(())

@@ -1,0 +1,9 @@
+pub mod Told
+pub mod Lifting
+pub mod Acting
+pub mod LogLemmas
+pub mod Asked
+pub mod Showing
+pub mod Reading
+pub mod Asking
+pub mod Snapping

@@ -1,0 +1,26 @@
+-- What a command is answered: a reply to what it asked for, or a refusal; and what it leaves.
+use Rattle.std.specs.Prelude.{◌≡◌, ℕ, List, Option, Some, None, Result, Ok, Err}
+use Rattle.reply_json.specs.Reply.{line_of}
+use Rattle.reply_json.specs.declared.reply.Reply.{Reply}
+use Rattle.fleet.specs.Fleet.{FleetState}
+use Rattle.fleet_commands.specs.Refusal.{refusal_reply}
+use Rattle.fleet_commands.specs.declared.refusal.Refusal.{Refusal}
+
+abbrev pub Answer : Type 0
+Answer = Result Reply Refusal
+
+abbrev pub reply_for : Answer → Reply
+reply_for (Ok reply) = reply
+reply_for (Err why) = refusal_reply why
+
+-- the line of the reply, with its LF
+unfoldable pub answer_line : Answer → List ℕ
+answer_line answer = line_of (reply_for answer)
+
+-- a command that has this refusal, or none, is answered so: it is refused, and changes nothing; or
+-- it has this reply, and leaves that fleet
+abbrev pub AnswersFor : (refusal : Option Refusal) → (reply : Reply) → (next : FleetState)
+    → Answer → (old new : FleetState) → Type 0
+AnswersFor refusal reply next (Ok answer) old new =
+    (refusal ≡ None) × (answer ≡ reply) × (new ≡ next)
+AnswersFor refusal reply next (Err why) old new = (refusal ≡ Some why) × (new ≡ old)

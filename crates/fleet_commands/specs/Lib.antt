@@ -1,0 +1,5 @@
+pub mod Refusal
+pub mod Answer
+pub mod Machines
+pub mod commands
+pub mod Logs
