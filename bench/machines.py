@@ -1,0 +1,92 @@
+#!/usr/bin/env python3
+"""Measures the built program on commands of machines: lines a second, each piped with its reply, and bytes of memory for
+each sector that is written, from the process's peak.
+
+Usage: bench/machines.py [LINES]. It needs Linux (VmHWM of /proc) and the built program (./warm_migrate </dev/null).
+One core: the program is pinned to core 0, what feeds and drains it to the others where there are any."""
+import os
+import pathlib
+import subprocess
+import sys
+import tempfile
+import time
+
+PROGRAM = pathlib.Path(__file__).parent.parent / "crates/migrate_main/out/migrate_main"
+LINES = int(sys.argv[1]) if len(sys.argv) > 1 else 200_000
+MACHINES = 60
+HOST = '{"cmd":"host","name":"h"}\n'
+
+
+def vm(number, sectors):
+    return f'{{"cmd":"vm","name":"a{number}","host":"h","disks":[{sectors}]}}\n'
+
+
+def write(number, first, count):
+    return f'{{"cmd":"write","vm":"a{number}","disk":0,"first":{first},"count":{count},"fill":1}}\n'
+
+
+def snapshot(number):
+    return f'{{"cmd":"snapshot","vm":"a{number}"}}\n'
+
+
+def pinned():
+    os.sched_setaffinity(0, {0})
+
+
+def run(lines):
+    """Seconds from the first line to the end, and the peak of resident memory in bytes."""
+    with tempfile.TemporaryFile() as stdin, tempfile.TemporaryFile() as stdout:
+        stdin.write("".join(lines).encode())
+        stdin.seek(0)
+        begin = time.perf_counter()
+        process = subprocess.Popen([PROGRAM], stdin=stdin, stdout=stdout, preexec_fn=pinned)
+        _, status, usage = os.wait4(process.pid, 0)
+        seconds = time.perf_counter() - begin
+        stdout.seek(0)
+        replies = stdout.read().splitlines()
+    refused = sum(reply.startswith(b'{"error"') for reply in replies)
+    if status != 0 or refused or len(replies) != len(lines):
+        sys.exit(f"bench: status {status}, {len(replies)} replies to {len(lines)} lines, {refused} refused")
+    return seconds, usage.ru_maxrss * 1024
+
+
+def measure(name, first_lines, lines):
+    """Lines a second, without the time of what has to be there first."""
+    before, _ = run(first_lines)
+    seconds, _ = run(first_lines + lines)
+    print(f"{name}: {len(lines) / (seconds - before):,.0f} a second ({len(lines)} lines)")
+
+
+def measure_writes(name, count):
+    """Each machine takes as many sectors as its log may have, 2^16, in disks of 2^20 sectors."""
+    most = min(LINES, MACHINES * (1 << 16) // count)
+    fleet = [HOST] + [vm(number, 1 << 20) for number in range(MACHINES)]
+    each = -(-most // MACHINES)
+    lines = [write(i // each, (i * count * 3) % ((1 << 20) - count), count) for i in range(most)]
+    measure(name, fleet, lines)
+
+
+def measure_showing():
+    one = [HOST, vm(0, 1 << 20), write(0, 5, 1), snapshot(0)]
+    many = [HOST, vm(0, 1 << 20)] + [write(0, block * 256, 1) for block in range(1024)] + [snapshot(0)]
+    query = '{"cmd":"query","vm":"a0","snapshot":1,"disk":0,"since":"*","start":0}\n'
+    read = '{"cmd":"read","vm":"a0","disk":0,"first":5,"count":1}\n'
+    measure("query of 1 area", one, [query] * LINES)
+    measure("query of 1,024 areas", many, [query] * (LINES // 100))
+    measure("read of 1 sector", one, [read] * LINES)
+
+
+def measure_memory():
+    """Full logs: sectors written one after another, and each in a block of its own."""
+    for name, step in (("in a row", 1), ("one a block", 128)):
+        fleet = [HOST] + [vm(number, 1 << 23) for number in range(4)]
+        lines = [write(number, at * step, 1) for number in range(4) for at in range(1 << 16)]
+        _, before = run(fleet)
+        _, peak = run(fleet + lines)
+        print(f"memory, sectors {name}: {(peak - before) / len(lines):,.0f} bytes a written sector")
+
+
+measure_writes("write of 1 sector", 1)
+measure_writes("write of 128 sectors", 128)
+measure_showing()
+measure_memory()
