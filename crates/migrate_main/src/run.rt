@@ -6,6 +6,7 @@ ghost use Rattle.migrate_main.specs.Run.{ExitsFor};
 
 use basics::NoMemory;
 use edge_traits::{MemDisk, Sink, Source};
+use fleet::machines_stay_in;
 use migrate_server::{Devices, Fleet, Gate, Status, migrate};
 use std::alloc::Global;
 use target_volume::MemVolumes;
@@ -31,6 +32,7 @@ pub(crate) fn run<H, S: Source, K: Sink>(
         return Status::NoMemory.code();
     };
     let fleet = Fleet::empty(alloc);
+    machines_stay_in();
     let outcome = migrate(
         rt,
         alloc,
