@@ -1,8 +1,8 @@
 -- The program is a function of its input: the same lines have the same replies, whatever the store
 -- does, as long as none of its calls fails.
 use Rattle.std.specs.Prelude.{◌≡◌, ◌≢◌, ℕ, List, All, Bool, Option, Some, None, is_some, Err}
-use Rattle.fleet_commands.specs.Answer.{Answer}
-use Rattle.fleet_commands.specs.declared.refusal.Refusal.TheVariants.{Volume}
+use Rattle.answers.specs.Answer.{Answer}
+use Rattle.answers.specs.declared.refusal.Refusal.TheVariants.{Volume}
 use Rattle.target_volume.specs.VolumeName.{find_volume}
 use Rattle.target_volume.specs.VolumeStore.{StoredVolume}
 use Rattle.target_volume.specs.declared.volume_name.VolumeName.{VolumeName}
