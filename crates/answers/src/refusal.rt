@@ -86,7 +86,8 @@ impl Refusal {
         Ok(Reply::Refused { error, carried })
     }
 
-    fn text(&self) -> &'static str
+    /// The text of the refusal.
+    pub fn text(&self) -> &'static str
         ensures { result.now ≡ refusal_text self.now }
     {
         match self {
@@ -141,6 +142,11 @@ impl Refusal {
 }
 
 impl fmt::Display for Refusal {
+    ghost use Rattle.std.specs.Prelude.{Some};
+    ghost use Rattle.answers.specs.Refusal.{refusal_text};
+
+    ghost output = { λ refusal. Some (refusal_text refusal) };
+
     fn fmt<W: fmt::Write>(&self, f: &mut fmt::Formatter<W>) -> fmt::Result {
         write!(f, "{}", self.text())
     }

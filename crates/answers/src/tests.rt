@@ -57,3 +57,13 @@ fn a_refusal_may_carry_its_cause(rt: HostRuntime) -> Result<(), Fail> {
     );
     Ok(())
 }
+
+#[test]
+fn a_refusal_may_carry_an_identifier(rt: HostRuntime) -> Result<(), Fail> {
+    let line = told(rt.alloc(), Refusal::Strange(None))?;
+    assert_eq!(rt;
+        line.as_slice(),
+        b"{\"error\":\"strange\",\"id\":null,\"ok\":false}\n".as_slice()
+    );
+    Ok(())
+}

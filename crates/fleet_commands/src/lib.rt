@@ -25,5 +25,6 @@ pub use listing::run_inventory;
 pub use query::{QueryLine, run_query};
 pub use read::{ReadLine, run_read};
 pub use snapshot::run_snapshot;
+pub use told::link_told;
 pub use vm::run_vm;
 pub use write::{WriteLine, run_write};

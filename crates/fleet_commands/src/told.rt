@@ -8,7 +8,7 @@ use log_model::{LinkRefused, WriteRefused};
 
 /// What a machine's refusal is told as. None for want of memory, and where the machine has to
 /// be off, which no command asks for.
-pub(crate) fn link_told(why: LinkRefused) -> Option<Refusal>
+pub fn link_told(why: LinkRefused) -> Option<Refusal>
     ensures { result ≡ link_told why }
 {
     let told = match why {
