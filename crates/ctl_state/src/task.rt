@@ -103,6 +103,7 @@ pub enum Did {
 
 /// A controller at rest: its state, the journal that the state comes from, and the store of its
 /// volumes.
+#[derive(Drop)]
 pub struct Controller<D: Disk, T: VolumeStore> {
     /// The state.
     pub state: CtlState,
