@@ -1,16 +1,16 @@
 -- Lists of records that each image has one of, across openings and crashes.
-use Rattle.std.proofs.Common.{◌≡◌, ℕ, List, [], ◌∷◌, refl, sym, ◌∙◌, ap, subst, ◌⊎◌, inl, inr}
+use Rattle.std.proofs.Common.{◌≡◌, ℕ, List, [], ◌∷◌, sym, ap, subst, inl, inr}
 use Rattle.std.specs.Prelude.{Option, Some, None, option_map, IfSome}
-use Rattle.edge_traits.specs.Disk.{DiskContents, DiskState, IsImage, IsCrashOf, WhereTold, settled, after_sync}
+use Rattle.edge_traits.specs.Disk.{DiskContents, DiskState, IsImage, WhereTold, settled, after_sync}
 use Rattle.edge_traits.proofs.Images.{settled_image, settled_consistent}
 use Rattle.record_codec.specs.declared.record.Record.{Record}
-use Rattle.journal.specs.declared.refusal.JournalRefused.{JournalRefused}
-use Rattle.journal.specs.declared.refusal.JournalRefused.TheVariants.{NotAJournal, BadRecord}
 use Rattle.journal.specs.Format.{Standing, Holds, NotAJournal as NoJournal, BadRecord as BadAt, StandsFor, StandsAs}
 use Rattle.journal.specs.Journal.{StandsForOneOf, LeavesOneOf}
-use Rattle.journal.specs.Opening.{IsOpenedAs, Opens, KeepsStanding, IsFoundAs, Refuses}
-use Rattle.journal.specs.Laws.{IsOneOf, OpensOneOf, RefusesKeep, CrashesKeep, NeverStrange}
+use Rattle.journal.specs.Opening.{IsOpenedAs, KeepsStanding, IsFoundAs}
+use Rattle.journal.specs.Unrepaired.{IsReadAs}
+use Rattle.journal.specs.Laws.{IsOneOf, OpensOneOf, ReadsOneOf, ReadsKeep, RefusesKeep, CrashesKeep, NeverStrange}
 use Rattle.journal.proofs.StandingLemmas.{stands_for_one}
+use Rattle.journal.proofs.Repairing.{reads_keep}
 
 one_of : (lists : List (List Record)) (bytes : List ℕ) (records : List Record)
     → StandsForOneOf lists bytes → StandsFor bytes (Holds records) → IsOneOf records lists
@@ -31,6 +31,15 @@ opens_one_of lists old new records leaves opens = there old.contents new.content
     there (Some c) n leaves told =
         one_of lists c.bytes records (leaves c.bytes told.possible) told.stands
 
+pub reads_one_of : ReadsOneOf
+reads_one_of lists old new records leaves reads = there old.contents leaves reads.told
+  where
+    there : (o : Option DiskContents)
+        → IfSome o (λ c. (image : List ℕ) → IsImage c image → StandsForOneOf lists image)
+        → IfSome o (IsReadAs records) → IfSome o (λ c. IsOneOf records lists)
+    there None leaves told = tt
+    there (Some c) leaves told = one_of lists c.bytes records (leaves c.bytes told.0) told.1
+
 move_one : (lists : List (List Record)) (image earlier : List ℕ) → StandsForOneOf lists earlier
     → StandsAs image earlier → StandsForOneOf lists image
 move_one [] image earlier stands as_it = stands
@@ -48,6 +57,10 @@ keeps_one lists (Some old) None leaves keeps = tt
 keeps_one lists (Some old) (Some new) leaves keeps = λ image i.
     let earlier = keeps image i in
     move_one lists image earlier.0 (leaves earlier.0 earlier.1) earlier.2
+
+pub reads_keep_them : ReadsKeep
+reads_keep_them lists old new records leaves reads =
+    keeps_one lists old.contents new.contents leaves (reads_keep old records new reads)
 
 pub refuses_keep : RefusesKeep
 refuses_keep lists old new why leaves refuses =

@@ -4,6 +4,7 @@ mod OpenCells
 mod Reading
 pub mod Keeping
 mod Loading
+mod Repairing
 pub mod Crashes
 mod Results
 mod ImageLemmas

@@ -1,30 +1,24 @@
--- What an opening answers, from what its steps do.
-use Rattle.std.proofs.Common.{◌≡◌, ◌≢◌, ℕ, ◌+◌, ◌-◌, ◌<◌, ◌≤◌, ◌%◌, List, [], ◌∷◌, ◌++◌, length, take, drop, refl, sym, ◌∙◌, ap, subst, ◌⊎◌, inl, inr, arith, append_assoc, length-append, length-take}
-use Rattle.std.specs.Prelude.{Option, Some, None, option_map, IfSome, Result, Ok, Err}
+-- What a reading answers, from what its steps do, and what the steps of a repair keep.
+use Rattle.std.proofs.Common.{◌≡◌, ℕ, ◌+◌, ◌-◌, ◌<◌, ◌≤◌, ◌%◌, List, [], ◌∷◌, ◌++◌, length, take, refl, sym, ◌∙◌, ap, subst, ◌⊎◌, inl, inr, arith, append_assoc, length-append, length-take}
+use Rattle.std.specs.Prelude.{Option, Some, None, option_map, IfSome, Ok, Err}
 use Rattle.std.specs.Option.{ForSome}
 use Rattle.std.specs.List.{AllByRecursion}
-use Rattle.std.specs.declared.vec.Vec.{Vec}
-use Rattle.std.specs.declared.alloc.Global.{Global}
 use Rattle.std.proofs.lemmas.Bool.{cases_lt}
-use Rattle.std.proofs.lemmas.List.{take-append-le, take_all}
-use Rattle.std.proofs.Math.Seq.{take-append_seam, take-append-add}
-use Rattle.basics.specs.Faults.{HasRisen}
-use Rattle.edge_traits.specs.Disk.{DiskContents, DiskState, IsImage, WhereTold, settled, after_sync}
-use Rattle.edge_traits.specs.MemDisk.{IsConsistent}
+use Rattle.std.proofs.Math.Seq.{take-append-add}
+use Rattle.edge_traits.specs.Disk.{DiskContents, DiskState, IsImage, WhereTold, after_sync}
 use Rattle.edge_traits.proofs.Images.{settled_image, settled_consistent}
 use Rattle.record_codec.specs.declared.record.Record.{Record}
 use Rattle.record_codec.specs.Record.{HasSpelling}
 use Rattle.journal.specs.declared.cells.Found.{Found}
-use Rattle.journal.specs.declared.format.TheConstants.{MAGIC, EMPTY_BYTES, MAX_BYTES, PIECE_BYTES}
+use Rattle.journal.specs.declared.format.TheConstants.{EMPTY_BYTES, MAX_BYTES, PIECE_BYTES}
 use Rattle.journal.specs.declared.refusal.JournalRefused.{JournalRefused}
 use Rattle.journal.specs.declared.refusal.JournalRefused.TheVariants.{DiskFault, NotAJournal, BadRecord, Full, NoMemory}
 use Rattle.journal.specs.Format.{Standing, Holds, NotAJournal as NoJournal, BadRecord as BadAt, StandsFor, Short, Foreign, Parsed, StandsAs, front}
 use Rattle.journal.specs.Cells.{IsFound}
-use Rattle.journal.specs.Journal.{IsKept, IsHeldOn, IsAtRest}
-use Rattle.journal.specs.Opening.{reopened, IsOpenedAs, Opens, KeepsStanding, IsOnlySynced, IsFoundAs, IsSyncedOrNot, IsFaultOffset, IsOpenOffset, FaultsAt, SaysWhy, Refuses, IsWhole, IsLoaded}
+use Rattle.journal.specs.Opening.{KeepsStanding, IsSyncedOrNot, IsFaultOffset, IsOpenOffset, Refuses, IsWhole}
+use Rattle.journal.specs.Unrepaired.{IsReadAs, IsFoundIn}
 use Rattle.journal.specs.Devices.{IsSettled, LeavesFew, LeavesCut, IsJustSynced, IsPieceOffset, IsFileRead}
-use Rattle.journal.proofs.StandingLemmas.{stands_for_one, stands_closed, closed_in, none_in_short, short_alike, HasClosed}
-use Rattle.journal.proofs.Keeping.{reopened_rests}
+use Rattle.journal.proofs.StandingLemmas.{stands_for_one, stands_closed, closed_in, none_in_short, short_alike}
 
 itself : (c : DiskContents) → IsSettled c → IsImage c c.bytes
 itself c is = subst (λ (d : DiskContents). IsImage d c.bytes) (sym is) (settled_consistent c.bytes).read
@@ -33,7 +27,7 @@ same_as : (image bytes : List ℕ) → image ≡ bytes → StandsAs image bytes
 same_as image bytes is standing stands = subst (λ (xs : List ℕ). StandsFor xs standing) (sym is) stands
 
 -- a sync keeps what the images stand for
-synced_keeps : (old new : Option DiskContents) → new ≡ option_map after_sync old
+pub synced_keeps : (old new : Option DiskContents) → new ≡ option_map after_sync old
     → IfSome old (λ c. IsImage c c.bytes) → WhereTold KeepsStanding old new
 synced_keeps None new is possible = rw is tt
 synced_keeps (Some c) new is possible =
@@ -44,7 +38,7 @@ same_keeps None new is = rw is tt
 same_keeps (Some c) new is = rw is (λ image i. (image, i, λ standing stands. stands))
 
 -- one step after another
-keeps_on : (old mid new : Option DiskContents) → WhereTold KeepsStanding old mid
+pub keeps_on : (old mid new : Option DiskContents) → WhereTold KeepsStanding old mid
     → WhereTold KeepsStanding mid new → WhereTold KeepsStanding old new
 keeps_on None None None first second = tt
 keeps_on None None (Some new) first second = second
@@ -141,6 +135,9 @@ fault_offset : (at : ℕ) → (at ≡ 0) ⊎ ((at < MAX_BYTES) × (at % PIECE_BY
 fault_offset at (inl first) = inl first
 fault_offset at (inr piece) = inr (inl piece)
 
+pub just_unwritten : (old new : DiskState) → IsJustSynced old new → IsSyncedOrNot old new
+just_unwritten old new just = inr (ap (λ (d : DiskState). d.contents) just.synced, just.possible)
+
 -- the disk could not be read
 pub unread : (why : JournalRefused) (old new : DiskState) → IsFileRead old new (Err why)
     → Refuses why old new
@@ -164,6 +161,14 @@ unread (DiskFault at) old new (rises, synced, offset, told) = record {
 }
 unread (BadRecord number) old new fact = absurd fact
 unread (Full len) old new fact = absurd fact
+
+pub unread_unwritten : (why : JournalRefused) (old new : DiskState)
+    → IsFileRead old new (Err why) → IsSyncedOrNot old new
+unread_unwritten NotAJournal old new (just, long) = just_unwritten old new just
+unread_unwritten NoMemory old new just = just_unwritten old new just
+unread_unwritten (DiskFault at) old new (rises, synced, offset, told) = synced
+unread_unwritten (BadRecord number) old new fact = absurd fact
+unread_unwritten (Full len) old new fact = absurd fact
 
 bytes_as : (standing : Standing) (old : Option DiskContents) (bytes : List ℕ) → StandsFor bytes standing
     → IfSome old (λ c. bytes ≡ c.bytes) → IfSome old (λ c. StandsFor c.bytes standing)
@@ -208,111 +213,30 @@ pub fresh_found : (bytes : List ℕ) (found : Found) → IsFound bytes (Ok found
 fresh_found bytes found (stands, end) few =
     end ∙ ap (λ (rs : List Record). length (front rs) + 1) (none_in_short bytes found.records.items few stands)
 
--- the disk that was read holds what was found
-pub found_there : (old mid : DiskState) (bytes : List ℕ) (found : Found) → IsJustSynced old mid
-    → IfSome old.contents (λ c. bytes ≡ c.bytes) → IsFound bytes (Ok found)
-    → ForSome mid.contents (λ c. StandsFor c.bytes (Holds found.records.items))
-found_there old mid bytes found just same fact =
-    there old.contents mid.contents (ap (λ (d : DiskState). d.contents) just.synced) same
-  where
-    there : (o m : Option DiskContents) → m ≡ option_map after_sync o → IfSome o (λ c. bytes ≡ c.bytes)
-        → ForSome m (λ c. StandsFor c.bytes (Holds found.records.items))
-    there None m is same c told = absurd (cc)
-    there (Some old) m is same c told =
-        let its : c ≡ after_sync old = cc in
-        let bytes_are : bytes ≡ c.bytes = same ∙ sym (ap (λ (d : DiskContents). d.bytes) its) in
-        subst (λ (xs : List ℕ). StandsFor xs (Holds found.records.items)) bytes_are fact.0
-
--- all was done
-pub loaded : (old mid new : DiskState) (bytes : List ℕ) (found : Found) → length bytes ≤ MAX_BYTES
-    → IsJustSynced old mid → IfSome old.contents (λ c. bytes ≡ c.bytes) → IsFound bytes (Ok found)
-    → new.contents ≡ option_map (λ c. settled (reopened found.records.items c.bytes)) mid.contents
-    → new.faults ≡ mid.faults → IsLoaded old new (Ok found)
-loaded old mid new bytes found small just same fact repaired faults = (
-  whole_found bytes found small fact,
-  record {
-    faults = faults ∙ ap (λ (d : DiskState). d.faults) just.synced;
-    told = told old.contents mid.contents new.contents (ap (λ (d : DiskState). d.contents) just.synced) just.possible same repaired;
-    untold = λ none. untold old.contents mid.contents new.contents (ap (λ (d : DiskState). d.contents) just.synced) repaired none;
-  },
-)
-  where
-    told : (o m n : Option DiskContents) → m ≡ option_map after_sync o → IfSome o (λ c. IsImage c c.bytes)
-        → IfSome o (λ c. bytes ≡ c.bytes)
-        → n ≡ option_map (λ c. settled (reopened found.records.items c.bytes)) m
-        → IfSome o (λ c. IsOpenedAs c found.records.items n)
-    told None m n is possible same repaired = tt
-    told (Some c) m n is possible same repaired = record {
-      possible = possible;
-      stands = subst (λ (xs : List ℕ). StandsFor xs (Holds found.records.items)) same fact.0;
-      left =
-          repaired ∙ ap (λ (x : Option DiskContents). option_map (λ (d : DiskContents). settled (reopened found.records.items d.bytes)) x) is;
-    }
-
-    untold : (o m n : Option DiskContents) → m ≡ option_map after_sync o
-        → n ≡ option_map (λ c. settled (reopened found.records.items c.bytes)) m → o ≡ None → n ≡ None
-    untold o m n is repaired none = rw (repaired, is, none) refl
-
-end_as : (at : ℕ) (old : Option DiskContents) (bytes : List ℕ) (found : Found) → IsFound bytes (Ok found)
-    → IfSome old (λ c. bytes ≡ c.bytes) → (at ≡ 0) ⊎ (at ≡ found.end) → IfSome old (IsOpenOffset at)
-end_as at None bytes found fact same offset = tt
-end_as at (Some c) bytes found fact same (inl first) = inl first
-end_as at (Some c) bytes found fact same (inr end) =
-    inr (inr (
-      found.records.items,
-      subst (λ (xs : List ℕ). StandsFor xs (Holds found.records.items)) same fact.0,
-      end ∙ fact.1,
-    ))
-
-end_offset : (at : ℕ) (found : Found) → IsWhole found → (at ≡ 0) ⊎ (at ≡ found.end) → IsFaultOffset at
-end_offset at found whole (inl first) = inl first
-end_offset at found whole (inr end) =
-    inr (inr (found.records.items, end ∙ whole.long, omega (arith, end, whole.small)))
-
-holds_there : (old : Option DiskContents) (bytes : List ℕ) (found : Found) → IsFound bytes (Ok found)
-    → IfSome old (λ c. bytes ≡ c.bytes)
-    → IfSome old (λ c. (records : List Record) × StandsFor c.bytes (Holds records))
-holds_there None bytes found fact same = tt
-holds_there (Some c) bytes found fact same =
-    (found.records.items, subst (λ (xs : List ℕ). StandsFor xs (Holds found.records.items)) same fact.0)
-
--- the repair failed
-pub unrepaired : (at : ℕ) (old mid new : DiskState) (bytes : List ℕ) (found : Found)
-    → length bytes ≤ MAX_BYTES → IsJustSynced old mid
-    → IfSome old.contents (λ c. bytes ≡ c.bytes) → IsFound bytes (Ok found)
-    → WhereTold KeepsStanding mid.contents new.contents → HasRisen mid.faults new.faults
-    → (at ≡ 0) ⊎ (at ≡ found.end) → Refuses (DiskFault at) old new
-unrepaired at old mid new bytes found small just same fact kept rises offset =
-    let faults : mid.faults ≡ old.faults = ap (λ (d : DiskState). d.faults) just.synced in
+-- what a reading found
+pub found_in : (old new : DiskState) (bytes : List ℕ) (found : Found) → length bytes ≤ MAX_BYTES
+    → IsJustSynced old new → IfSome old.contents (λ c. bytes ≡ c.bytes) → IsFound bytes (Ok found)
+    → IsFoundIn (length bytes) found old new
+found_in old new bytes found small just same fact =
+    let whole : IsWhole found = whole_found bytes found small fact in
     record {
-      cause = record {
-        rises = subst (λ (n : ℕ). HasRisen n new.faults) faults rises;
-        offset = end_offset at found (whole_found bytes found small fact) offset;
-        told_offset = end_as at old.contents bytes found fact same offset;
-        file = inr (holds_there old.contents bytes found fact same);
+      reads = record {
+        synced = just.synced;
+        spelled = whole.spelled;
+        told = told old.contents just.possible same;
       };
-      images = keeps_on old.contents mid.contents new.contents (just_keeps old mid just) kept;
+      whole = whole;
+      long = long old.contents same;
+      fresh = fresh_found bytes found fact;
     }
-
--- a journal that was opened is kept as one
-pub kept_open : (old new : DiskState) (found : Found) (opened : ℕ) → IsLoaded old new (Ok found)
-    → opened ≡ new.faults
-    → IsKept (record {
-      records = found.records.items;
-      len = found.end;
-      failure = None;
-      opened = opened;
-      disk = new;
-    })
-kept_open old new found opened (whole, opens) count = record {
-  spelled = whole.spelled;
-  long = whole.long;
-  small = whole.small;
-  licence = sym count;
-  file = held old.contents new.contents opens.told opens.untold;
-}
   where
-    held : (o n : Option DiskContents) → IfSome o (λ c. IsOpenedAs c found.records.items n)
-        → (o ≡ None → n ≡ None) → IfSome n (IsHeldOn found.records.items None)
-    held None n told untold = rw (untold refl) tt
-    held (Some c) n told untold = rw told.left (reopened_rests found.records.items c.bytes told.stands)
+    told : (o : Option DiskContents) → IfSome o (λ c. IsImage c c.bytes)
+        → IfSome o (λ c. bytes ≡ c.bytes) → IfSome o (IsReadAs found.records.items)
+    told None possible same = tt
+    told (Some c) possible same =
+        (possible, subst (λ (xs : List ℕ). StandsFor xs (Holds found.records.items)) same fact.0)
+
+    long : (o : Option DiskContents) → IfSome o (λ c. bytes ≡ c.bytes)
+        → IfSome o (λ c. length bytes ≡ length c.bytes)
+    long None same = tt
+    long (Some c) same = ap length same

@@ -5,6 +5,7 @@ use Rattle.record_codec.specs.declared.record.Record.{Record}
 use Rattle.journal.specs.Format.{Standing, StandsFor, NotAJournal as NoJournal, BadRecord as BadAt}
 use Rattle.journal.specs.Journal.{LeavesOneOf}
 use Rattle.journal.specs.Opening.{Opens, Refuses}
+use Rattle.journal.specs.Unrepaired.{Reads}
 use Rattle.journal.specs.declared.refusal.JournalRefused.{JournalRefused}
 use Rattle.journal.specs.declared.refusal.JournalRefused.TheVariants.{NotAJournal, BadRecord}
 
@@ -23,12 +24,23 @@ OpensOneOf = (lists : List (List Record)) (old new : DiskState) (records : List 
     → LeavesOneOf lists old → Opens old records new
     → IfSome old.contents (λ c. IsOneOf records lists)
 
--- a refused opening leaves no other list
+-- and so does a reading
+abbrev pub ReadsOneOf : Type 0
+ReadsOneOf = (lists : List (List Record)) (old new : DiskState) (records : List Record)
+    → LeavesOneOf lists old → Reads old records new
+    → IfSome old.contents (λ c. IsOneOf records lists)
+
+-- which leaves no other list
+abbrev pub ReadsKeep : Type 0
+ReadsKeep = (lists : List (List Record)) (old new : DiskState) (records : List Record)
+    → LeavesOneOf lists old → Reads old records new → LeavesOneOf lists new
+
+-- nor does a refused opening
 abbrev pub RefusesKeep : Type 0
 RefusesKeep = (lists : List (List Record)) (old new : DiskState) (why : JournalRefused)
     → LeavesOneOf lists old → Refuses why old new → LeavesOneOf lists new
 
--- neither does a crash
+-- nor a crash
 abbrev pub CrashesKeep : Type 0
 CrashesKeep = (lists : List (List Record)) (old new : DiskState) → LeavesOneOf lists old
     → IsCrashOf old new → LeavesOneOf lists new

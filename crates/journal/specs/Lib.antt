@@ -4,5 +4,6 @@ pub mod Cells
 pub mod Journal
 pub mod Kept
 pub mod Opening
+pub mod Unrepaired
 pub mod Devices
 pub mod Laws

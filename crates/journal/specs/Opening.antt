@@ -1,5 +1,5 @@
 -- What opening a journal answers, and what it leaves.
-use Rattle.std.specs.Prelude.{◌≡◌, ◌⊎◌, ℕ, ◌+◌, ◌%◌, ◌<◌, ◌≤◌, nat_le, if◌then◌else◌, List, [], ◌∷◌, ◌++◌, length, take, Option, Some, None, option_map, IfSome, Result, Ok, Err}
+use Rattle.std.specs.Prelude.{◌≡◌, ◌⊎◌, ℕ, ◌+◌, ◌%◌, ◌<◌, ◌≤◌, nat_le, if◌then◌else◌, List, [], ◌∷◌, ◌++◌, length, take, Option, Some, None, option_map, IfSome}
 use Rattle.std.specs.List.{AllByRecursion}
 use Rattle.basics.specs.Faults.{HasRisen}
 use Rattle.edge_traits.specs.Disk.{DiskContents, DiskState, IsImage, WhereTold, after_sync, settled}
@@ -92,8 +92,3 @@ pub record IsWhole (found : Found) : Type 0 where
   pub spelled : AllByRecursion HasSpelling found.records.items
   pub long : found.end ≡ length (front found.records.items) + 1
   pub small : found.end ≤ MAX_BYTES
-
--- what the reading and the repair of a disk answer
-abbrev pub IsLoaded : (old new : DiskState) → Result Found JournalRefused → Type 0
-IsLoaded old new (Ok found) = IsWhole found × Opens old found.records.items new
-IsLoaded old new (Err why) = Refuses why old new

@@ -1,19 +1,15 @@
 //! The journal.
-ghost use Rattle.std.specs.Prelude.{◌≡◌, ◌≤◌, ◌⊎◌, length, None, Err, option_map, MatchOption, IfOk, IfErr, OnOk, OnErr};
-ghost use Rattle.std.specs.Option.{ForSome};
-ghost use Rattle.basics.specs.Faults.{HasCause};
-ghost use Rattle.edge_traits.specs.Disk.{WhereTold, settled};
+ghost use Rattle.std.specs.Prelude.{◌≡◌, None, Err, MatchOption, IfOk, IfErr};
 ghost use Rattle.record_codec.specs.Record.{KeepsRule};
-ghost use Rattle.journal.specs.Format.{Holds, StandsFor};
 ghost use Rattle.journal.specs.Journal.{append_refusal, Appends, IsKept, LeavesOneOf, outcomes};
-ghost use Rattle.journal.specs.Opening.{Opens, Refuses, IsLoaded, IsWhole, KeepsStanding, reopened};
-ghost use Rattle.journal.specs.Devices.{IsSettled};
+ghost use Rattle.journal.specs.Opening.{Opens, Refuses};
+ghost use Rattle.journal.specs.Unrepaired.{just_opened};
 
-use crate::JournalRefused;
-use crate::cells::{Found, cell_of, read_file};
-use crate::device::{FaultAt, append_cell, create, cut_to, read_disk};
+use crate::cells::{Found, cell_of};
+use crate::device::{FaultAt, append_cell};
 use crate::failure::Failure;
-use crate::format::{CELL_BYTES, EMPTY_BYTES, MAX_BYTES};
+use crate::format::{CELL_BYTES, MAX_BYTES};
+use crate::{JournalRefused, Unrepaired};
 use edge_traits::Disk;
 use record_codec::{Record, spelled_len};
 use std::alloc::Global;
@@ -78,17 +74,24 @@ impl<D: Disk> Journal<D> {
         ensures refused { IfErr result
             (λ refused. Refuses refused.1 (D.state disk) (D.state refused.0)) }
     {
-        let mut disk = disk;
-        match load(alloc, &mut disk) {
-            Ok(found) => Ok(Journal {
-                alloc,
-                records: found.records,
-                len: found.end,
-                failure: None,
-                opened: disk.faults(),
-                disk,
-            }),
-            Err(why) => Err((disk, why)),
+        match Unrepaired::read(alloc, disk) {
+            Ok(file) => file.repair(),
+            Err(refused) => Err(refused),
+        }
+    }
+
+    /// The journal of what was found on a disk, which holds just that.
+    pub(crate) fn of(alloc: Global, found: Found, disk: D) -> Journal<D>
+        requires { IsKept (just_opened found (D.state disk)) }
+        ensures { result ≡ just_opened found (D.state disk) }
+    {
+        Journal {
+            alloc,
+            records: found.records,
+            len: found.end,
+            failure: None,
+            opened: disk.faults(),
+            disk,
         }
     }
 
@@ -155,40 +158,4 @@ fn copy_of(record: &Record) -> Result<Record, JournalRefused>
     ensures memory { IfErr result (λ refusal. refusal ≡ JournalRefused.NoMemory) }
 {
     Ok(record.clone()?)
-}
-
-/// Syncs the disk, reads the records of its file, and leaves it as a journal that can be appended
-/// to.
-fn load<D: Disk>(alloc: Global, disk: &mut D) -> Result<Found, JournalRefused>
-    ensures { IsLoaded (D.state disk.old) (D.state disk.new) result }
-{
-    let bytes = read_disk(alloc, disk)?;
-    let found = read_file(alloc, &bytes)?;
-    match repair(disk, bytes.len(), &found) {
-        Ok(()) => Ok(found),
-        Err(FaultAt(at)) => Err(JournalRefused::DiskFault { at }),
-    }
-}
-
-/// Leaves a disk of `len` bytes, in which these records were found, as their journal.
-fn repair<D: Disk>(disk: &mut D, len: usize, found: &Found) -> Result<(), FaultAt>
-    requires settled { ForSome (D.state disk.old).contents IsSettled }
-    requires long { ForSome (D.state disk.old).contents (λ c. len ≡ length c.bytes) }
-    requires whole { IsWhole found.now }
-    requires fresh { len ≤ EMPTY_BYTES → found.now.end ≡ EMPTY_BYTES }
-    requires found { ForSome (D.state disk.old).contents
-        (λ c. StandsFor c.bytes (Holds found.now.records.items)) }
-    ensures repaired { OnOk result ((D.state disk.new).contents
-        ≡ option_map (λ c. settled (reopened found.now.records.items c.bytes))
-        (D.state disk.old).contents) }
-    ensures kept { OnErr result (WhereTold KeepsStanding
-        (D.state disk.old).contents (D.state disk.new).contents) }
-    ensures cause { HasCause (D.state disk.old).faults (D.state disk.new).faults result }
-    ensures offset { IfErr result (λ fault. (fault.0 ≡ 0) ⊎ (fault.0 ≡ found.now.end)) }
-{
-    if len <= EMPTY_BYTES {
-        create(disk)
-    } else {
-        cut_to(disk, found.end as u64)
-    }
 }

@@ -12,13 +12,16 @@ mod laws;
 mod refusal;
 #[cfg(test)]
 mod tests;
+mod unrepaired;
 
 pub use edge_traits::Disk;
 pub use format::{EMPTY_BYTES, MAGIC, MAX_BYTES};
 pub use journal::Journal;
 pub use laws::{
-    a_crash_keeps_them, a_file_stands_for_one_thing, a_refused_opening_keeps_them,
-    an_opening_gives_one_of_them, their_file_is_a_journal,
+    a_crash_keeps_them, a_file_stands_for_one_thing, a_reading_gives_one_of_them,
+    a_reading_keeps_them, a_refused_opening_keeps_them, an_opening_gives_one_of_them,
+    their_file_is_a_journal,
 };
 pub use record_codec::Record;
 pub use refusal::JournalRefused;
+pub use unrepaired::Unrepaired;

@@ -2,7 +2,7 @@
 ghost use Rattle.std.specs.Prelude.{◌≡◌, ◌≤◌, length, IfOk};
 ghost use Rattle.record_codec.specs.Record.{KeepsRule};
 
-use crate::{Disk, Journal, JournalRefused, MAGIC, MAX_BYTES, Record};
+use crate::{Disk, Journal, JournalRefused, MAGIC, MAX_BYTES, Record, Unrepaired};
 use change_id::ChangeId;
 use edge_traits::{MemDisk, Pick, StopDisk};
 use record_codec::IdList;
@@ -42,6 +42,13 @@ fn bytes_of(rt: &impl Abort, alloc: Global, disk: MemDisk) -> Result<Vec<u8>, Fa
 fn opened<D: Disk + Drop>(alloc: Global, disk: D) -> Result<Journal<D>, Fail> {
     match Journal::open(alloc, disk) {
         Ok(journal) => Ok(journal),
+        Err((_, refused)) => Err(refused)?,
+    }
+}
+
+fn unrepaired<D: Disk + Drop>(alloc: Global, disk: D) -> Result<Unrepaired<D>, Fail> {
+    match Unrepaired::read(alloc, disk) {
+        Ok(file) => Ok(file),
         Err((_, refused)) => Err(refused)?,
     }
 }
@@ -90,6 +97,61 @@ fn an_odd_closed_gate_stays(rt: HostRuntime) -> Result<(), Fail> {
     let disk = MemDisk::new(rt.alloc(), b"WARMJNL1\x7fabc", 1000, &[])?;
     let bytes = bytes_of(&rt, rt.alloc(), opened(rt.alloc(), disk)?.close())?;
     assert_eq!(rt; bytes.as_slice(), b"WARMJNL1\x7f".as_slice());
+    Ok(())
+}
+
+/// A file that has a cancel, and something behind its closed gate.
+fn torn_file() -> [u8; 30] {
+    let mut file = [1; 30];
+    file[..19].copy_from_slice(&ONE_CANCEL);
+    file
+}
+
+#[test]
+fn a_file_that_is_left_keeps_its_bytes(rt: HostRuntime) -> Result<(), Fail> {
+    let torn = torn_file();
+    let files: [(&[u8], usize); 3] = [(b"abc", 0), (b"WARMJNL1\x7fabc", 0), (&torn, 1)];
+    for (file, count) in files {
+        let disk = MemDisk::new(rt.alloc(), file, 1000, &[])?;
+        let read = unrepaired(rt.alloc(), disk)?;
+        assert_eq!(rt; read.records().len(), count, "{file:?}");
+        let bytes = bytes_of(&rt, rt.alloc(), read.leave())?;
+        assert_eq!(rt; bytes.as_slice(), file);
+    }
+    Ok(())
+}
+
+#[test]
+fn a_file_that_is_read_and_repaired_is_opened(rt: HostRuntime) -> Result<(), Fail> {
+    let torn = torn_file();
+    let files: [(&[u8], &[u8]); 3] = [
+        (b"abc", b"WARMJNL1\0"),
+        (b"WARMJNL1\x7fabc", b"WARMJNL1\x7f"),
+        (&torn, &ONE_CANCEL),
+    ];
+    for (file, wanted) in files {
+        let disk = MemDisk::new(rt.alloc(), file, 1000, &[])?;
+        let read = unrepaired(rt.alloc(), disk)?;
+        let count = read.records().len();
+        let Ok(journal) = read.repair() else {
+            return Err("not repaired")?;
+        };
+        assert_eq!(rt; journal.records().len(), count, "{file:?}");
+        let bytes = bytes_of(&rt, rt.alloc(), journal.close())?;
+        assert_eq!(rt; bytes.as_slice(), wanted);
+    }
+    Ok(())
+}
+
+#[test]
+fn a_repair_that_fails_tells_its_offset(rt: HostRuntime) -> Result<(), Fail> {
+    let disk = MemDisk::new(rt.alloc(), &torn_file(), 1000, &[4])?;
+    let read = unrepaired(rt.alloc(), disk)?;
+    let Err((disk, refused)) = read.repair() else {
+        return Err("repaired")?;
+    };
+    assert_eq!(rt; refused, JournalRefused::DiskFault { at: 19 });
+    assert_eq!(rt; opened(rt.alloc(), disk)?.records().len(), 1);
     Ok(())
 }
 
@@ -243,9 +305,7 @@ fn a_stop_at_each_step_leaves_what_was_acknowledged_or_one_more(
 #[test]
 fn a_stop_while_a_torn_end_is_cut_keeps_the_records(rt: HostRuntime) -> Result<(), Fail> {
     for k in 1..4u64 {
-        let mut file = [1; 30];
-        file[..19].copy_from_slice(&ONE_CANCEL);
-        let disk = StopDisk::new(MemDisk::new(rt.alloc(), &file, 1000, &[])?, k);
+        let disk = StopDisk::new(MemDisk::new(rt.alloc(), &torn_file(), 1000, &[])?, k);
         let Err((disk, _)) = Journal::open(rt.alloc(), disk) else {
             return Err("opened")?;
         };

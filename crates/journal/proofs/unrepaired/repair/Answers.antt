@@ -1,11 +1,11 @@
-use Rattle.std.proofs.Common.{◌≡◌, ◌<◌, length, arith}
+use Rattle.std.proofs.Common.{arith}
 use Rattle.edge_traits.specs.Disk.{WhereTold}
 use Rattle.journal.specs.declared.format.TheConstants.{EMPTY_BYTES}
 use Rattle.journal.specs.Devices.{LeavesFew, LeavesCut}
 use Rattle.journal.specs.Opening.{KeepsStanding}
 use Rattle.journal.proofs.Results.{on_err_then}
 use Rattle.journal.proofs.Loading.{few_keeps, cut_keeps}
-use Rattle.journal.proofs.journal.repair.Goals as goal
+use Rattle.journal.proofs.unrepaired.repair.Goals as goal
 
 pub returns-then-len-le-EMPTY_BYTES-clause-kept : goal.returns-then-len-le-EMPTY_BYTES-clause-kept
 returns-then-len-le-EMPTY_BYTES-clause-kept g c =
