@@ -46,8 +46,8 @@ fn opened<D: Disk + Drop>(alloc: Global, disk: D) -> Result<Journal<D>, Fail> {
     }
 }
 
-fn unrepaired(alloc: Global, file: &[u8], failing: &[u64]) -> Result<Unrepaired<MemDisk>, Fail> {
-    match Unrepaired::read(alloc, MemDisk::new(alloc, file, 1000, failing)?) {
+fn unrepaired<D: Disk + Drop>(alloc: Global, disk: D) -> Result<Unrepaired<D>, Fail> {
+    match Unrepaired::read(alloc, disk) {
         Ok(file) => Ok(file),
         Err((_, refused)) => Err(refused)?,
     }
@@ -112,7 +112,8 @@ fn a_file_that_is_left_keeps_its_bytes(rt: HostRuntime) -> Result<(), Fail> {
     let torn = torn_file();
     let files: [(&[u8], usize); 3] = [(b"abc", 0), (b"WARMJNL1\x7fabc", 0), (&torn, 1)];
     for (file, count) in files {
-        let read = unrepaired(rt.alloc(), file, &[])?;
+        let disk = MemDisk::new(rt.alloc(), file, 1000, &[])?;
+        let read = unrepaired(rt.alloc(), disk)?;
         assert_eq!(rt; read.records().len(), count, "{file:?}");
         let bytes = bytes_of(&rt, rt.alloc(), read.leave())?;
         assert_eq!(rt; bytes.as_slice(), file);
@@ -129,7 +130,8 @@ fn a_file_that_is_read_and_repaired_is_opened(rt: HostRuntime) -> Result<(), Fai
         (&torn, &ONE_CANCEL),
     ];
     for (file, wanted) in files {
-        let read = unrepaired(rt.alloc(), file, &[])?;
+        let disk = MemDisk::new(rt.alloc(), file, 1000, &[])?;
+        let read = unrepaired(rt.alloc(), disk)?;
         let count = read.records().len();
         let Ok(journal) = read.repair() else {
             return Err("not repaired")?;
@@ -143,7 +145,8 @@ fn a_file_that_is_read_and_repaired_is_opened(rt: HostRuntime) -> Result<(), Fai
 
 #[test]
 fn a_repair_that_fails_tells_its_offset(rt: HostRuntime) -> Result<(), Fail> {
-    let read = unrepaired(rt.alloc(), &torn_file(), &[4])?;
+    let disk = MemDisk::new(rt.alloc(), &torn_file(), 1000, &[4])?;
+    let read = unrepaired(rt.alloc(), disk)?;
     let Err((disk, refused)) = read.repair() else {
         return Err("repaired")?;
     };
