@@ -1,5 +1,5 @@
 -- The same lines have the same answers, as long as the store fails in none.
-use Rattle.std.proofs.Common.{◌≡◌, ◌≢◌, ℕ, ◌/◌, Bool, true, false, List, [], ◌∷◌, Option, Some, None, Result, Ok, Err, option_map, if◌then◌else◌, inl, inr, refl, sym, ap, subst, ◌∙◌}
+use Rattle.std.proofs.Common.{◌≡◌, ◌≢◌, ◌⊎◌, ℕ, ◌/◌, Bool, true, false, List, [], ◌∷◌, Option, Some, None, Result, Ok, Err, option_map, if◌then◌else◌, inl, inr, refl, sym, ap, subst, ◌∙◌}
 use Rattle.std.specs.Prelude.{MatchOption, IfSome, is_some}
 use Rattle.std.specs.BTreeMap.{is_at}
 use Rattle.std.proofs.lemmas.List.Elements.{All-head, All-tail}
@@ -128,14 +128,14 @@ IsNoMove _ = Unit {0}
 pub late_by_fleet : (command : Command) → IsNoMove command → (a b : Option Refusal)
     (one other : State) → other.fleet ≡ one.fleet → LateRefusal command a one
     → LateRefusal command b other → b ≡ a
-late_by_fleet (Move name sectors writes) no a b one other same h k = absurd no
-late_by_fleet (Query vm snapshot disk since start) no a b one other same h k =
+late_by_fleet (Move name sectors writes) moves a b one other same h k = absurd moves
+late_by_fleet (Query vm snapshot disk since start) moves a b one other same h k =
     k.2
     ∙ ap (λ (asked : Result Since IdRefused). query_refusal vm snapshot disk asked start other.fleet)
     (asks_for_one since k.0 h.0 k.1 h.1)
     ∙ ap (λ (f : FleetState). query_refusal vm snapshot disk h.0 start f) same
     ∙ sym h.2
-late_by_fleet _ no a b one other same h k = k ∙ sym h
+late_by_fleet _ moves a b one other same h k = k ∙ sym h
 
 late_alike : (command : Command) (a b : Option Refusal) (one other : State) → Agree one other
     → LateRefusal command a one → LateRefusal command b other → b ≡ a

@@ -82,10 +82,10 @@ move_leaves name sectors writes (Err why) old new h =
 
 plain : (command : Command) → IsNoMove command → (answer : Answer) (old new : State)
     → Answers command answer old new → Plain command answer old new
-plain command no (Ok reply) old new h = h
-plain command no (Err why) old new (inl same) = same
-plain (Move name sectors writes) no (Err why) old new (inr fails) = absurd no
-plain _ no (Err why) old new (inr fails) = absurd fails.2
+plain command moves (Ok reply) old new h = h
+plain command moves (Err why) old new (inl same) = same
+plain (Move name sectors writes) moves (Err why) old new (inr fails) = absurd moves
+plain _ moves (Err why) old new (inr fails) = absurd fails.2
 
 fleets_left : (command : Command) (one other one_after other_after : State)
     → other.fleet ≡ one.fleet → BothLeft command one other one_after other_after
@@ -100,10 +100,10 @@ no_move_alike : (command : Command) → IsNoMove command → (a b : Answer)
     (one other one_after other_after : State) → other.fleet ≡ one.fleet
     → Answers command a one one_after → Answers command b other other_after
     → (b ≡ a) × (other_after.fleet ≡ one_after.fleet)
-no_move_alike command no a b one other one_after other_after same h k =
+no_move_alike command other_kind a b one other one_after other_after same h k =
     let both = plain_alike command a b one other one_after other_after same
-    (one_refusal command one other same (λ x y. late_by_fleet command no x y one other same))
-    (plain command no a one one_after h) (plain command no b other other_after k) in
+    (one_refusal command one other same (λ x y. late_by_fleet command other_kind x y one other same))
+    (plain command other_kind a one one_after h) (plain command other_kind b other other_after k) in
     (both.0, fleets_left command one other one_after other_after same both.1)
 
 -- ---- a line

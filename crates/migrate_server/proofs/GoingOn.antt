@@ -1,9 +1,9 @@
 -- The fleet goes on with each command, and so with a session.
-use Rattle.std.proofs.Common.{◌≡◌, ℕ, ◌-◌, ◌<◌, false, List, [], ◌∷◌, ◌++◌, length, take, Option, Some, None, slice_get, refl, sym, ap, subst, ◌∙◌}
+use Rattle.std.proofs.Common.{◌≡◌, ℕ, ◌≤◌, false, List, [], ◌∷◌, ◌++◌, length, take, Option, Some, None, slice_get, refl, sym, ap, subst, ◌∙◌, arith}
 use Rattle.std.specs.Prelude.{unwrap_or}
 use Rattle.std.specs.Option.{option_map_or}
 use Rattle.std.proofs.Math.Seq.{take-length}
-use Rattle.std.proofs.lemmas.List.{take_at}
+use Rattle.std.proofs.lemmas.List.{length-take, take-take, take_at}
 use Rattle.std.proofs.lemmas.Option.{slice_get_within}
 use Rattle.basics.proofs.ItemAt.{slice_get-front}
 use Rattle.cmd_json.specs.declared.command.Command.{Command}
@@ -29,6 +29,9 @@ use Rattle.migrate_server.proofs.EachCommand.{session_keeps}
 
 -- ---- the laws of a fleet
 
+vm_stays : (vm : VmState) → VmGoesOn vm vm
+vm_stays vm = record { name = refl; host = refl; capacities = refl; log = take-length vm.log }
+
 vm_further : (first second third : VmState) → VmGoesOn first second → VmGoesOn second third
     → VmGoesOn first third
 vm_further first second third p q = record {
@@ -40,7 +43,12 @@ vm_further first second third p q = record {
 
 goes_on_further : GoesOnFurther
 goes_on_further first second third p q = record {
-  hosts = grind arith;
+  hosts =
+      let count = length first.hosts in
+      let fits : count ≤ length second.hosts =
+      omega (arith, ap length p.hosts, length-take count second.hosts) in
+      sym (take-take count (length second.hosts) third.hosts fits)
+      ∙ ap (take count) q.hosts ∙ p.hosts;
   vms = λ place vm at.
       let mid = p.vms place vm at in
       let last = q.vms place mid.0 mid.1 in
@@ -60,7 +68,7 @@ added_goes_on added fleet = record {
   vms = λ place vm at.
       let front = slice_get-front fleet.vms (added ∷ []) place
       (slice_get_within fleet.vms place vm at) in
-      (vm, front ∙ at, ((goes_on_itself fleet).vms place vm at).2);
+      (vm, front ∙ at, vm_stays vm);
 }
 
 vms_go_on : VmsGoOn

@@ -2,6 +2,7 @@
 use Rattle.std.proofs.Common.{◌≡◌, ◌⊎◌, ℕ, ◌+◌, ◌-◌, ◌<◌, ◌≤◌, Bool, true, false, nat_le, List, [], ◌∷◌, ◌++◌, length, take, get_or, Option, inl, inr, refl, sym, ap, subst, append_assoc, ◌∙◌, arith}
 use Rattle.std.specs.List.{flat_map}
 use Rattle.std.specs.Io.KnownBytes.{IsAtEnd}
+use Rattle.std.proofs.lemmas.Bool.{leb-true, leb-false}
 use Rattle.std.proofs.lemmas.List.{append-nil, length-append, length-take-le, take_at, get_or-take, get_or_append_left}
 use Rattle.std.proofs.Math.Seq.{get_or-append_seam}
 use Rattle.fleet_commands.specs.Answer.{answer_line}
@@ -53,13 +54,14 @@ no_further lines more others others_more same (inr quit) last =
     by (nat_le (length others) (length lines)) refl
   where
     by : (b : Bool) → nat_le (length others) (length lines) ≡ b → length others ≤ length lines
-    by true is = grind (arith, is)
+    by true is = leb-true (length others) (length lines) is
     by false is =
         let before = quit.0 in
         let line = quit.1 in
         let long : length lines ≡ length before + 1 =
         omega (arith, ap length quit.2, length-append before (line ∷ [])) in
-        let further : length lines < length others = grind (arith, is) in
+        let further : length lines < length others =
+        leb-false (length others) (length lines) is in
         absurd (ends_there before more others others_more line
         (ap (λ (l : List (List ℕ)). l ++ more) (sym quit.2) ∙ same) quit.3 last
         (omega (arith, long, further)))
