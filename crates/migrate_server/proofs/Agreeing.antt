@@ -1,5 +1,5 @@
 -- The same lines have the same answers, as long as the store fails in none.
-use Rattle.std.proofs.Common.{◌≡◌, ◌≢◌, ◌⊎◌, ℕ, ◌/◌, Bool, true, false, List, [], ◌∷◌, Option, Some, None, Result, Ok, Err, option_map, if◌then◌else◌, inl, inr, refl, sym, ap, subst, ◌∙◌}
+use Rattle.std.proofs.Common.{◌≡◌, ◌≢◌, ◌⊎◌, ℕ, Bool, true, false, List, [], ◌∷◌, Option, Some, None, Result, Ok, Err, option_map, if◌then◌else◌, inl, inr, refl, sym, ap, subst, ◌∙◌}
 use Rattle.std.specs.Prelude.{MatchOption, IfSome, is_some}
 use Rattle.std.specs.BTreeMap.{is_at}
 use Rattle.std.proofs.lemmas.List.Elements.{All-head, All-tail}
@@ -11,7 +11,7 @@ use Rattle.cmd_json.specs.declared.command.Command.{Command}
 use Rattle.cmd_json.specs.declared.command.Command.TheVariants.{Move, Query}
 use Rattle.fleet.specs.Fleet.{FleetState}
 use Rattle.fleet_commands.specs.Answer.{Answer}
-use Rattle.fleet_commands.specs.commands.Query.{AsksSince, QueryRefusal, QueryReplies, query_refusal, query_reply}
+use Rattle.fleet_commands.specs.commands.Query.{query_refusal, query_reply}
 use Rattle.fleet_commands.proofs.Asked.{asks_for_one}
 use Rattle.fleet_commands.specs.declared.refusal.Refusal.{Refusal}
 use Rattle.fleet_commands.specs.declared.refusal.Refusal.TheVariants.{NameTaken, Volume}
@@ -23,7 +23,6 @@ use Rattle.target_volume.specs.declared.volume_name.VolumeName.TheVariants.{Give
 use Rattle.target_volume.proofs.NameLemmas.{exact_volumes, find-with_same}
 use Rattle.target_volume.proofs.PairLemmas.{lookup-insert_entry_other}
 use Rattle.migrate_server.specs.Laws.{HaveSameNames, Agree, NoneFails}
-use Rattle.migrate_server.specs.Line.{Means}
 use Rattle.migrate_server.specs.Session.{State, serving, refusal_of, LateRefusal, HasRefusal, reply_of, Replies, state_after, Answers, LineAnswers, Step, Session}
 use Rattle.migrate_server.specs.commands.Moves.{name_refusal, moved_volume}
 use Rattle.migrate_server.specs.declared.line.Line.{Line}

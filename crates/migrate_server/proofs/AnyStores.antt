@@ -1,11 +1,10 @@
 -- Over any two stores the same lines have the same answers, but for moves that one of them refuses.
-use Rattle.std.proofs.Common.{◌≡◌, ◌⊎◌, ℕ, List, [], ◌∷◌, Option, Some, None, Result, Ok, Err, inl, inr, sym, ap, subst, ◌∙◌}
+use Rattle.std.proofs.Common.{◌≡◌, ◌⊎◌, ℕ, List, [], ◌∷◌, Option, Some, None, Ok, Err, inl, inr, sym, ap, subst, ◌∙◌}
 use Rattle.std.specs.Prelude.{MatchOption}
 use Rattle.std.proofs.lemmas.Option.{none-some, same_Some}
 use Rattle.cmd_json.specs.declared.command.Command.{Command}
 use Rattle.cmd_json.specs.declared.command.Command.TheVariants.{Move}
 use Rattle.cmd_json.specs.declared.command.MoveWrite.{MoveWrite}
-use Rattle.fleet.specs.Fleet.{FleetState}
 use Rattle.fleet_commands.specs.Answer.{Answer}
 use Rattle.fleet_commands.specs.declared.refusal.Refusal.{Refusal}
 use Rattle.fleet_commands.specs.declared.refusal.Refusal.TheVariants.{NameTaken, Volume}
@@ -13,7 +12,7 @@ use Rattle.reply_json.specs.declared.reply.Reply.{Reply}
 use Rattle.target_volume.specs.VolumeStore.{StoreState}
 use Rattle.migrate_server.specs.Laws.{IsByStore, AreAlike, AllAlike}
 use Rattle.migrate_server.specs.Line.{Means}
-use Rattle.migrate_server.specs.Session.{State, state_after, Answers, LineAnswers, Step, Session}
+use Rattle.migrate_server.specs.Session.{State, Answers, LineAnswers, Step, Session}
 use Rattle.migrate_server.specs.commands.Moves.{move_refusal, MoveRefusal, move_reply}
 use Rattle.migrate_server.specs.declared.line.Line.{Line}
 use Rattle.migrate_server.specs.declared.line.Line.TheVariants.{Blank, Asks, Refuses}

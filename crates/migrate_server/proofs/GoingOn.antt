@@ -1,5 +1,5 @@
 -- The fleet goes on with each command, and so with a session.
-use Rattle.std.proofs.Common.{◌≡◌, ℕ, ◌≤◌, false, List, [], ◌∷◌, ◌++◌, length, take, Option, Some, None, slice_get, refl, sym, ap, subst, ◌∙◌, arith}
+use Rattle.std.proofs.Common.{◌≡◌, ℕ, ◌≤◌, false, List, [], ◌∷◌, ◌++◌, length, take, Option, Some, None, refl, sym, ap, subst, ◌∙◌, arith}
 use Rattle.std.specs.Prelude.{unwrap_or}
 use Rattle.std.specs.Option.{option_map_or}
 use Rattle.std.proofs.Math.Seq.{take-length}
@@ -12,7 +12,7 @@ use Rattle.log_model.specs.declared.entry.Act.{Act}
 use Rattle.log_model.specs.declared.entry.Entry.{Entry}
 use Rattle.log_model.proofs.LinkLaws.{prefix-join}
 use Rattle.source_vm.specs.Machine.{MachineState}
-use Rattle.fleet.specs.Fleet.{VmState, FleetState, host_place, with_vm, with_host, with_vm_under, with_log, VmGoesOn, FleetGoesOn}
+use Rattle.fleet.specs.Fleet.{VmState, FleetState, host_place, with_vm, with_log, VmGoesOn, FleetGoesOn}
 use Rattle.fleet.specs.Laws.{GoesOnFurther, HostsGoOn, VmsGoOn}
 use Rattle.fleet.proofs.Found.{logs_go_on}
 use Rattle.fleet.proofs.Logs.{goes_on_itself}

@@ -1,5 +1,5 @@
 -- What the commands of a session make of the logs of the fleet, and that its machines stay in.
-use Rattle.std.proofs.Common.{◌≡◌, ℕ, ◌-◌, Bool, true, false, List, [], ◌∷◌, ◌++◌, Option, Some, None, Result, Ok, Err, if◌then◌else◌, inl, inr, refl, sym, ap, subst, ◌∙◌, arith}
+use Rattle.std.proofs.Common.{◌≡◌, ℕ, ◌-◌, true, false, List, [], ◌∷◌, ◌++◌, Option, Some, None, Result, Ok, Err, refl, sym, ap, subst, ◌∙◌, arith}
 use Rattle.std.specs.Prelude.{MatchOption, IsSome, All, unwrap_or}
 use Rattle.std.specs.Option.{option_map_or}
 use Rattle.std.proofs.lemmas.Option.{get_or_from_slice_get, slice_get_within}
@@ -7,7 +7,7 @@ use Rattle.std.proofs.lemmas.List.{append-nil}
 use Rattle.std.proofs.lemmas.List.Elements.{All-append, All-cons, All-set}
 use Rattle.cmd_json.specs.Line.{command_of}
 use Rattle.cmd_json.specs.declared.command.Command.{Command}
-use Rattle.cmd_json.specs.declared.command.Command.TheVariants.{Move, Quit, Host, Vm, Enable, Write, Snapshot, Remove, Query, Read, Power, Reset, Inventory, Plan, Start, Run, Cutover, Cancel, Status, Target, Digest, Restart}
+use Rattle.cmd_json.specs.declared.command.Command.TheVariants.{Host, Vm, Enable, Write, Snapshot, Remove, Power, Reset}
 use Rattle.cmd_json.specs.declared.refusal.CmdRefused.{CmdRefused}
 use Rattle.log_model.specs.declared.entry.Act.{Act}
 use Rattle.log_model.specs.declared.entry.Entry.{Entry}
@@ -22,15 +22,14 @@ use Rattle.fleet_commands.specs.Machines.{machine_named, after_act}
 use Rattle.fleet_commands.specs.commands.Deed.{act_of}
 use Rattle.fleet_commands.specs.commands.Snapshot.{snap_act}
 use Rattle.fleet_commands.specs.commands.Write.{fill_act}
-use Rattle.fleet_commands.specs.declared.deed.Deed.{Deed}
 use Rattle.fleet_commands.specs.declared.deed.Deed.TheVariants as deed
 use Rattle.fleet_commands.specs.declared.host.TheConstants.{DEFAULT_HOST_LIMIT}
 use Rattle.fleet_commands.specs.declared.refusal.Refusal.{Refusal}
 use Rattle.fleet_commands.specs.declared.refusal.Refusal.TheVariants.{UnknownVm}
 use Rattle.fleet_commands.proofs.LogLemmas.{acts_add_there, hosts_add_none, vms_add_none, acts_keep_in}
 use Rattle.reply_json.specs.declared.reply.Reply.{Reply}
-use Rattle.migrate_server.specs.Line.{AsksFor, Means}
-use Rattle.migrate_server.specs.Session.{State, power_deed, refusal_of, LateRefusal, HasRefusal, state_after, Answers, LineAnswers, Session}
+use Rattle.migrate_server.specs.Line.{Means}
+use Rattle.migrate_server.specs.Session.{State, power_deed, refusal_of, LateRefusal, state_after, LineAnswers, Session}
 use Rattle.migrate_server.specs.Sources.{entries_asked, log_after}
 use Rattle.migrate_server.specs.declared.line.Line.{Line}
 use Rattle.migrate_server.specs.declared.line.Line.TheVariants.{Blank, Asks, Refuses}

@@ -33,12 +33,12 @@ use Rattle.migrate_server.specs.declared.serve.Stop.{Stop}
 use Rattle.migrate_server.specs.declared.serve.Stop.TheVariants.{WriteFault, NoMemory}
 use Rattle.migrate_server.specs.EndsFor.{EndsFor, TellsUsage, usage_line}
 use Rattle.migrate_server.specs.declared.line.TheConstants.{LINE_LIMIT}
-use Rattle.fleet_commands.specs.Answer.{Answer, answer_line, reply_for}
-use Rattle.migrate_server.specs.Line.{AsksToQuit, Means, line_refusal, refused_by, quits, is_space, is_blank, is_lf, lines_of, ended_lines, before_first_line, requests_among}
+use Rattle.fleet_commands.specs.Answer.{Answer, answer_line}
+use Rattle.migrate_server.specs.Line.{AsksToQuit, Means, refused_by, quits, is_space, is_blank, is_lf, lines_of, ended_lines, before_first_line, requests_among}
 use Rattle.migrate_server.specs.LineBuffer.{Holds}
 use Rattle.migrate_server.specs.Reader.{ReaderState, HasNoLf, IsIdle, TakesLine, TakesEnd, HasNoLine, budget}
 use Rattle.migrate_server.specs.Serve.{IsAnswered, HasReply, TellsQuit, ServesLine, FailsInReply, LacksReply, LacksBytes, bytes_of_reply, stop_without_line, stop_without_reply, status_of}
-use Rattle.migrate_server.specs.Serves.{Serves, NoneQuits, QuitsLast, EndsByQuit}
+use Rattle.migrate_server.specs.Serves.{Serves, NoneQuits, QuitsLast}
 use Rattle.migrate_server.specs.Session.{State, state_of, Session, Step}
 use Rattle.migrate_server.specs.World.{World}
 use Rattle.migrate_server.proofs.Complete.{session_complete, session_sound, no_volume}

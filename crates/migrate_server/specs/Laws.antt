@@ -1,7 +1,7 @@
 -- The program is a function of its input: the same lines have the same replies, whatever the store
 -- does, as long as none of its calls fails. A store has a say in no other answers than those to
 -- moves.
-use Rattle.std.specs.Prelude.{◌≡◌, ◌≢◌, ◌⊎◌, ℕ, List, [], ◌∷◌, ◌++◌, All, Bool, Option, Some, None, is_some, Err}
+use Rattle.std.specs.Prelude.{◌≡◌, ◌≢◌, ◌⊎◌, ℕ, List, [], ◌∷◌, ◌++◌, All, Option, Some, is_some, Err}
 use Rattle.cmd_json.specs.declared.command.Command.TheVariants.{Move}
 use Rattle.cmd_json.specs.declared.command.MoveWrite.{MoveWrite}
 use Rattle.fleet_commands.specs.Answer.{Answer}
