@@ -101,7 +101,8 @@ no_move_alike : (command : Command) → IsNoMove command → (a b : Answer)
     → (b ≡ a) × (other_after.fleet ≡ one_after.fleet)
 no_move_alike command other_kind a b one other one_after other_after same h k =
     let both = plain_alike command a b one other one_after other_after same
-    (one_refusal command one other same (λ x y. late_by_fleet command other_kind x y one other same))
+    (one_refusal command one other same
+    (λ x y. late_by_fleet command other_kind x y one other same))
     (plain command other_kind a one one_after h) (plain command other_kind b other other_after k) in
     (both.0, fleets_left command one other one_after other_after same both.1)
 
@@ -116,7 +117,8 @@ line_alike line (Refuses why) a b one other one_after other_after means same h k
   inl (k.0 ∙ sym h.0),
   ap (λ (s : State). s.fleet) k.1 ∙ same ∙ sym (ap (λ (s : State). s.fleet) h.1),
 )
-line_alike line (Asks (Move name sectors writes)) a b one other one_after other_after means same h k =
+line_alike line (Asks (Move name sectors writes)) a b one other one_after other_after means same
+    h k =
     let alike = moves_alike (move_refusal sectors writes) (move_reply sectors writes) a b
     (move_answer name sectors writes a one one_after h)
     (move_answer name sectors writes b other other_after k) in (

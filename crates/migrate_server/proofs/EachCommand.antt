@@ -31,7 +31,8 @@ line_stays (Refuses other) why old new h = ap (λ (s : State). s.fleet) h.1
 
 -- ---- what each command keeps
 
-module _ (Keeps : (old new : FleetState) → Type 0) (itself : (fleet : FleetState) → Keeps fleet fleet)
+module _ (Keeps : (old new : FleetState) → Type 0)
+    (itself : (fleet : FleetState) → Keeps fleet fleet)
     (further : (first second third : FleetState) → Keeps first second → Keeps second third
     → Keeps first third)
     (each : (command : Command) (s : State) → Keeps s.fleet (state_after command s).fleet) where

@@ -12,7 +12,7 @@ use Rattle.log_model.specs.declared.entry.Act.{Act}
 use Rattle.log_model.specs.declared.entry.Entry.{Entry}
 use Rattle.log_model.proofs.LinkLaws.{prefix-join}
 use Rattle.source_vm.specs.Machine.{MachineState}
-use Rattle.fleet.specs.Fleet.{VmState, FleetState, host_place, with_vm, with_log, VmGoesOn, FleetGoesOn}
+use Rattle.fleet.specs.Fleet.{HostState, VmState, FleetState, host_place, with_vm, with_log, VmGoesOn, FleetGoesOn}
 use Rattle.fleet.specs.Laws.{GoesOnFurther, HostsGoOn, VmsGoOn}
 use Rattle.fleet.proofs.Found.{logs_go_on}
 use Rattle.fleet.proofs.Logs.{goes_on_itself}
@@ -57,7 +57,9 @@ goes_on_further first second third p q = record {
 
 hosts_go_on : HostsGoOn
 hosts_go_on name limit fleet = record {
-  hosts = take_at fleet.hosts (record { name = name; limit = limit } ∷ []) (length fleet.hosts) refl;
+  hosts =
+      let added : HostState = record { name = name; limit = limit } in
+      take_at fleet.hosts (added ∷ []) (length fleet.hosts) refl;
   vms = (goes_on_itself fleet).vms;
 }
 

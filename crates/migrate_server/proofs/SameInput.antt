@@ -48,8 +48,13 @@ no_further : (lines more others others_more : List (List ℕ))
     → lines ++ more ≡ others ++ others_more → Ends lines more → QuitsLast others
     → length others ≤ length lines
 no_further lines more others others_more same (inl none) last =
-    omega (arith, ap length same, length-append lines more, length-append others others_more,
-    ap length none)
+    omega (
+      arith,
+      ap length same,
+      length-append lines more,
+      length-append others others_more,
+      ap length none,
+    )
 no_further lines more others others_more same (inr quit) last =
     by (nat_le (length others) (length lines)) refl
   where
