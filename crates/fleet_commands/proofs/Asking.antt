@@ -18,11 +18,11 @@ use Rattle.log_model.proofs.LinkLaws.{calls_alone}
 use Rattle.log_model.specs.declared.entry.TheConstants.{MIGRATION_CALLER}
 use Rattle.source_vm.specs.Machine.{MachineState, link_of, may_have_disks}
 use Rattle.fleet.specs.Fleet.{FleetState}
-use Rattle.fleet_commands.specs.Answer.{AnswersFor}
+use Rattle.answers.specs.Answer.{AnswersFor}
 use Rattle.fleet_commands.specs.Machines.{machine_named}
-use Rattle.fleet_commands.specs.Refusal.{link_told}
+use Rattle.fleet_commands.specs.Told.{link_told}
 use Rattle.fleet_commands.specs.commands.Query.{since_refusal, since_reply, page_reply, areas_or_none, query_refusal, query_reply, PageAnswers}
-use Rattle.fleet_commands.specs.declared.refusal.Refusal.{Refusal}
+use Rattle.answers.specs.declared.refusal.Refusal.{Refusal}
 use Rattle.fleet_commands.proofs.Lifting.{refused_as, replied_as}
 use Rattle.fleet_commands.proofs.Showing.{FitsInBytes, accepted_none, refused_some, none_accepted, is_answered, has_id, page_fits, untold_none}
 

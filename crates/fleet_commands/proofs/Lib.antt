@@ -1,4 +1,4 @@
-pub mod Told
+pub mod Telling
 pub mod Lifting
 pub mod Acting
 pub mod LogLemmas

@@ -17,8 +17,8 @@ use Rattle.fleet.proofs.Logs.{at_place, found_changed, log_is, same_is_nothing}
 use Rattle.fleet.proofs.Found.{lowers_what_was_lifted}
 use Rattle.fleet.proofs.StaysSound.{IsVm-at}
 use Rattle.fleet_commands.specs.Machines.{machine_named, at_machine, reply_at, entry_of, after_act}
-use Rattle.fleet_commands.specs.declared.refusal.Refusal.{Refusal}
-use Rattle.fleet_commands.specs.declared.refusal.Refusal.TheVariants.{UnknownVm}
+use Rattle.answers.specs.declared.refusal.Refusal.{Refusal}
+use Rattle.answers.specs.declared.refusal.Refusal.TheVariants.{UnknownVm}
 
 -- ---- by number
 

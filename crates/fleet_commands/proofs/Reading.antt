@@ -4,11 +4,11 @@ use Rattle.sector_model.specs.declared.sector.Sector.{Sector}
 use Rattle.log_model.specs.declared.refusals.LinkRefused.{LinkRefused}
 use Rattle.source_vm.specs.Machine.{MachineState}
 use Rattle.fleet.specs.Fleet.{FleetState, vm_number, machine_of}
-use Rattle.fleet_commands.specs.Answer.{AnswersFor}
+use Rattle.answers.specs.Answer.{AnswersFor}
 use Rattle.fleet_commands.specs.Machines.{machine_named}
-use Rattle.fleet_commands.specs.Refusal.{link_told}
+use Rattle.fleet_commands.specs.Told.{link_told}
 use Rattle.fleet_commands.specs.commands.Read.{refusal_at, disk_at, sectors_reply, read_refusal, read_reply, Reads}
-use Rattle.fleet_commands.specs.declared.refusal.Refusal.{Refusal}
+use Rattle.answers.specs.declared.refusal.Refusal.{Refusal}
 use Rattle.fleet_commands.proofs.Lifting.{refused_as, replied_as}
 use Rattle.fleet_commands.proofs.Showing.{accepted_none, refused_some}
 

@@ -14,13 +14,13 @@ use Rattle.log_model.specs.declared.refusals.LinkRefused.TheVariants.{NoMemory}
 use Rattle.source_vm.specs.Machine.{MachineState, link_of}
 use Rattle.fleet.specs.Fleet.{FleetState}
 use Rattle.fleet.specs.Lending.{after_lift, after_lower, MayGoBack}
-use Rattle.fleet_commands.specs.Answer.{AnswersFor}
+use Rattle.answers.specs.Answer.{AnswersFor}
 use Rattle.fleet_commands.specs.Machines.{machine_named, entry_of}
-use Rattle.fleet_commands.specs.Refusal.{link_told}
+use Rattle.fleet_commands.specs.Told.{link_told}
 use Rattle.fleet_commands.specs.commands.Snapshot.{snap_act, ids_at, next_snapshot, snapshot_refusal, snapshot_reply, after_snapshot}
-use Rattle.fleet_commands.specs.declared.refusal.Refusal.{Refusal}
+use Rattle.answers.specs.declared.refusal.Refusal.{Refusal}
 use Rattle.fleet_commands.proofs.Lifting.{refused_as, replied_as, longer_may_go_back, goes_back_same, goes_back_after}
-use Rattle.fleet_commands.proofs.Told.{told_none, told_some}
+use Rattle.fleet_commands.proofs.Telling.{told_none, told_some}
 
 module _ (vm : List ℕ) (m : MachineState) (fleet : FleetState)
     (is : machine_named vm fleet ≡ Some m) (link : LinkState) (result : Result ℕ LinkRefused)

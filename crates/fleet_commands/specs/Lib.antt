@@ -1,5 +1,4 @@
-pub mod Refusal
-pub mod Answer
+pub mod Told
 pub mod Machines
 pub mod commands
 pub mod Logs

@@ -4,11 +4,12 @@ ghost use Rattle.basics.specs.Refusal.{IsRefusedOr};
 ghost use Rattle.log_model.specs.Link.{AddsAct, log_met};
 ghost use Rattle.log_model.specs.declared.entry.TheConstants.{MIGRATION_CALLER};
 ghost use Rattle.log_model.specs.declared.refusals.LinkRefused.TheVariants as refusals;
-ghost use Rattle.fleet_commands.specs.Answer.{AnswersFor};
+ghost use Rattle.answers.specs.Answer.{AnswersFor};
 ghost use Rattle.fleet_commands.specs.commands.Deed.{act_of, refusal_by, deed_refusal, deed_reply, after_deed};
 
 use crate::machines::take_out;
-use crate::{Answer, Refusal};
+use crate::told::link_told;
+use answers::{Answer, Refusal};
 use basics::{Name, NoMemory};
 use fleet::Fleet;
 use log_model::{Link, LinkRefused, Owner};
@@ -73,6 +74,6 @@ pub fn run_deed(fleet: &mut Fleet, vm: &Name, deed: Deed) -> Result<Answer, NoMe
     fleet.lower(link);
     match done {
         Ok(()) => Ok(Ok(Reply::Done)),
-        Err(why) => Ok(Err(Refusal::of_link(why).ok_or(NoMemory)?)),
+        Err(why) => Ok(Err(link_told(why).ok_or(NoMemory)?)),
     }
 }

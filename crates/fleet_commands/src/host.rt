@@ -3,10 +3,11 @@ ghost use Rattle.std.specs.Prelude.{◌≡◌, IfOk, IfSome, OnErr};
 ghost use Rattle.basics.specs.Spelled.{IsName};
 ghost use Rattle.basics.specs.declared.limits.TheConstants.{MAX_HOST_LIMIT};
 ghost use Rattle.cmd_json.specs.Range.{IsWithin};
-ghost use Rattle.fleet_commands.specs.Answer.{AnswersFor};
+ghost use Rattle.answers.specs.Answer.{AnswersFor};
 ghost use Rattle.fleet_commands.specs.commands.Host.{host_refusal, host_reply, after_host};
 
-use crate::{Answer, Refusal};
+use crate::told::fleet_told;
+use answers::{Answer, Refusal};
 use basics::{Name, NoMemory};
 use fleet::Fleet;
 use reply_json::Reply;
@@ -27,6 +28,6 @@ pub fn run_host(fleet: &mut Fleet, name: &Name, limit: Option<u32>) -> Result<An
     let limit = limit.unwrap_or(DEFAULT_HOST_LIMIT);
     match fleet.add_host(name.as_str(), limit) {
         Ok(()) => Ok(Ok(Reply::Done)),
-        Err(why) => Ok(Err(Refusal::of_fleet(why).ok_or(NoMemory)?)),
+        Err(why) => Ok(Err(fleet_told(why).ok_or(NoMemory)?)),
     }
 }

@@ -2,7 +2,6 @@
 //! it leaves of the fleet.
 #![tactic(auto)]
 
-mod answer;
 mod deed;
 mod host;
 mod laws;
@@ -10,23 +9,22 @@ mod listing;
 mod machines;
 mod query;
 mod read;
-mod refusal;
 mod snapshot;
 #[cfg(test)]
 mod tests_of_machines;
 #[cfg(test)]
 mod tests_of_showing;
+mod told;
 mod vm;
 mod write;
 
-pub use answer::{Answer, line_for};
 pub use deed::{Deed, run_deed};
 pub use host::{DEFAULT_HOST_LIMIT, run_host};
 pub use laws::{acts_add_one_entry, texts_ask_for_one};
 pub use listing::run_inventory;
 pub use query::{QueryLine, run_query};
 pub use read::{ReadLine, run_read};
-pub use refusal::Refusal;
 pub use snapshot::run_snapshot;
+pub use told::link_told;
 pub use vm::run_vm;
 pub use write::{WriteLine, run_write};

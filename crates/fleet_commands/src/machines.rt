@@ -10,7 +10,7 @@ use fleet::Fleet;
 use source_vm::Machine;
 
 /// Takes the machine of a name out of the fleet, to which it has to come back. None where there is
-/// no such machine; then nothing changes. It takes no memory.
+/// no such machine, and where it is out; then nothing changes. It takes no memory.
 pub(crate) fn take_out(fleet: &mut Fleet, vm: &Name) -> Option<Machine>
     ensures machine { result ≡ machine_named vm.now fleet.old }
     ensures after { fleet.new

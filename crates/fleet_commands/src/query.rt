@@ -5,7 +5,8 @@ ghost use Rattle.sector_model.specs.Run.{end_of};
 ghost use Rattle.fleet_commands.specs.commands.Query.{AsksSince, QueryAnswers, PageAnswers, area_of, page_reply};
 
 use crate::machines::take_out;
-use crate::{Answer, Refusal};
+use crate::told::link_told;
+use answers::{Answer, Refusal};
 use basics::{Name, NoMemory, Sequence};
 use change_id::{ChangeId, IdRefused, Since, parse};
 use fleet::Fleet;
@@ -76,7 +77,7 @@ fn ask(
     let start = line.start / SECTOR_BYTES as u64;
     match link.query(line.snapshot, line.disk, since, start, page) {
         Ok(()) => Ok(Ok(link.change_id(line.snapshot, line.disk).unwrap())),
-        Err(why) => Ok(Err(Refusal::of_link(why).ok_or(NoMemory)?)),
+        Err(why) => Ok(Err(link_told(why).ok_or(NoMemory)?)),
     }
 }
 

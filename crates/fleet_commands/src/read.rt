@@ -2,11 +2,12 @@
 ghost use Rattle.std.specs.Prelude.{◌≡◌, IfOk, OnErr, map};
 ghost use Rattle.cmd_json.specs.Range.{IsWithin};
 ghost use Rattle.cmd_json.specs.declared.command.TheConstants.{MAX_READ_SECTORS};
-ghost use Rattle.fleet_commands.specs.Answer.{AnswersFor};
+ghost use Rattle.answers.specs.Answer.{AnswersFor};
 ghost use Rattle.fleet_commands.specs.commands.Read.{read_refusal, read_reply, Reads};
 
 use crate::machines::take_out;
-use crate::{Answer, Refusal};
+use crate::told::link_told;
+use answers::{Answer, Refusal};
 use basics::{Name, NoMemory, Sequence};
 use cmd_json::MAX_READ_SECTORS;
 use fleet::Fleet;
@@ -52,7 +53,7 @@ pub fn run_read(
     };
     match read {
         Ok(()) => Ok(Ok(Reply::Sectors(bytes_of(alloc, sectors)?))),
-        Err(why) => Ok(Err(Refusal::of_link(why).ok_or(NoMemory)?)),
+        Err(why) => Ok(Err(link_told(why).ok_or(NoMemory)?)),
     }
 }
 

@@ -5,11 +5,12 @@ ghost use Rattle.log_model.specs.Legal.{taken};
 ghost use Rattle.log_model.specs.Link.{after_act_alone};
 ghost use Rattle.log_model.specs.Refusals.{snap_refusal, is_live};
 ghost use Rattle.log_model.specs.declared.refusals.LinkRefused.TheVariants as refusals;
-ghost use Rattle.fleet_commands.specs.Answer.{AnswersFor};
+ghost use Rattle.answers.specs.Answer.{AnswersFor};
 ghost use Rattle.fleet_commands.specs.commands.Snapshot.{snap_act, ids_at, snapshot_refusal, snapshot_reply, after_snapshot};
 
 use crate::machines::take_out;
-use crate::{Answer, Refusal};
+use crate::told::link_told;
+use answers::{Answer, Refusal};
 use basics::{MAX_DISKS, Name, NoMemory, Sequence};
 use change_id::ChangeId;
 use fleet::Fleet;
@@ -41,7 +42,7 @@ pub fn run_snapshot(alloc: Global, fleet: &mut Fleet, vm: &Name) -> Result<Answe
             snapshot,
             ids: Sequence::from_vec(ids),
         })),
-        Err(why) => Ok(Err(Refusal::of_link(why).ok_or(NoMemory)?)),
+        Err(why) => Ok(Err(link_told(why).ok_or(NoMemory)?)),
     }
 }
 

@@ -1,8 +1,8 @@
 //! Each command that adds a host or a machine or acts on one, once, with its refusals in order.
 use crate::{
-    Answer, DEFAULT_HOST_LIMIT, Deed, WriteLine, line_for, run_deed, run_host, run_snapshot,
-    run_vm, run_write,
+    DEFAULT_HOST_LIMIT, Deed, WriteLine, run_deed, run_host, run_snapshot, run_vm, run_write,
 };
+use answers::{Answer, line_for};
 use basics::{Name, NoMemory};
 use fleet::{Fleet, FleetRefused};
 use log_model::Act;

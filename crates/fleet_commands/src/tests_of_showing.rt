@@ -3,9 +3,10 @@ ghost use Rattle.std.specs.Prelude.{IfOk};
 ghost use Rattle.fleet.specs.Sound.{AllAreIn};
 
 use crate::{
-    Deed, QueryLine, ReadLine, WriteLine, line_for, run_deed, run_inventory, run_query, run_read,
+    Deed, QueryLine, ReadLine, WriteLine, run_deed, run_inventory, run_query, run_read,
     run_snapshot, run_write,
 };
+use answers::line_for;
 use basics::{Name, NoMemory};
 use fleet::{Fleet, FleetRefused, machines_stay_in};
 use std::alloc::Global;

@@ -1,10 +1,11 @@
 //! The command `vm`.
 ghost use Rattle.std.specs.Prelude.{◌≡◌, IfOk, OnErr};
 ghost use Rattle.basics.specs.Spelled.{IsName};
-ghost use Rattle.fleet_commands.specs.Answer.{AnswersFor};
+ghost use Rattle.answers.specs.Answer.{AnswersFor};
 ghost use Rattle.fleet_commands.specs.commands.Vm.{vm_refusal, vm_reply, after_vm};
 
-use crate::{Answer, Refusal};
+use crate::told::fleet_told;
+use answers::{Answer, Refusal};
 use basics::{Name, NoMemory};
 use fleet::Fleet;
 use reply_json::Reply;
@@ -27,6 +28,6 @@ pub fn run_vm(
 {
     match fleet.add_vm(name.as_str(), host.as_str(), disks) {
         Ok(number) => Ok(Ok(Reply::Number(number))),
-        Err(why) => Ok(Err(Refusal::of_fleet(why).ok_or(NoMemory)?)),
+        Err(why) => Ok(Err(fleet_told(why).ok_or(NoMemory)?)),
     }
 }

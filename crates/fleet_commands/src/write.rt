@@ -1,11 +1,12 @@
 //! The command `write`.
 ghost use Rattle.std.specs.Prelude.{◌≡◌, IfOk, OnErr, replicate};
 ghost use Rattle.sector_model.specs.Sector.{filled};
-ghost use Rattle.fleet_commands.specs.Answer.{AnswersFor};
+ghost use Rattle.answers.specs.Answer.{AnswersFor};
 ghost use Rattle.fleet_commands.specs.commands.Write.{write_refusal, write_reply, after_write};
 
 use crate::machines::take_out;
-use crate::{Answer, Refusal};
+use crate::told::write_told;
+use answers::{Answer, Refusal};
 use basics::{Name, NoMemory};
 use fleet::Fleet;
 use log_model::MIGRATION_CALLER;
@@ -48,7 +49,7 @@ pub fn run_write(
     fleet.lower(PlainLink::of(machine));
     match written {
         Ok(()) => Ok(Ok(Reply::Done)),
-        Err(why) => Ok(Err(Refusal::of_write(why).ok_or(NoMemory)?)),
+        Err(why) => Ok(Err(write_told(why).ok_or(NoMemory)?)),
     }
 }
 

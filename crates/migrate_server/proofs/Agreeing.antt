@@ -10,11 +10,11 @@ use Rattle.change_id.specs.declared.Since.{Since}
 use Rattle.cmd_json.specs.declared.command.Command.{Command}
 use Rattle.cmd_json.specs.declared.command.Command.TheVariants.{Move, Query}
 use Rattle.fleet.specs.Fleet.{FleetState}
-use Rattle.fleet_commands.specs.Answer.{Answer}
+use Rattle.answers.specs.Answer.{Answer}
 use Rattle.fleet_commands.specs.commands.Query.{query_refusal, query_reply}
 use Rattle.fleet_commands.proofs.Asked.{asks_for_one}
-use Rattle.fleet_commands.specs.declared.refusal.Refusal.{Refusal}
-use Rattle.fleet_commands.specs.declared.refusal.Refusal.TheVariants.{NameTaken, Volume}
+use Rattle.answers.specs.declared.refusal.Refusal.{Refusal}
+use Rattle.answers.specs.declared.refusal.Refusal.TheVariants.{NameTaken, Volume}
 use Rattle.reply_json.specs.declared.reply.Reply.{Reply}
 use Rattle.target_volume.specs.VolumeName.{volume_cmp, volumes_total, find_volume, with_volume}
 use Rattle.target_volume.specs.VolumeStore.{StoreState, StoredVolume}

@@ -5,11 +5,11 @@ use Rattle.std.specs.Option.{option_map_or}
 use Rattle.cmd_json.specs.declared.command.Command.{Command}
 use Rattle.cmd_json.specs.declared.command.Command.TheVariants.{Query}
 use Rattle.fleet.specs.Fleet.{FleetState}
-use Rattle.fleet_commands.specs.Answer.{Answer, AnswersFor}
+use Rattle.answers.specs.Answer.{Answer, AnswersFor}
 use Rattle.fleet_commands.specs.Machines.{machine_named}
 use Rattle.fleet_commands.specs.commands.Query.{QueryAnswers, since_refusal}
-use Rattle.fleet_commands.specs.declared.refusal.Refusal.{Refusal}
-use Rattle.fleet_commands.specs.declared.refusal.Refusal.TheVariants.{UnknownVm}
+use Rattle.answers.specs.declared.refusal.Refusal.{Refusal}
+use Rattle.answers.specs.declared.refusal.Refusal.TheVariants.{UnknownVm}
 use Rattle.reply_json.specs.declared.reply.Reply.{Reply}
 use Rattle.sector_model.specs.declared.sector.TheConstants.{SECTOR_BYTES}
 use Rattle.source_vm.specs.Machine.{MachineState}

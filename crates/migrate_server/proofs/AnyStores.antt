@@ -5,9 +5,9 @@ use Rattle.std.proofs.lemmas.Option.{none-some, same_Some}
 use Rattle.cmd_json.specs.declared.command.Command.{Command}
 use Rattle.cmd_json.specs.declared.command.Command.TheVariants.{Move}
 use Rattle.cmd_json.specs.declared.command.MoveWrite.{MoveWrite}
-use Rattle.fleet_commands.specs.Answer.{Answer}
-use Rattle.fleet_commands.specs.declared.refusal.Refusal.{Refusal}
-use Rattle.fleet_commands.specs.declared.refusal.Refusal.TheVariants.{NameTaken, Volume}
+use Rattle.answers.specs.Answer.{Answer}
+use Rattle.answers.specs.declared.refusal.Refusal.{Refusal}
+use Rattle.answers.specs.declared.refusal.Refusal.TheVariants.{NameTaken, Volume}
 use Rattle.reply_json.specs.declared.reply.Reply.{Reply}
 use Rattle.target_volume.specs.VolumeStore.{StoreState}
 use Rattle.migrate_server.specs.Laws.{IsByStore, AreAlike, AllAlike}

@@ -32,16 +32,16 @@ use Rattle.fleet.specs.Refusals.{add_host_refusal, add_vm_refusal}
 use Rattle.fleet.specs.declared.refusals.FleetRefused.{FleetRefused}
 use Rattle.fleet.specs.declared.refusals.FleetRefused.TheVariants as refused
 use Rattle.fleet_commands.specs.Machines.{machine_named}
-use Rattle.fleet_commands.specs.Refusal.{fleet_told, link_told, write_told}
+use Rattle.fleet_commands.specs.Told.{fleet_told, link_told, write_told}
 use Rattle.fleet_commands.specs.commands.Deed.{refusal_by, deed_refusal}
 use Rattle.fleet_commands.specs.commands.Query.{since_refusal}
 use Rattle.fleet_commands.specs.commands.Read.{refusal_at as refusal_at_read}
 use Rattle.fleet_commands.specs.declared.deed.Deed.{Deed}
 use Rattle.fleet_commands.specs.declared.deed.Deed.TheVariants as deed
-use Rattle.fleet_commands.specs.declared.refusal.Refusal.{Refusal}
-use Rattle.fleet_commands.specs.declared.refusal.Refusal.TheVariants as refusal
-use Rattle.fleet_commands.specs.declared.refusal.Refusal.TheVariants.{Range, LogFull, NameTaken, UnknownVm, Volume}
-use Rattle.fleet_commands.specs.Answer.{Answer}
+use Rattle.answers.specs.declared.refusal.Refusal.{Refusal}
+use Rattle.answers.specs.declared.refusal.Refusal.TheVariants as refusal
+use Rattle.answers.specs.declared.refusal.Refusal.TheVariants.{Range, LogFull, NameTaken, UnknownVm, Volume}
+use Rattle.answers.specs.Answer.{Answer}
 use Rattle.migrate_server.specs.Line.{AsksFor, Means, refusal_told, refused_by, line_refusal}
 use Rattle.migrate_server.specs.commands.Moves.{MoveRefusal, move_refusal, name_refusal, moved_volume}
 use Rattle.migrate_server.specs.NewVolume.{IsFree, FailsInCopy, with_new_volume}

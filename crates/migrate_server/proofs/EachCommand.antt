@@ -3,8 +3,8 @@ use Rattle.std.proofs.Common.{◌≡◌, ℕ, List, [], ◌∷◌, Ok, Err, inl,
 use Rattle.cmd_json.specs.declared.command.Command.{Command}
 use Rattle.cmd_json.specs.declared.command.Command.TheVariants.{Move}
 use Rattle.fleet.specs.Fleet.{FleetState}
-use Rattle.fleet_commands.specs.Answer.{Answer}
-use Rattle.fleet_commands.specs.declared.refusal.Refusal.{Refusal}
+use Rattle.answers.specs.Answer.{Answer}
+use Rattle.answers.specs.declared.refusal.Refusal.{Refusal}
 use Rattle.migrate_server.specs.Session.{State, state_after, Fails, Answers, LineAnswers, Session}
 use Rattle.migrate_server.specs.declared.line.Line.{Line}
 use Rattle.migrate_server.specs.declared.line.Line.TheVariants.{Blank, Asks, Refuses}

@@ -16,7 +16,7 @@ use Rattle.fleet.specs.Fleet.{HostState, VmState, FleetState, host_place, with_v
 use Rattle.fleet.specs.Laws.{GoesOnFurther, HostsGoOn, VmsGoOn}
 use Rattle.fleet.proofs.Found.{logs_go_on}
 use Rattle.fleet.proofs.Logs.{goes_on_itself}
-use Rattle.fleet_commands.specs.Answer.{Answer}
+use Rattle.answers.specs.Answer.{Answer}
 use Rattle.fleet_commands.specs.Machines.{machine_named, entry_of, after_act}
 use Rattle.fleet_commands.specs.commands.Deed.{act_of}
 use Rattle.fleet_commands.specs.commands.Snapshot.{snap_act}

@@ -16,7 +16,7 @@ use Rattle.fleet.specs.Fleet.{FleetState, VmState, host_place, vm_of, with_vm, w
 use Rattle.fleet.specs.Laws.{LogsStayIn}
 use Rattle.fleet.specs.Sound.{AllAreIn}
 use Rattle.fleet.proofs.Logs.{at_place}
-use Rattle.fleet_commands.specs.Answer.{Answer}
+use Rattle.answers.specs.Answer.{Answer}
 use Rattle.fleet_commands.specs.Logs.{log_named, entries_of, entry_at}
 use Rattle.fleet_commands.specs.Machines.{machine_named, after_act}
 use Rattle.fleet_commands.specs.commands.Deed.{act_of}
@@ -24,8 +24,8 @@ use Rattle.fleet_commands.specs.commands.Snapshot.{snap_act}
 use Rattle.fleet_commands.specs.commands.Write.{fill_act}
 use Rattle.fleet_commands.specs.declared.deed.Deed.TheVariants as deed
 use Rattle.fleet_commands.specs.declared.host.TheConstants.{DEFAULT_HOST_LIMIT}
-use Rattle.fleet_commands.specs.declared.refusal.Refusal.{Refusal}
-use Rattle.fleet_commands.specs.declared.refusal.Refusal.TheVariants.{UnknownVm}
+use Rattle.answers.specs.declared.refusal.Refusal.{Refusal}
+use Rattle.answers.specs.declared.refusal.Refusal.TheVariants.{UnknownVm}
 use Rattle.fleet_commands.proofs.LogLemmas.{acts_add_there, hosts_add_none, vms_add_none, acts_keep_in}
 use Rattle.reply_json.specs.declared.reply.Reply.{Reply}
 use Rattle.migrate_server.specs.Line.{Means}

@@ -17,8 +17,8 @@ use Rattle.migrate_server.specs.NewVolume.{IsFree, IsTaken, with_new_volume, cop
 use Rattle.migrate_server.specs.Session.{serving, HasRefusal, Answers}
 use Rattle.migrate_server.specs.WrittenDisk.{written_disk}
 use Rattle.migrate_server.specs.commands.Moves.{move_refusal, name_refusal, MoveRefusal}
-use Rattle.fleet_commands.specs.declared.refusal.Refusal.{Refusal}
-use Rattle.fleet_commands.specs.declared.refusal.Refusal.TheVariants.{NameTaken, Volume}
+use Rattle.answers.specs.declared.refusal.Refusal.{Refusal}
+use Rattle.answers.specs.declared.refusal.Refusal.TheVariants.{NameTaken, Volume}
 
 abbrev Volumes : Type 0
 Volumes = List (VolumeName × StoredVolume)

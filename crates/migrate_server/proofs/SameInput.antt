@@ -5,7 +5,7 @@ use Rattle.std.specs.Io.KnownBytes.{IsAtEnd}
 use Rattle.std.proofs.lemmas.Bool.{leb-true, leb-false}
 use Rattle.std.proofs.lemmas.List.{append-nil, length-append, length-take-le, take_at, get_or-take, get_or_append_left}
 use Rattle.std.proofs.Math.Seq.{get_or-append_seam}
-use Rattle.fleet_commands.specs.Answer.{answer_line}
+use Rattle.answers.specs.Answer.{answer_line}
 use Rattle.migrate_server.specs.Laws.{SameInputSameOutput}
 use Rattle.migrate_server.specs.Line.{AsksToQuit, lines_of, requests_among}
 use Rattle.migrate_server.specs.Serves.{Serves, QuitsLast, EndsByQuit}

@@ -24,8 +24,8 @@ use Rattle.migrate_server.specs.declared.line.Line.TheVariants.{Blank, Asks, Ref
 use Rattle.migrate_server.specs.declared.reader.TheConstants.{INPUT_LIMIT}
 use Rattle.migrate_server.specs.declared.reader.NoLine.{NoLine}
 use Rattle.migrate_server.specs.declared.reader.NoLine.TheVariants.{Fault as LineFault, Limit, NoMemory as NoLineMemory}
-use Rattle.fleet_commands.specs.declared.refusal.Refusal.{Refusal}
-use Rattle.fleet_commands.specs.declared.refusal.Refusal.TheVariants.{Long}
+use Rattle.answers.specs.declared.refusal.Refusal.{Refusal}
+use Rattle.answers.specs.declared.refusal.Refusal.TheVariants.{Long}
 use Rattle.migrate_server.specs.declared.serve.NoReply.{NoReply}
 use Rattle.migrate_server.specs.declared.serve.NoReply.TheVariants.{Fault, NoMemory as NoReplyMemory}
 use Rattle.migrate_server.specs.declared.status.Status.{Status}
@@ -33,7 +33,7 @@ use Rattle.migrate_server.specs.declared.serve.Stop.{Stop}
 use Rattle.migrate_server.specs.declared.serve.Stop.TheVariants.{WriteFault, NoMemory}
 use Rattle.migrate_server.specs.EndsFor.{EndsFor, TellsUsage, usage_line}
 use Rattle.migrate_server.specs.declared.line.TheConstants.{LINE_LIMIT}
-use Rattle.fleet_commands.specs.Answer.{Answer, answer_line}
+use Rattle.answers.specs.Answer.{Answer, answer_line}
 use Rattle.migrate_server.specs.Line.{AsksToQuit, Means, refused_by, quits, is_space, is_blank, is_lf, lines_of, ended_lines, before_first_line, requests_among}
 use Rattle.migrate_server.specs.LineBuffer.{Holds}
 use Rattle.migrate_server.specs.Reader.{ReaderState, HasNoLf, IsIdle, TakesLine, TakesEnd, HasNoLine, budget}

@@ -4,8 +4,8 @@
 use Rattle.std.specs.Prelude.{◌≡◌, ◌≢◌, ◌⊎◌, ℕ, List, [], ◌∷◌, ◌++◌, All, Option, Some, is_some, Err}
 use Rattle.cmd_json.specs.declared.command.Command.TheVariants.{Move}
 use Rattle.cmd_json.specs.declared.command.MoveWrite.{MoveWrite}
-use Rattle.fleet_commands.specs.Answer.{Answer}
-use Rattle.fleet_commands.specs.declared.refusal.Refusal.TheVariants.{NameTaken, Volume}
+use Rattle.answers.specs.Answer.{Answer}
+use Rattle.answers.specs.declared.refusal.Refusal.TheVariants.{NameTaken, Volume}
 use Rattle.target_volume.specs.VolumeName.{find_volume}
 use Rattle.target_volume.specs.VolumeStore.{StoredVolume}
 use Rattle.target_volume.specs.declared.volume_name.VolumeName.{VolumeName}

@@ -11,9 +11,9 @@ use Rattle.cmd_json.specs.declared.refusal.CmdRefused.TheVariants as cmd
 use Rattle.migrate_server.specs.declared.line.TheConstants.{LINE_LIMIT, LF}
 use Rattle.migrate_server.specs.declared.line.Line.{Line}
 use Rattle.migrate_server.specs.declared.line.Line.TheVariants.{Blank, Asks, Refuses}
-use Rattle.fleet_commands.specs.declared.refusal.Refusal.{Refusal}
-use Rattle.fleet_commands.specs.declared.refusal.Refusal.TheVariants as refusal
-use Rattle.fleet_commands.specs.declared.refusal.Refusal.TheVariants.{Long, Json, Field, Number}
+use Rattle.answers.specs.declared.refusal.Refusal.{Refusal}
+use Rattle.answers.specs.declared.refusal.Refusal.TheVariants as refusal
+use Rattle.answers.specs.declared.refusal.Refusal.TheVariants.{Long, Json, Field, Number}
 
 abbrev pub is_lf : ℕ → Bool
 is_lf b = b == LF

@@ -3,7 +3,7 @@ use Rattle.std.specs.Prelude.{◌≡◌, ℕ, ◌⊎◌, List, [], Bool, true, f
 use Rattle.std.specs.Io.KnownBytes.{Appends}
 use Rattle.edge_traits.specs.Sink.{SinkState, AppendsPrefix}
 use Rattle.basics.specs.Faults.{HasRisen}
-use Rattle.fleet_commands.specs.Answer.{Answer, answer_line}
+use Rattle.answers.specs.Answer.{Answer, answer_line}
 use Rattle.migrate_server.specs.Line.{is_blank, AsksToQuit}
 use Rattle.migrate_server.specs.Session.{State, Step, LineAnswers}
 use Rattle.migrate_server.specs.declared.line.Line.{Line}

@@ -6,14 +6,14 @@ use Rattle.std.specs.List.{flat_map}
 use Rattle.std.specs.Io.KnownBytes.{Appends, Consumes, IsAtEnd}
 use Rattle.fleet.specs.Fleet.{FleetGoesOn}
 use Rattle.fleet.specs.Sound.{AllAreIn}
-use Rattle.fleet_commands.specs.Answer.{Answer, answer_line}
+use Rattle.answers.specs.Answer.{Answer, answer_line}
 use Rattle.fleet_commands.specs.Logs.{log_named}
 use Rattle.migrate_server.specs.Sources.{log_after}
 use Rattle.migrate_server.specs.Line.{lines_of, ended_lines, requests_among, AsksToQuit}
 use Rattle.migrate_server.specs.Session.{state_of, Session, AllComplete}
 use Rattle.migrate_server.specs.World.{World}
 use Rattle.migrate_server.specs.declared.reader.TheConstants.{INPUT_LIMIT}
-use Rattle.fleet_commands.specs.declared.refusal.Refusal.TheVariants.{Volume}
+use Rattle.answers.specs.declared.refusal.Refusal.TheVariants.{Volume}
 use Rattle.migrate_server.specs.declared.status.Status.{Status}
 use Rattle.migrate_server.specs.declared.status.Status.TheVariants.{Ok, Usage, ReadFault, JournalFault, WriteFault, StrangeJournal, InputLimit, JournalFull, NoMemory}
 

@@ -7,7 +7,7 @@ use Rattle.std.specs.Prelude.{◌≡◌, ◌⊎◌, ℕ, List, [], ◌∷◌, Bo
 use Rattle.cmd_json.specs.declared.command.Command.{Command}
 use Rattle.cmd_json.specs.declared.command.Command.TheVariants.{Move, Host, Vm, Enable, Write, Snapshot, Remove, Query, Read, Power, Reset, Inventory, Plan, Start, Run, Cutover, Cancel, Status, Target, Digest, Restart, Quit}
 use Rattle.fleet.specs.Fleet.{FleetState}
-use Rattle.fleet_commands.specs.Answer.{Answer}
+use Rattle.answers.specs.Answer.{Answer}
 use Rattle.fleet_commands.specs.commands.Deed.{deed_refusal, deed_reply, after_deed}
 use Rattle.fleet_commands.specs.commands.Host.{host_refusal, host_reply, after_host}
 use Rattle.fleet_commands.specs.commands.Inventory.{inventory_reply}
@@ -18,8 +18,8 @@ use Rattle.fleet_commands.specs.commands.Vm.{vm_refusal, vm_reply, after_vm}
 use Rattle.fleet_commands.specs.commands.Write.{write_refusal, write_reply, after_write}
 use Rattle.fleet_commands.specs.declared.deed.Deed.{Deed}
 use Rattle.fleet_commands.specs.declared.deed.Deed.TheVariants as deed
-use Rattle.fleet_commands.specs.declared.refusal.Refusal.{Refusal}
-use Rattle.fleet_commands.specs.declared.refusal.Refusal.TheVariants as refusal
+use Rattle.answers.specs.declared.refusal.Refusal.{Refusal}
+use Rattle.answers.specs.declared.refusal.Refusal.TheVariants as refusal
 use Rattle.reply_json.specs.declared.reply.Reply.{Reply}
 use Rattle.reply_json.specs.declared.reply.Reply.TheVariants.{Done}
 use Rattle.target_volume.specs.VolumeStore.{StoreState}

@@ -5,7 +5,7 @@ use Rattle.cmd_json.specs.Line.{command_of}
 use Rattle.cmd_json.specs.declared.command.Command.{Command}
 use Rattle.cmd_json.specs.declared.refusal.CmdRefused.{CmdRefused}
 use Rattle.log_model.specs.declared.entry.Entry.{Entry}
-use Rattle.fleet_commands.specs.Answer.{Answer}
+use Rattle.answers.specs.Answer.{Answer}
 use Rattle.fleet_commands.specs.Logs.{entries_of}
 
 -- what is asked for adds to the log of the machine of this name, where it isn't refused

@@ -5,9 +5,9 @@ ghost use Rattle.migrate_server.specs.Line.{is_space, is_blank, quits, Means, As
 ghost use Rattle.migrate_server.specs.LineBuffer.{Holds};
 
 use crate::line_buffer::LineBuffer;
+use answers::Refusal;
 use basics::NoMemory;
 use cmd_json::{CmdRefused, Command, read_command};
-use fleet_commands::Refusal;
 use std::alloc::Global;
 
 /// The most bytes of a line, without its LF.

@@ -4,7 +4,7 @@ ghost use Rattle.std.specs.Io.KnownBytes.{Appends};
 ghost use Rattle.fleet.specs.Sound.{AllAreIn};
 ghost use Rattle.cmd_json.specs.Known.{IsAskable};
 ghost use Rattle.cmd_json.specs.declared.command.Command.TheVariants.{Query};
-ghost use Rattle.fleet_commands.specs.Answer.{answer_line};
+ghost use Rattle.answers.specs.Answer.{answer_line};
 ghost use Rattle.target_volume.specs.VolumeStore.{StoreState};
 ghost use Rattle.migrate_server.specs.LineBuffer.{Holds};
 ghost use Rattle.migrate_server.specs.Line.{AsksInRange};
@@ -19,13 +19,14 @@ use crate::commands::moves::run_move;
 use crate::line::{Line, meaning_of};
 use crate::line_buffer::LineBuffer;
 use crate::reader::{LineReader, NoLine};
+use answers::{Answer, Refusal, line_for};
 use basics::{Name, NoMemory, Text};
 use cmd_json::Command;
 use edge_traits::{Disk, Sink, Source};
 use fleet::Fleet;
 use fleet_commands::{
-    Answer, Deed, QueryLine, ReadLine, Refusal, WriteLine, line_for, run_deed, run_host,
-    run_inventory, run_query, run_read, run_snapshot, run_vm, run_write,
+    Deed, QueryLine, ReadLine, WriteLine, run_deed, run_host, run_inventory, run_query, run_read,
+    run_snapshot, run_vm, run_write,
 };
 use reply_json::Reply;
 use std::alloc::Global;

@@ -5,7 +5,7 @@ ghost use Rattle.migrate_server.specs.Status.{status_code};
 /// How a run ended.
 #[derive(Clone, Copy, Debug, PartialEq, Eq)]
 pub enum Status {
-    /// Each line of the input was answered, to its end.
+    /// Each line of the input was answered, to its end or to one that asks to quit.
     Ok,
     /// The words are none that the program takes.
     Usage,

@@ -4,9 +4,9 @@ use Rattle.reply_json.specs.declared.reply.Reply.{Reply}
 use Rattle.reply_json.specs.declared.reply.Reply.TheVariants.{Done}
 use Rattle.fleet.specs.Fleet.{FleetState, with_host}
 use Rattle.fleet.specs.Refusals.{add_host_refusal}
-use Rattle.fleet_commands.specs.Refusal.{fleet_told}
+use Rattle.fleet_commands.specs.Told.{fleet_told}
 use Rattle.fleet_commands.specs.declared.host.TheConstants.{DEFAULT_HOST_LIMIT}
-use Rattle.fleet_commands.specs.declared.refusal.Refusal.{Refusal}
+use Rattle.answers.specs.declared.refusal.Refusal.{Refusal}
 
 abbrev pub host_refusal : (name : List ℕ) → FleetState → Option Refusal
 host_refusal name fleet = option_and_then fleet_told (add_host_refusal name fleet)

@@ -20,11 +20,11 @@ use Rattle.log_model.specs.Query.{changed_areas}
 use Rattle.log_model.specs.Refusals.{query_refusal as refusal_of_query}
 use Rattle.source_vm.specs.Machine.{MachineState}
 use Rattle.fleet.specs.Fleet.{FleetState}
-use Rattle.fleet_commands.specs.Answer.{Answer, AnswersFor}
+use Rattle.answers.specs.Answer.{Answer, AnswersFor}
 use Rattle.fleet_commands.specs.Machines.{at_machine, reply_at}
-use Rattle.fleet_commands.specs.Refusal.{link_told}
-use Rattle.fleet_commands.specs.declared.refusal.Refusal.{Refusal}
-use Rattle.fleet_commands.specs.declared.refusal.Refusal.TheVariants as refusal
+use Rattle.fleet_commands.specs.Told.{link_told}
+use Rattle.answers.specs.declared.refusal.Refusal.{Refusal}
+use Rattle.answers.specs.declared.refusal.Refusal.TheVariants as refusal
 
 -- the text that asks since the beginning
 abbrev pub from_beginning : List ℕ

@@ -13,8 +13,8 @@ use Rattle.target_volume.specs.declared.volume_name.VolumeName.{VolumeName}
 use Rattle.target_volume.specs.declared.volume_name.VolumeName.TheVariants.{Given}
 use Rattle.migrate_server.specs.NewVolume.{with_new_volume, copied_volume, FailsInCopy}
 use Rattle.migrate_server.specs.WrittenDisk.{written_disk}
-use Rattle.fleet_commands.specs.declared.refusal.Refusal.{Refusal}
-use Rattle.fleet_commands.specs.declared.refusal.Refusal.TheVariants.{Range, LogFull, NameTaken}
+use Rattle.answers.specs.declared.refusal.Refusal.{Refusal}
+use Rattle.answers.specs.declared.refusal.Refusal.TheVariants.{Range, LogFull, NameTaken}
 
 -- a write passes the end of the disk, or all have more sectors in sum than a log may have
 abbrev pub move_refusal : (sectors : ℕ) → List MoveWrite → Option Refusal

@@ -11,9 +11,9 @@ ghost use Rattle.migrate_server.specs.commands.Moves.{move_refusal};
 
 use crate::copy::{PIECE_SECTORS, copy_full};
 use crate::written_disk::WrittenDisk;
+use answers::{Answer, Refusal};
 use basics::{MAX_LOGGED_SECTORS, Name, NoMemory};
 use cmd_json::MoveWrite;
-use fleet_commands::{Answer, Refusal};
 use reply_json::Reply;
 use sector_model::Sector;
 use std::alloc::Global;

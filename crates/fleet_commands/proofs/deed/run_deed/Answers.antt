@@ -2,10 +2,10 @@
 use Rattle.std.proofs.Common.{◌≡◌, Some, refl, ◌∙◌, sym}
 use Rattle.log_model.specs.declared.refusals.LinkRefused.TheVariants.{NoMemory}
 use Rattle.source_vm.specs.Machine.{MachineState}
-use Rattle.fleet_commands.specs.Refusal.{link_told}
+use Rattle.fleet_commands.specs.Told.{link_told}
 use Rattle.fleet_commands.specs.Machines.{machine_named}
 use Rattle.fleet_commands.specs.commands.Deed.{act_of, refusal_by}
-use Rattle.fleet_commands.proofs.Told.{told_none, told_some, on_err}
+use Rattle.fleet_commands.proofs.Telling.{told_none, told_some, on_err}
 use Rattle.fleet_commands.proofs.Lifting.{refused_as}
 use Rattle.fleet_commands.proofs.Acting.{acted_may_go_back, met_log, accepted_act, refused_act}
 use Rattle.fleet_commands.proofs.deed.run_deed.Goals as goal
@@ -48,7 +48,7 @@ returns-in_ok-ok_or-in-Err-clause-answer c =
     let met = met_log c.args.vm.now m c.args.fleet.now named c.to-done.new.link
     (act_of c.args.deed) c.to-done.result adds in
     let refused = rw (c.of-link.ensures, met) at c.to-done.ensures.refused in
-    let told = sym c.of_link.ensures ∙ c.in_ok-ok_or-in-Err.ensures.ok_part in (
+    let told = sym c.link_told.ensures ∙ c.in_ok-ok_or-in-Err.ensures.ok_part in (
       refused_as c.args.vm.now m c.args.fleet.now named _
           ∙ told_some link_told (refusal_by c.args.deed m.capacities m.log) NoMemory
           c.to-done.result c.in-Err.why _ refused c.in-Err.is refl told,

@@ -26,7 +26,7 @@ returns-in-Ok-query-clause-answer c =
 pub returns-in_ok-ok_or-in-Err-query-clause-answer :
     goal.returns-in_ok-ok_or-in-Err-query-clause-answer
 returns-in_ok-ok_or-in-Err-query-clause-answer c =
-    let told = sym c.of_link.ensures ∙ c.in_ok-ok_or-in-Err-query.ensures.ok_part in
+    let told = sym c.link_told.ensures ∙ c.in_ok-ok_or-in-Err-query.ensures.ok_part in
     rw c.in-Ok.is (refuses_then c.args.line.snapshot c.args.line.disk c.in-Ok.since
     c.args.line.start c.args.link.now c.query.new.self c.query.result c.requires
     c.query.ensures.reads c.query.ensures.refused c.in-Err-query.why c.in-Err-query.is _ told

@@ -51,6 +51,6 @@ returns-in_ok-ok_or-in-Err-clause-answer c =
     let lent = rw c.in-Some.is at c.take_out.ensures.after in
     let adds = rw c.of-link.ensures at c.snap-taken.ensures.adds in
     let refused = rw c.of-link.ensures at c.snap-taken.ensures.refused in
-    let told = sym c.of_link.ensures ∙ c.in_ok-ok_or-in-Err.ensures.ok_part in
+    let told = sym c.link_told.ensures ∙ c.in_ok-ok_or-in-Err.ensures.ok_part in
     rw (c.lower.ensures, lent) (snapshot_refuses c.args.vm.now m c.args.fleet.now named
     c.snap-taken.new.link c.snap-taken.result adds refused c.in-Err.why c.in-Err.is _ told)

@@ -2,8 +2,8 @@ use Rattle.std.proofs.Common.{ℕ, Ok, Err, refl, ap, ◌∙◌, sym}
 use Rattle.reply_json.specs.declared.reply.Reply.TheVariants.{Number}
 use Rattle.fleet.specs.Refusals.{add_vm_refusal}
 use Rattle.fleet.specs.declared.refusals.FleetRefused.TheVariants.{NoMemory}
-use Rattle.fleet_commands.specs.Refusal.{fleet_told}
-use Rattle.fleet_commands.proofs.Told.{told_none, told_some}
+use Rattle.fleet_commands.specs.Told.{fleet_told}
+use Rattle.fleet_commands.proofs.Telling.{told_none, told_some}
 use Rattle.fleet_commands.proofs.vm.run_vm.Goals as goal
 
 pub returns-in-Ok-clause-answer : goal.returns-in-Ok-clause-answer
@@ -20,7 +20,7 @@ returns-in-Ok-clause-answer c =
 pub returns-in_ok-ok_or-in-Err-clause-answer : goal.returns-in_ok-ok_or-in-Err-clause-answer
 returns-in_ok-ok_or-in-Err-clause-answer c =
     let refused = rw (c.as_str.ensures.text, c.as_str-2.ensures.text) at c.in-Err.ensures.refused in
-    let told = sym c.of_fleet.ensures ∙ c.in_ok-ok_or-in-Err.ensures.ok_part in (
+    let told = sym c.fleet_told.ensures ∙ c.in_ok-ok_or-in-Err.ensures.ok_part in (
       told_some {T = ℕ} fleet_told
           (add_vm_refusal c.args.name.now c.args.host.now c.args.disks.now c.args.fleet.now)
           NoMemory (Err c.in-Err.why) c.in-Err.why _ refused refl refl told,

@@ -5,10 +5,10 @@ use Rattle.sector_model.specs.Sector.{filled}
 use Rattle.log_model.specs.declared.refusals.WriteRefused.TheVariants.{NoMemory}
 use Rattle.log_model.specs.Refusals.{write_refusal}
 use Rattle.source_vm.specs.Machine.{MachineState}
-use Rattle.fleet_commands.specs.Refusal.{write_told}
+use Rattle.fleet_commands.specs.Told.{write_told}
 use Rattle.fleet_commands.specs.Machines.{machine_named}
 use Rattle.fleet_commands.specs.commands.Write.{fill_act}
-use Rattle.fleet_commands.proofs.Told.{told_none, told_some, on_err}
+use Rattle.fleet_commands.proofs.Telling.{told_none, told_some, on_err}
 use Rattle.fleet_commands.proofs.Lifting.{refused_as}
 use Rattle.fleet_commands.proofs.Acting.{added_may_go_back, accepted_addition, refused_addition}
 use Rattle.fleet_commands.proofs.write.run_write.Goals as goal
@@ -52,7 +52,7 @@ returns-clause-answer c =
     let sectors : c.deref.result.now ≡ replicate c.args.line.count (filled c.args.line.fill) =
     c.deref.ensures.value ∙ c.in_ok-sectors.ensures in
     let refused = rw (sectors, length-replicate) at c.guest_write-written.ensures.refused in
-    let told = sym c.of_write.ensures ∙ c.in_ok-ok_or-in-Err.ensures.ok_part in (
+    let told = sym c.write_told.ensures ∙ c.in_ok-ok_or-in-Err.ensures.ok_part in (
       refused_as c.args.vm.now m c.args.fleet.now named _
           ∙ told_some write_told (write_refusal m.capacities c.args.line.disk c.args.line.first
           c.args.line.count m.log) NoMemory c.guest_write-written.result c.in-Err.why _ refused

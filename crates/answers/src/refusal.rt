@@ -1,11 +1,9 @@
 //! Why lines are refused, and the reply that tells it.
 ghost use Rattle.std.specs.Prelude.{◌≡◌, IfOk};
-ghost use Rattle.fleet_commands.specs.Refusal.{refusal_text, cause_text, carried_by, refusal_reply, link_told, write_told, fleet_told};
+ghost use Rattle.answers.specs.Refusal.{refusal_text, cause_text, carried_by, refusal_reply};
 
-use basics::{NoMemory, Text};
+use basics::{Name, NoMemory, Text};
 use change_id::{ChangeId, IdRefused};
-use fleet::FleetRefused;
-use log_model::{LinkRefused, WriteRefused};
 use reply_json::{Carried, Reply};
 use std::alloc::Global;
 use std::error::Error;
@@ -34,6 +32,24 @@ pub enum Refusal {
     TooMany,
     /// No machine has the name.
     UnknownVm,
+    /// No machine has this name of a list.
+    UnknownListed(Name),
+    /// The machine of this name stands twice in a list.
+    Doubled(Name),
+    /// The machine of this name is in a plan that hasn't ended for it.
+    InPlan(Name),
+    /// The changes of the machine of this name aren't tracked.
+    NoTracking(Name),
+    /// The plan names no machine.
+    Empty,
+    /// No plan has the name.
+    UnknownPlan,
+    /// Each machine of the plan has its migration.
+    Started,
+    /// No machine of the plan has its migration.
+    NotStarted,
+    /// Each migration of the plan has ended.
+    Ended,
     /// The machine's changes are tracked already.
     AlreadyEnabled,
     /// The machine is off.
@@ -70,51 +86,8 @@ impl Refusal {
         Ok(Reply::Refused { error, carried })
     }
 
-    /// What a machine's refusal is told as. None for want of memory, and where the machine has to
-    /// be off, which no command asks for.
-    pub(crate) fn of_link(why: LinkRefused) -> Option<Refusal>
-        ensures { result ≡ link_told why }
-    {
-        let told = match why {
-            LinkRefused::UnknownSnap => Refusal::UnknownSnapshot,
-            LinkRefused::Strange(id) => Refusal::Strange(id),
-            LinkRefused::Range => Refusal::Range,
-            LinkRefused::AlreadyOff => Refusal::AlreadyOff,
-            LinkRefused::AlreadyOn => Refusal::AlreadyOn,
-            LinkRefused::Spent => Refusal::Spent,
-            LinkRefused::Owned => Refusal::Owned,
-            LinkRefused::AlreadyEnabled => Refusal::AlreadyEnabled,
-            LinkRefused::Running | LinkRefused::NoMemory => return None,
-        };
-        Some(told)
-    }
-
-    /// What the refusal of a write is told as. None for want of memory.
-    pub(crate) fn of_write(why: WriteRefused) -> Option<Refusal>
-        ensures { result ≡ write_told why }
-    {
-        match why {
-            WriteRefused::Off => Some(Refusal::Off),
-            WriteRefused::Range => Some(Refusal::Range),
-            WriteRefused::LogFull => Some(Refusal::LogFull),
-            WriteRefused::NoMemory => None,
-        }
-    }
-
-    /// What a fleet's refusal is told as. None for want of memory.
-    pub(crate) fn of_fleet(why: FleetRefused) -> Option<Refusal>
-        ensures { result ≡ fleet_told why }
-    {
-        match why {
-            FleetRefused::NameTaken => Some(Refusal::NameTaken),
-            FleetRefused::UnknownHost => Some(Refusal::UnknownHost),
-            FleetRefused::TooMany => Some(Refusal::TooMany),
-            FleetRefused::BadSize => Some(Refusal::BadSize),
-            FleetRefused::NoMemory => None,
-        }
-    }
-
-    fn text(&self) -> &'static str
+    /// The text of the refusal.
+    pub fn text(&self) -> &'static str
         ensures { result.now ≡ refusal_text self.now }
     {
         match self {
@@ -127,7 +100,15 @@ impl Refusal {
             Refusal::UnknownHost => "unknown-host",
             Refusal::BadSize => "bad-size",
             Refusal::TooMany => "too-many",
-            Refusal::UnknownVm => "unknown-vm",
+            Refusal::UnknownVm | Refusal::UnknownListed(_) => "unknown-vm",
+            Refusal::Doubled(_) => "doubled",
+            Refusal::InPlan(_) => "in-plan",
+            Refusal::NoTracking(_) => "no-tracking",
+            Refusal::Empty => "empty",
+            Refusal::UnknownPlan => "unknown-plan",
+            Refusal::Started => "started",
+            Refusal::NotStarted => "not-started",
+            Refusal::Ended => "ended",
             Refusal::AlreadyEnabled => "already-enabled",
             Refusal::Off => "off",
             Refusal::Range => "range",
@@ -148,6 +129,10 @@ impl Refusal {
     {
         let carried = match self {
             Refusal::Field(name) | Refusal::Number(name) => Carried::Name(name),
+            Refusal::UnknownListed(vm)
+            | Refusal::Doubled(vm)
+            | Refusal::InPlan(vm)
+            | Refusal::NoTracking(vm) => Carried::Vm(Text::of(alloc, vm.as_str())?),
             Refusal::Since(why) => Carried::Cause(Text::of(alloc, cause_text(why))?),
             Refusal::Strange(id) => Carried::Id(id),
             _ => Carried::Nothing,
@@ -157,6 +142,11 @@ impl Refusal {
 }
 
 impl fmt::Display for Refusal {
+    ghost use Rattle.std.specs.Prelude.{Some};
+    ghost use Rattle.answers.specs.Refusal.{refusal_text};
+
+    ghost output = { λ refusal. Some (refusal_text refusal) };
+
     fn fmt<W: fmt::Write>(&self, f: &mut fmt::Formatter<W>) -> fmt::Result {
         write!(f, "{}", self.text())
     }

@@ -1,6 +1,6 @@
 //! What a line is answered, and the bytes that tell it.
 ghost use Rattle.std.specs.Prelude.{◌≡◌, IfOk};
-ghost use Rattle.fleet_commands.specs.Answer.{reply_for, answer_line};
+ghost use Rattle.answers.specs.Answer.{reply_for, answer_line};
 
 use crate::refusal::Refusal;
 use basics::NoMemory;

@@ -2,7 +2,7 @@
 use Rattle.std.proofs.Common.{◌≡◌, Option, Some, None, Result, Ok, Err, IfErr, OnErr, option_and_then, refl, ap, ◌∙◌, sym, subst}
 use Rattle.std.proofs.lemmas.Option.{none-some}
 use Rattle.basics.specs.Refusal.{IsRefusedOr}
-use Rattle.fleet_commands.specs.declared.refusal.Refusal.{Refusal}
+use Rattle.answers.specs.declared.refusal.Refusal.{Refusal}
 
 -- what was accepted had no refusal
 pub told_none : {T E : Type 0} (tell : E → Option Refusal) (refusal : Option E) (free : E)

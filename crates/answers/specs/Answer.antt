@@ -2,9 +2,8 @@
 use Rattle.std.specs.Prelude.{◌≡◌, ℕ, List, Option, Some, None, Result, Ok, Err}
 use Rattle.reply_json.specs.Reply.{line_of}
 use Rattle.reply_json.specs.declared.reply.Reply.{Reply}
-use Rattle.fleet.specs.Fleet.{FleetState}
-use Rattle.fleet_commands.specs.Refusal.{refusal_reply}
-use Rattle.fleet_commands.specs.declared.refusal.Refusal.{Refusal}
+use Rattle.answers.specs.Refusal.{refusal_reply}
+use Rattle.answers.specs.declared.refusal.Refusal.{Refusal}
 
 abbrev pub Answer : Type 0
 Answer = Result Reply Refusal
@@ -18,9 +17,9 @@ unfoldable pub answer_line : Answer → List ℕ
 answer_line answer = line_of (reply_for answer)
 
 -- a command that has this refusal, or none, is answered so: it is refused, and changes nothing; or
--- it has this reply, and leaves that fleet
-abbrev pub AnswersFor : (refusal : Option Refusal) → (reply : Reply) → (next : FleetState)
-    → Answer → (old new : FleetState) → Type 0
+-- it has this reply, and leaves what is next
+abbrev pub AnswersFor : {S : Type 0} → (refusal : Option Refusal) → (reply : Reply) → (next : S)
+    → Answer → (old new : S) → Type 0
 AnswersFor refusal reply next (Ok answer) old new =
     (refusal ≡ None) × (answer ≡ reply) × (new ≡ next)
 AnswersFor refusal reply next (Err why) old new = (refusal ≡ Some why) × (new ≡ old)

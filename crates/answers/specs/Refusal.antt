@@ -1,20 +1,13 @@
--- The replies that tell refusals: the text of each, and what it carries; and what a command answers
--- where a fleet, a machine or a write refuses what it asks for.
-use Rattle.std.specs.Prelude.{ℕ, List, codes, Option, Some, None}
+-- The replies that tell refusals: the text of each, and what it carries.
+use Rattle.std.specs.Prelude.{ℕ, List, codes}
 use Rattle.change_id.specs.declared.IdRefused.{IdRefused}
 use Rattle.change_id.specs.declared.IdRefused.TheVariants.{Form, Uuid, Number as NoNumber}
-use Rattle.log_model.specs.declared.refusals.LinkRefused.{LinkRefused}
-use Rattle.log_model.specs.declared.refusals.LinkRefused.TheVariants as link
-use Rattle.log_model.specs.declared.refusals.WriteRefused.{WriteRefused}
-use Rattle.log_model.specs.declared.refusals.WriteRefused.TheVariants as write
-use Rattle.fleet.specs.declared.refusals.FleetRefused.{FleetRefused}
-use Rattle.fleet.specs.declared.refusals.FleetRefused.TheVariants as fleet
 use Rattle.reply_json.specs.declared.reply.Carried.{Carried}
-use Rattle.reply_json.specs.declared.reply.Carried.TheVariants.{Nothing, Name, Cause, Id}
+use Rattle.reply_json.specs.declared.reply.Carried.TheVariants.{Nothing, Name, Vm, Cause, Id}
 use Rattle.reply_json.specs.declared.reply.Reply.{Reply}
 use Rattle.reply_json.specs.declared.reply.Reply.TheVariants.{Refused}
-use Rattle.fleet_commands.specs.declared.refusal.Refusal.{Refusal}
-use Rattle.fleet_commands.specs.declared.refusal.Refusal.TheVariants.{Long, Json, Command, Field, Number, NameTaken, UnknownHost, BadSize, TooMany, UnknownVm, AlreadyEnabled, Off, Range, LogFull, UnknownSnapshot, Owned, Since, Strange, AlreadyOn, AlreadyOff, Spent, Volume}
+use Rattle.answers.specs.declared.refusal.Refusal.{Refusal}
+use Rattle.answers.specs.declared.refusal.Refusal.TheVariants.{Long, Json, Command, Field, Number, NameTaken, UnknownHost, BadSize, TooMany, UnknownVm, UnknownListed, Doubled, InPlan, NoTracking, Empty, UnknownPlan, Started, NotStarted, Ended, AlreadyEnabled, Off, Range, LogFull, UnknownSnapshot, Owned, Since, Strange, AlreadyOn, AlreadyOff, Spent, Volume}
 
 abbrev pub refusal_text : Refusal → List ℕ
 refusal_text Long = codes "long"
@@ -27,6 +20,15 @@ refusal_text UnknownHost = codes "unknown-host"
 refusal_text BadSize = codes "bad-size"
 refusal_text TooMany = codes "too-many"
 refusal_text UnknownVm = codes "unknown-vm"
+refusal_text (UnknownListed vm) = codes "unknown-vm"
+refusal_text (Doubled vm) = codes "doubled"
+refusal_text (InPlan vm) = codes "in-plan"
+refusal_text (NoTracking vm) = codes "no-tracking"
+refusal_text Empty = codes "empty"
+refusal_text UnknownPlan = codes "unknown-plan"
+refusal_text Started = codes "started"
+refusal_text NotStarted = codes "not-started"
+refusal_text Ended = codes "ended"
 refusal_text AlreadyEnabled = codes "already-enabled"
 refusal_text Off = codes "off"
 refusal_text Range = codes "range"
@@ -57,6 +59,15 @@ carried_by UnknownHost = Nothing
 carried_by BadSize = Nothing
 carried_by TooMany = Nothing
 carried_by UnknownVm = Nothing
+carried_by (UnknownListed vm) = Vm vm
+carried_by (Doubled vm) = Vm vm
+carried_by (InPlan vm) = Vm vm
+carried_by (NoTracking vm) = Vm vm
+carried_by Empty = Nothing
+carried_by UnknownPlan = Nothing
+carried_by Started = Nothing
+carried_by NotStarted = Nothing
+carried_by Ended = Nothing
 carried_by AlreadyEnabled = Nothing
 carried_by Off = Nothing
 carried_by Range = Nothing
@@ -72,31 +83,3 @@ carried_by Volume = Nothing
 
 abbrev pub refusal_reply : Refusal → Reply
 refusal_reply why = Refused (refusal_text why) (carried_by why)
-
--- ---- what is answered where the layer below refuses. Want of memory is answered by nothing, and
--- no command asks that a machine be off
-
-abbrev pub link_told : LinkRefused → Option Refusal
-link_told link.UnknownSnap = Some UnknownSnapshot
-link_told link.Running = None
-link_told (link.Strange id) = Some (Strange id)
-link_told link.Range = Some Range
-link_told link.AlreadyOff = Some AlreadyOff
-link_told link.AlreadyOn = Some AlreadyOn
-link_told link.Spent = Some Spent
-link_told link.Owned = Some Owned
-link_told link.AlreadyEnabled = Some AlreadyEnabled
-link_told link.NoMemory = None
-
-abbrev pub write_told : WriteRefused → Option Refusal
-write_told write.Off = Some Off
-write_told write.Range = Some Range
-write_told write.LogFull = Some LogFull
-write_told write.NoMemory = None
-
-abbrev pub fleet_told : FleetRefused → Option Refusal
-fleet_told fleet.NameTaken = Some NameTaken
-fleet_told fleet.UnknownHost = Some UnknownHost
-fleet_told fleet.TooMany = Some TooMany
-fleet_told fleet.BadSize = Some BadSize
-fleet_told fleet.NoMemory = None
