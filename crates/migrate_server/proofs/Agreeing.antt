@@ -1,5 +1,5 @@
 -- The same lines have the same answers, as long as the store fails in none.
-use Rattle.std.proofs.Common.{◌≡◌, ◌≢◌, ℕ, ◌/◌, Bool, true, false, List, [], ◌∷◌, Option, Some, None, Result, Ok, Err, option_map, if◌then◌else◌, inl, inr, refl, sym, ap, subst, ◌∙◌}
+use Rattle.std.proofs.Common.{◌≡◌, ◌≢◌, ◌⊎◌, ℕ, Bool, true, false, List, [], ◌∷◌, Option, Some, None, Result, Ok, Err, option_map, if◌then◌else◌, inl, inr, refl, sym, ap, subst, ◌∙◌}
 use Rattle.std.specs.Prelude.{MatchOption, IfSome, is_some}
 use Rattle.std.specs.BTreeMap.{is_at}
 use Rattle.std.proofs.lemmas.List.Elements.{All-head, All-tail}
@@ -11,7 +11,7 @@ use Rattle.cmd_json.specs.declared.command.Command.{Command}
 use Rattle.cmd_json.specs.declared.command.Command.TheVariants.{Move, Query}
 use Rattle.fleet.specs.Fleet.{FleetState}
 use Rattle.answers.specs.Answer.{Answer}
-use Rattle.fleet_commands.specs.commands.Query.{AsksSince, QueryRefusal, QueryReplies, query_refusal, query_reply}
+use Rattle.fleet_commands.specs.commands.Query.{query_refusal, query_reply}
 use Rattle.fleet_commands.proofs.Asked.{asks_for_one}
 use Rattle.answers.specs.declared.refusal.Refusal.{Refusal}
 use Rattle.answers.specs.declared.refusal.Refusal.TheVariants.{NameTaken, Volume}
@@ -23,7 +23,6 @@ use Rattle.target_volume.specs.declared.volume_name.VolumeName.TheVariants.{Give
 use Rattle.target_volume.proofs.NameLemmas.{exact_volumes, find-with_same}
 use Rattle.target_volume.proofs.PairLemmas.{lookup-insert_entry_other}
 use Rattle.migrate_server.specs.Laws.{HaveSameNames, Agree, NoneFails}
-use Rattle.migrate_server.specs.Line.{Means}
 use Rattle.migrate_server.specs.Session.{State, serving, refusal_of, LateRefusal, HasRefusal, reply_of, Replies, state_after, Answers, LineAnswers, Step, Session}
 use Rattle.migrate_server.specs.commands.Moves.{name_refusal, moved_volume}
 use Rattle.migrate_server.specs.declared.line.Line.{Line}
@@ -90,7 +89,7 @@ after_by_fleet : (command : Command) (s : State) (store : StoreState)
 after_by_fleet (Move name sectors writes) s store = refl
 after_by_fleet _ s store = refl
 
-same_fleet_after : (command : Command) (one other : State) → other.fleet ≡ one.fleet
+pub same_fleet_after : (command : Command) (one other : State) → other.fleet ≡ one.fleet
     → (state_after command other).fleet ≡ (state_after command one).fleet
 same_fleet_after command one other same =
     after_by_fleet command other one.store
@@ -121,17 +120,28 @@ taken_alike name a b (Some v) None names h k = absurd names
 taken_alike name a b (Some v) (Some w) names h k =
     k ∙ ap (λ (t : Bool). if t then Some NameTaken else None) (names (Given name)) ∙ sym h
 
+abbrev pub IsNoMove : Command → Type 0
+IsNoMove (Move name sectors writes) = ⊥
+IsNoMove _ = Unit {0}
+
+pub late_by_fleet : (command : Command) → IsNoMove command → (a b : Option Refusal)
+    (one other : State) → other.fleet ≡ one.fleet → LateRefusal command a one
+    → LateRefusal command b other → b ≡ a
+late_by_fleet (Move name sectors writes) moves a b one other same h k = absurd moves
+late_by_fleet (Query vm snapshot disk since start) moves a b one other same h k =
+    k.2
+    ∙ ap (λ (asked : Result Since IdRefused). query_refusal vm snapshot disk asked start other.fleet)
+    (asks_for_one since k.0 h.0 k.1 h.1)
+    ∙ ap (λ (f : FleetState). query_refusal vm snapshot disk h.0 start f) same
+    ∙ sym h.2
+late_by_fleet _ moves a b one other same h k = k ∙ sym h
+
 late_alike : (command : Command) (a b : Option Refusal) (one other : State) → Agree one other
     → LateRefusal command a one → LateRefusal command b other → b ≡ a
 late_alike (Move name sectors writes) a b one other agree h k =
     taken_alike name a b one.store.volumes other.store.volumes agree.names h.1 k.1
-late_alike (Query vm snapshot disk since start) a b one other agree h k =
-    k.2
-    ∙ ap (λ (asked : Result Since IdRefused). query_refusal vm snapshot disk asked start other.fleet)
-    (asks_for_one since k.0 h.0 k.1 h.1)
-    ∙ ap (λ (f : FleetState). query_refusal vm snapshot disk h.0 start f) agree.fleet
-    ∙ sym h.2
-late_alike _ a b one other agree h k = k ∙ sym h
+late_alike command a b one other agree h k =
+    late_by_fleet command tt a b one other agree.fleet h k
 
 found_alike : (refusal : Option Refusal) (P Q : Type 0) (a b : Option Refusal) → (P → Q → b ≡ a)
     → MatchOption refusal P (λ why. a ≡ Some why) → MatchOption refusal Q (λ why. b ≡ Some why)
@@ -139,37 +149,65 @@ found_alike : (refusal : Option Refusal) (P Q : Type 0) (a b : Option Refusal) �
 found_alike None P Q a b late h k = late h k
 found_alike (Some why) P Q a b late h k = k ∙ sym h
 
-refused_alike : (command : Command) (a b : Option Refusal) (one other : State) → Agree one other
-    → HasRefusal command a one → HasRefusal command b other → b ≡ a
-refused_alike command a b one other agree h k =
+-- two refusals of the command are the same
+abbrev pub OneRefusal : Command → (one other : State) → Type 0
+OneRefusal command one other = (a b : Option Refusal) → HasRefusal command a one
+    → HasRefusal command b other → b ≡ a
+
+pub one_refusal : (command : Command) (one other : State) → other.fleet ≡ one.fleet
+    → ((a b : Option Refusal) → LateRefusal command a one → LateRefusal command b other → b ≡ a)
+    → OneRefusal command one other
+one_refusal command one other same late a b h k =
     found_alike (refusal_of command one) (LateRefusal command a one) (LateRefusal command b other) a b
-    (late_alike command a b one other agree) h
+    (late a b) h
     (subst (λ (r : Option Refusal). MatchOption r (LateRefusal command b other) (λ why. b ≡ Some why))
-    (same_refusal command one other agree.fleet) k)
+    (same_refusal command one other same) k)
 
 -- ---- the same reply
 
-replied_alike : (command : Command) (a b : Reply) (one other : State) → Agree one other
+replied_alike : (command : Command) (a b : Reply) (one other : State) → other.fleet ≡ one.fleet
     → Replies command a one → Replies command b other → b ≡ a
-replied_alike (Query vm snapshot disk since start) a b one other agree h k =
+replied_alike (Query vm snapshot disk since start) a b one other same h k =
     k.2
     ∙ ap (λ (asked : Result Since IdRefused). query_reply vm snapshot disk asked start other.fleet)
     (asks_for_one since k.0 h.0 k.1 h.1)
-    ∙ ap (λ (f : FleetState). query_reply vm snapshot disk h.0 start f) agree.fleet
+    ∙ ap (λ (f : FleetState). query_reply vm snapshot disk h.0 start f) same
     ∙ sym h.2
-replied_alike command a b one other agree h k =
-    k ∙ same_reply command one other agree.fleet ∙ sym h
+replied_alike command a b one other same h k =
+    k ∙ same_reply command one other same ∙ sym h
 
 -- ---- the same answer
 
--- a refusal that no failing store gave
-plainly : (command : Command) (why : Refusal) (old new : State)
-    → ◌≢◌ {A = Answer} (Err why) (Err Volume) → Answers command (Err why) old new
-    → HasRefusal command (Some why) old × (new ≡ old)
-plainly command why old new other h = elim h [
+-- an answer that no failing store gave
+abbrev pub Plain : Command → Answer → (old new : State) → Type 0
+Plain command (Ok reply) old new = Answers command (Ok reply) old new
+Plain command (Err why) old new = HasRefusal command (Some why) old × (new ≡ old)
+
+plainly : (command : Command) (answer : Answer) (old new : State) → answer ≢ Err Volume
+    → Answers command answer old new → Plain command answer old new
+plainly command (Ok reply) old new other h = h
+plainly command (Err why) old new other h = elim h [
   | inl same ↦ same
   | inr fails ↦ absurd (other (ap Err fails.0))
 ]
+
+-- both states stayed, or both are what the command leaves
+abbrev pub BothLeft : Command → (one other one_after other_after : State) → Type 0
+BothLeft command one other one_after other_after = ((one_after ≡ one) × (other_after ≡ other))
+    ⊎ ((one_after ≡ state_after command one) × (other_after ≡ state_after command other))
+
+pub plain_alike : (command : Command) (a b : Answer) (one other one_after other_after : State)
+    → other.fleet ≡ one.fleet → OneRefusal command one other → Plain command a one one_after
+    → Plain command b other other_after
+    → (b ≡ a) × BothLeft command one other one_after other_after
+plain_alike command (Ok a) (Ok b) one other one_after other_after same refused h k =
+    (ap Ok (replied_alike command a b one other same h.1 k.1), inr (h.2, k.2))
+plain_alike command (Ok a) (Err w) one other one_after other_after same refused h k =
+    absurd (none-some w (sym (refused None (Some w) h.0 k.0)))
+plain_alike command (Err v) (Ok b) one other one_after other_after same refused h k =
+    absurd (none-some v (refused (Some v) None h.0 k.0))
+plain_alike command (Err v) (Err w) one other one_after other_after same refused h k =
+    (ap Err (same_Some w v (refused (Some v) (Some w) h.0 k.0)), inl (h.1, k.1))
 
 still : (one other one_after other_after : State) → one_after ≡ one → other_after ≡ other
     → Agree one other → Agree one_after other_after
@@ -177,26 +215,23 @@ still one other one_after other_after h k agree =
     subst (λ (s : State). Agree s other_after) (sym h)
     (subst (λ (s : State). Agree one s) (sym k) agree)
 
+left_alike : (command : Command) (one other one_after other_after : State) → Agree one other
+    → BothLeft command one other one_after other_after → Agree one_after other_after
+left_alike command one other one_after other_after agree (inl stay) =
+    still one other one_after other_after stay.0 stay.1 agree
+left_alike command one other one_after other_after agree (inr go) =
+    still (state_after command one) (state_after command other) one_after other_after go.0 go.1
+    (agree_after command one other agree)
+
 answers_alike : (command : Command) (a b : Answer) (one other one_after other_after : State)
     → Agree one other → a ≢ Err Volume → b ≢ Err Volume → Answers command a one one_after
     → Answers command b other other_after → (b ≡ a) × Agree one_after other_after
-answers_alike command (Ok a) (Ok b) one other one_after other_after agree sound sounds h k = (
-  ap Ok (replied_alike command a b one other agree h.1 k.1),
-  still (state_after command one) (state_after command other) one_after other_after h.2 k.2
-      (agree_after command one other agree),
-)
-answers_alike command (Ok a) (Err w) one other one_after other_after agree sound sounds h k =
-    let p = plainly command w other other_after sounds k in
-    absurd (none-some w (sym (refused_alike command None (Some w) one other agree h.0 p.0)))
-answers_alike command (Err v) (Ok b) one other one_after other_after agree sound sounds h k =
-    let p = plainly command v one one_after sound h in
-    absurd (none-some v (refused_alike command (Some v) None one other agree p.0 k.0))
-answers_alike command (Err v) (Err w) one other one_after other_after agree sound sounds h k =
-    let p = plainly command v one one_after sound h in
-    let q = plainly command w other other_after sounds k in (
-      ap Err (same_Some w v (refused_alike command (Some v) (Some w) one other agree p.0 q.0)),
-      still one other one_after other_after p.1 q.1 agree,
-    )
+answers_alike command a b one other one_after other_after agree sound sounds h k =
+    let refused = one_refusal command one other agree.fleet
+    (λ x y. late_alike command x y one other agree) in
+    let both = plain_alike command a b one other one_after other_after agree.fleet refused
+    (plainly command a one one_after sound h) (plainly command b other other_after sounds k) in
+    (both.0, left_alike command one other one_after other_after agree both.1)
 
 line_alike : (what : Line) (a b : Answer) (one other one_after other_after : State)
     → Agree one other → a ≢ Err Volume → b ≢ Err Volume → LineAnswers what a one one_after

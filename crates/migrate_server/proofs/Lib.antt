@@ -6,6 +6,10 @@ pub mod Moving
 pub mod Complete
 pub mod Meanings
 pub mod Answered
+pub mod EachCommand
 pub mod LogsAfter
+pub mod GoingOn
 pub mod Agreeing
+pub mod AnyStores
+pub mod SameInput
 pub mod Serving

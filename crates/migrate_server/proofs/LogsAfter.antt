@@ -1,5 +1,5 @@
 -- What the commands of a session make of the logs of the fleet, and that its machines stay in.
-use Rattle.std.proofs.Common.{◌≡◌, ℕ, ◌-◌, Bool, true, false, List, [], ◌∷◌, ◌++◌, Option, Some, None, Result, Ok, Err, if◌then◌else◌, inl, inr, refl, sym, ap, subst, ◌∙◌, arith}
+use Rattle.std.proofs.Common.{◌≡◌, ℕ, ◌-◌, true, false, List, [], ◌∷◌, ◌++◌, Option, Some, None, Result, Ok, Err, refl, sym, ap, subst, ◌∙◌, arith}
 use Rattle.std.specs.Prelude.{MatchOption, IsSome, All, unwrap_or}
 use Rattle.std.specs.Option.{option_map_or}
 use Rattle.std.proofs.lemmas.Option.{get_or_from_slice_get, slice_get_within}
@@ -7,7 +7,7 @@ use Rattle.std.proofs.lemmas.List.{append-nil}
 use Rattle.std.proofs.lemmas.List.Elements.{All-append, All-cons, All-set}
 use Rattle.cmd_json.specs.Line.{command_of}
 use Rattle.cmd_json.specs.declared.command.Command.{Command}
-use Rattle.cmd_json.specs.declared.command.Command.TheVariants.{Move, Quit, Host, Vm, Enable, Write, Snapshot, Remove, Query, Read, Power, Reset, Inventory, Plan, Start, Run, Cutover, Cancel, Status, Target, Digest, Restart}
+use Rattle.cmd_json.specs.declared.command.Command.TheVariants.{Host, Vm, Enable, Write, Snapshot, Remove, Power, Reset}
 use Rattle.cmd_json.specs.declared.refusal.CmdRefused.{CmdRefused}
 use Rattle.log_model.specs.declared.entry.Act.{Act}
 use Rattle.log_model.specs.declared.entry.Entry.{Entry}
@@ -22,18 +22,18 @@ use Rattle.fleet_commands.specs.Machines.{machine_named, after_act}
 use Rattle.fleet_commands.specs.commands.Deed.{act_of}
 use Rattle.fleet_commands.specs.commands.Snapshot.{snap_act}
 use Rattle.fleet_commands.specs.commands.Write.{fill_act}
-use Rattle.fleet_commands.specs.declared.deed.Deed.{Deed}
 use Rattle.fleet_commands.specs.declared.deed.Deed.TheVariants as deed
 use Rattle.fleet_commands.specs.declared.host.TheConstants.{DEFAULT_HOST_LIMIT}
 use Rattle.answers.specs.declared.refusal.Refusal.{Refusal}
 use Rattle.answers.specs.declared.refusal.Refusal.TheVariants.{UnknownVm}
 use Rattle.fleet_commands.proofs.LogLemmas.{acts_add_there, hosts_add_none, vms_add_none, acts_keep_in}
 use Rattle.reply_json.specs.declared.reply.Reply.{Reply}
-use Rattle.migrate_server.specs.Line.{AsksFor, Means}
-use Rattle.migrate_server.specs.Session.{State, power_deed, refusal_of, LateRefusal, HasRefusal, state_after, Fails, Answers, LineAnswers, Session}
+use Rattle.migrate_server.specs.Line.{Means}
+use Rattle.migrate_server.specs.Session.{State, power_deed, refusal_of, LateRefusal, state_after, LineAnswers, Session}
 use Rattle.migrate_server.specs.Sources.{entries_asked, log_after}
 use Rattle.migrate_server.specs.declared.line.Line.{Line}
 use Rattle.migrate_server.specs.declared.line.Line.TheVariants.{Blank, Asks, Refuses}
+use Rattle.migrate_server.proofs.EachCommand.{line_stays, session_keeps}
 
 -- ---- machines stay in
 
@@ -119,18 +119,6 @@ in_then (Power vm on) s h = acts_keep_in logs_stay_in vm (λ log. act_of (power_
 in_then (Reset vm disk) s h = acts_keep_in logs_stay_in vm (λ log. act_of (deed.Reset disk)) s.fleet h
 in_then _ s h = h
 
-failed_stays : (command : Command) (old new : State) → Fails command old new
-    → new.fleet ≡ old.fleet
-failed_stays (Move name sectors writes) old new h = h.0
-failed_stays _ old new h = absurd h
-
-refused_stays : (command : Command) (why : Refusal) (old new : State)
-    → Answers command (Err why) old new → new.fleet ≡ old.fleet
-refused_stays command why old new h = elim h [
-  | inl same ↦ ap (λ (s : State). s.fleet) same.1
-  | inr fails ↦ failed_stays command old new fails.2
-]
-
 -- ---- one line
 
 line_log : (name line : List ℕ) (what : Line) (reply : Reply) (old new : State)
@@ -144,26 +132,6 @@ line_log name line (Asks command) reply old new means h =
     ap (λ (s : State). log_named name s.fleet) h.2 ∙ log_then name command old none
     ∙ ap (λ (read : Result Command CmdRefused). log ++ entries_asked read name log) (sym means.reads)
 line_log name line (Refuses why) reply old new means h = let e = h.0 in cc
-
-line_stays : (what : Line) (why : Refusal) (old new : State) → LineAnswers what (Err why) old new
-    → new.fleet ≡ old.fleet
-line_stays Blank why old new h = absurd h
-line_stays (Asks command) why old new h = refused_stays command why old new h
-line_stays (Refuses other) why old new h = ap (λ (s : State). s.fleet) h.1
-
-answers_in : (command : Command) (answer : Answer) (old new : State)
-    → Answers command answer old new → AllAreIn old.fleet → AllAreIn new.fleet
-answers_in command (Ok reply) old new h are =
-    subst (λ (s : State). AllAreIn s.fleet) (sym h.2) (in_then command old are)
-answers_in command (Err why) old new h are =
-    subst AllAreIn (sym (refused_stays command why old new h)) are
-
-line_in : (what : Line) (answer : Answer) (old new : State) → LineAnswers what answer old new
-    → AllAreIn old.fleet → AllAreIn new.fleet
-line_in Blank answer old new h are = absurd h
-line_in (Asks command) answer old new h are = answers_in command answer old new h are
-line_in (Refuses why) answer old new h are =
-    subst (λ (s : State). AllAreIn s.fleet) (sym h.1) are
 
 -- ---- a session
 
@@ -184,8 +152,5 @@ session_log old new (l ∷ lines) (Err why ∷ answers) h name =
 
 pub session_in : (old new : State) (lines : List (List ℕ)) (answers : List Answer)
     → Session old lines answers new → AllAreIn old.fleet → AllAreIn new.fleet
-session_in old new [] [] h are = subst (λ (s : State). AllAreIn s.fleet) (sym h) are
-session_in old new [] (a ∷ answers) h are = absurd h
-session_in old new (l ∷ lines) [] h are = absurd h
-session_in old new (l ∷ lines) (a ∷ answers) h are =
-    session_in h.0 new lines answers h.2 (line_in (h.1).0 a old h.0 (h.1).2 are)
+session_in old new lines answers h = session_keeps (λ a b. AllAreIn a → AllAreIn b)
+    (λ fleet are. are) (λ first second third p q are. q (p are)) in_then old new lines answers h

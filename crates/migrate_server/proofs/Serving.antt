@@ -12,6 +12,7 @@ use Rattle.std.proofs.lemmas.Grind.{flat_map-append}
 use Rattle.basics.specs.Faults.{Rose, HasRisen}
 use Rattle.edge_traits.specs.Source.{SourceState}
 use Rattle.fleet.specs.Sound.{AllAreIn}
+use Rattle.fleet.proofs.Logs.{goes_on_itself}
 use Rattle.edge_traits.specs.Sink.{SinkState, AppendsPrefix}
 use Rattle.migrate_server.specs.declared.line_buffer.LineBuffer.{LineBuffer}
 use Rattle.cmd_json.specs.Line.{command_of}
@@ -32,15 +33,16 @@ use Rattle.migrate_server.specs.declared.serve.Stop.{Stop}
 use Rattle.migrate_server.specs.declared.serve.Stop.TheVariants.{WriteFault, NoMemory}
 use Rattle.migrate_server.specs.EndsFor.{EndsFor, TellsUsage, usage_line}
 use Rattle.migrate_server.specs.declared.line.TheConstants.{LINE_LIMIT}
-use Rattle.answers.specs.Answer.{Answer, answer_line, reply_for}
-use Rattle.migrate_server.specs.Line.{AsksToQuit, Means, line_refusal, refused_by, quits, is_space, is_blank, is_lf, lines_of, ended_lines, before_first_line, requests_among}
+use Rattle.answers.specs.Answer.{Answer, answer_line}
+use Rattle.migrate_server.specs.Line.{AsksToQuit, Means, refused_by, quits, is_space, is_blank, is_lf, lines_of, ended_lines, before_first_line, requests_among}
 use Rattle.migrate_server.specs.LineBuffer.{Holds}
 use Rattle.migrate_server.specs.Reader.{ReaderState, HasNoLf, IsIdle, TakesLine, TakesEnd, HasNoLine, budget}
 use Rattle.migrate_server.specs.Serve.{IsAnswered, HasReply, TellsQuit, ServesLine, FailsInReply, LacksReply, LacksBytes, bytes_of_reply, stop_without_line, stop_without_reply, status_of}
-use Rattle.migrate_server.specs.Serves.{Serves, NoneQuits, QuitsLast, EndsByQuit}
+use Rattle.migrate_server.specs.Serves.{Serves, NoneQuits, QuitsLast}
 use Rattle.migrate_server.specs.Session.{State, state_of, Session, Step}
 use Rattle.migrate_server.specs.World.{World}
 use Rattle.migrate_server.proofs.Complete.{session_complete, session_sound, no_volume}
+use Rattle.migrate_server.proofs.GoingOn.{session_goes_on}
 use Rattle.migrate_server.proofs.LogsAfter.{session_log, session_in}
 use Rattle.migrate_server.proofs.Meanings.{means_one}
 
@@ -409,6 +411,7 @@ ended_at_once old = record {
     session = refl;
     complete = λ tells. tt;
     only_writes = λ name. refl;
+    goes_on = goes_on_itself old.fleet;
     all_in = λ are. are;
     no_volume = λ sound. λ k d within. absurd (omega arith);
     written = [];
@@ -444,6 +447,7 @@ ended_whole_input old now source reader reader_after p t =
         session = p.session;
         complete = session_complete (state_of old) (state_of now) (requests_among p.lines) p.replies p.session;
         only_writes = session_log (state_of old) (state_of now) (requests_among p.lines) p.replies p.session;
+        goes_on = session_goes_on (state_of old) (state_of now) (requests_among p.lines) p.replies p.session;
         all_in = session_in (state_of old) (state_of now) (requests_among p.lines) p.replies p.session;
         no_volume = λ sound. no_volume (state_of old) (state_of now) (requests_among p.lines) p.replies p.session sound;
         written = text_of p.replies;
@@ -482,6 +486,7 @@ ended_by_quit old now after reader reader_after buffer p t serves asks =
         session = replied.session;
         complete = session_complete (state_of old) (state_of after) (requests_among lines) replied.replies replied.session;
         only_writes = session_log (state_of old) (state_of after) (requests_among lines) replied.replies replied.session;
+        goes_on = session_goes_on (state_of old) (state_of after) (requests_among lines) replied.replies replied.session;
         all_in = session_in (state_of old) (state_of after) (requests_among lines) replied.replies replied.session;
         no_volume = λ sound. no_volume (state_of old) (state_of after) (requests_among lines) replied.replies replied.session sound;
         written = text_of replied.replies;
@@ -530,6 +535,7 @@ ended_without_line old now source reader reader_after LineFault p f =
         session = p.session;
         complete = session_complete (state_of old) (state_of now) (requests_among p.lines) p.replies p.session;
         only_writes = session_log (state_of old) (state_of now) (requests_among p.lines) p.replies p.session;
+        goes_on = session_goes_on (state_of old) (state_of now) (requests_among p.lines) p.replies p.session;
         all_in = session_in (state_of old) (state_of now) (requests_among p.lines) p.replies p.session;
         no_volume = λ sound. no_volume (state_of old) (state_of now) (requests_among p.lines) p.replies p.session sound;
         written = text_of p.replies;
@@ -566,6 +572,7 @@ ended_without_line old now source reader reader_after Limit p f =
         session = p.session;
         complete = session_complete (state_of old) (state_of now) (requests_among p.lines) p.replies p.session;
         only_writes = session_log (state_of old) (state_of now) (requests_among p.lines) p.replies p.session;
+        goes_on = session_goes_on (state_of old) (state_of now) (requests_among p.lines) p.replies p.session;
         all_in = session_in (state_of old) (state_of now) (requests_among p.lines) p.replies p.session;
         no_volume = λ sound. no_volume (state_of old) (state_of now) (requests_among p.lines) p.replies p.session sound;
         written = text_of p.replies;
@@ -599,6 +606,7 @@ ended_without_line old now source reader reader_after NoLineMemory p f =
         session = p.session;
         complete = session_complete (state_of old) (state_of now) (requests_among p.lines) p.replies p.session;
         only_writes = session_log (state_of old) (state_of now) (requests_among p.lines) p.replies p.session;
+        goes_on = session_goes_on (state_of old) (state_of now) (requests_among p.lines) p.replies p.session;
         all_in = session_in (state_of old) (state_of now) (requests_among p.lines) p.replies p.session;
         no_volume = λ sound. no_volume (state_of old) (state_of now) (requests_among p.lines) p.replies p.session sound;
         written = text_of p.replies;
@@ -643,6 +651,7 @@ ended_at_fault old now after reader reader_after buffer p t f =
         session = session;
         complete = session_complete (state_of old) (state_of after) (requests_among (p.lines ++ t.text ∷ [])) (p.replies ++ f.reply ∷ []) session;
         only_writes = session_log (state_of old) (state_of after) (requests_among (p.lines ++ t.text ∷ [])) (p.replies ++ f.reply ∷ []) session;
+        goes_on = session_goes_on (state_of old) (state_of after) (requests_among (p.lines ++ t.text ∷ [])) (p.replies ++ f.reply ∷ []) session;
         all_in = session_in (state_of old) (state_of after) (requests_among (p.lines ++ t.text ∷ [])) (p.replies ++ f.reply ∷ []) session;
         no_volume = λ sound. no_volume (state_of old) (state_of after) (requests_among (p.lines ++ t.text ∷ [])) (p.replies ++ f.reply ∷ []) session sound;
         written = text_of p.replies ++ take place (answer_line f.reply);
@@ -677,6 +686,7 @@ ended_before_reply old now after reader reader_after buffer p t sink (inl stays)
         session = session;
         complete = session_complete (state_of old) (state_of after) (requests_among p.lines) p.replies session;
         only_writes = session_log (state_of old) (state_of after) (requests_among p.lines) p.replies session;
+        goes_on = session_goes_on (state_of old) (state_of after) (requests_among p.lines) p.replies session;
         all_in = session_in (state_of old) (state_of after) (requests_among p.lines) p.replies session;
         no_volume = λ sound. no_volume (state_of old) (state_of after) (requests_among p.lines) p.replies session sound;
         written = text_of p.replies;
@@ -707,6 +717,7 @@ ended_before_reply old now after reader reader_after buffer p t sink (inr r) =
         session = session;
         complete = session_complete (state_of old) (state_of after) (requests_among (p.lines ++ t.text ∷ [])) (p.replies ++ reply ∷ []) session;
         only_writes = session_log (state_of old) (state_of after) (requests_among (p.lines ++ t.text ∷ [])) (p.replies ++ reply ∷ []) session;
+        goes_on = session_goes_on (state_of old) (state_of after) (requests_among (p.lines ++ t.text ∷ [])) (p.replies ++ reply ∷ []) session;
         all_in = session_in (state_of old) (state_of after) (requests_among (p.lines ++ t.text ∷ [])) (p.replies ++ reply ∷ []) session;
         no_volume = λ sound. no_volume (state_of old) (state_of after) (requests_among (p.lines ++ t.text ∷ [])) (p.replies ++ reply ∷ []) session sound;
         written = text_of p.replies;

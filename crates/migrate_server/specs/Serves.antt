@@ -4,6 +4,7 @@
 use Rattle.std.specs.Prelude.{◌≡◌, ◌≢◌, ◌⊎◌, ℕ, ◌+◌, ◌<◌, ◌≤◌, All, List, [], ◌∷◌, ◌++◌, ◌-◌, length, take, drop, Option, Err, IfSome, IsSome, IsTrue}
 use Rattle.std.specs.List.{flat_map}
 use Rattle.std.specs.Io.KnownBytes.{Appends, Consumes, IsAtEnd}
+use Rattle.fleet.specs.Fleet.{FleetGoesOn}
 use Rattle.fleet.specs.Sound.{AllAreIn}
 use Rattle.answers.specs.Answer.{Answer, answer_line}
 use Rattle.fleet_commands.specs.Logs.{log_named}
@@ -107,6 +108,8 @@ pub record Serves (old new : World) (status : Status) : Type 0 where
   -- each log has besides what it had just the entries of the commands that weren't refused
   pub only_writes : (name : List ℕ) → log_named name new.fleet
       ≡ log_after name (log_named name old.fleet) (requests_among lines) replies
+  -- no host and no machine is lost or changed, and each log only grows
+  pub goes_on : FleetGoesOn old.fleet new.fleet
   pub all_in : AllAreIn old.fleet → AllAreIn new.fleet
   pub no_volume : IsTrue old.store.sound → All (λ reply. reply ≢ Err Volume) replies
   -- the bytes that were written, and those that were not

@@ -23,7 +23,7 @@ mod written_disk;
 use crate::serve::{Stop, serve};
 use edge_traits::{Disk, Sink, Source};
 pub use fleet::Fleet;
-pub use laws::sessions_agree;
+pub use laws::{sessions_agree, stores_answer_moves_alone};
 pub use status::Status;
 use std::alloc::Global;
 use target_volume::VolumeStore;
