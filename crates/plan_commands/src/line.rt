@@ -62,11 +62,18 @@ fn check_lines(
     ensures { IfOk result
         (λ lines. lines ≡ map check_line (map checkpoint_line checkpoints.now)) }
 {
+    Ok(Sequence::from_vec(shown(alloc, checkpoints)?))
+}
+
+fn shown(alloc: Global, checkpoints: &[Checkpoint]) -> Result<Vec<CheckLine>, NoMemory>
+    ensures { IfOk result (λ lines. lines.items
+        ≡ map (λ checkpoint. check_line (checkpoint_line checkpoint)) checkpoints.now) }
+{
     let lines = checkpoints.iter().map(|checkpoint| CheckLine {
         previous: checkpoint.previous,
         current: checkpoint.current,
     });
-    Ok(Sequence::from_vec(lines.collect(alloc)?))
+    Ok(lines.collect(alloc)?)
 }
 
 /// A copy of numbers.

@@ -101,10 +101,17 @@ fn all_numbers(
     ensures { IfOk result
         (λ numbers. numbers ≡ numbers_in plan state.now ++ range_with_len first count) }
 {
-    let so_far = state.migrations().iter().filter(|m| m.plan == plan);
-    let mut numbers: Vec<u32> = so_far.map(|m| m.number).collect(alloc)?;
+    let mut numbers = numbers_in(alloc, state, plan)?;
     for place in 0..count {
         numbers.push(first + place)?;
     }
     Ok(Sequence::from_vec(numbers))
+}
+
+/// The numbers of a plan's migrations so far.
+fn numbers_in(alloc: Global, state: &CtlState, plan: u32) -> Result<Vec<u32>, NoMemory>
+    ensures { IfOk result (λ numbers. numbers.items ≡ numbers_in plan state.now) }
+{
+    let migrations = state.migrations().iter().filter(|m| m.plan == plan);
+    Ok(migrations.map(|m| m.number).collect(alloc)?)
 }
