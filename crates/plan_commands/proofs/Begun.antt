@@ -1,6 +1,6 @@
 -- The migrations of a plan's waiting machines may begin one after another, in the plan's order.
-use Rattle.std.proofs.Common.{◌≡◌, ℕ, zero, suc, ◌+◌, ◌-◌, ◌<◌, ◌≤◌, ◌^◌, ◌==◌, ◌&&◌, Bool, true, false, cond, List, [], ◌∷◌, ◌++◌, length, map, drop, get_or, Option, Some, None, option_map, All, refl, ap, ◌∙◌, sym, subst, slice_get, append_assoc, add-one, arith}
-use Rattle.std.specs.Prelude.{nat_le, nat_lt, option_and_then, IsSome, if◌then◌else◌}
+use Rattle.std.proofs.Common.{◌≡◌, ℕ, zero, suc, ◌+◌, ◌-◌, ◌<◌, ◌≤◌, ◌^◌, ◌==◌, ◌&&◌, Bool, true, false, cond, List, [], ◌∷◌, ◌++◌, length, map, drop, Option, Some, None, option_map, All, refl, ap, ◌∙◌, sym, subst, slice_get, append_assoc, add-one, arith}
+use Rattle.std.specs.Prelude.{nat_le, nat_lt, IsSome, if◌then◌else◌}
 use Rattle.std.specs.List.{AllByRecursion, find, zip, range_with_len}
 use Rattle.std.specs.Option.{option_map_or}
 use Rattle.std.specs.Str.{bytes_eq}
@@ -10,7 +10,7 @@ use Rattle.std.proofs.lemmas.List.Elements.{All-drop, All-from_recursion, recurs
 use Rattle.std.proofs.lemmas.Option.{none-some, same_Some, slice_get_within, get_or_from_slice_get}
 use Rattle.basics.specs.declared.limits.TheConstants.{MAX_DISKS}
 use Rattle.answers.specs.declared.refusal.Refusal.TheVariants as told
-use Rattle.source_vm.specs.Machine.{MachineState, may_have_disks}
+use Rattle.source_vm.specs.Machine.{MachineState}
 use Rattle.fleet.specs.Fleet.{VmState, FleetState, vm_of, machine_of}
 use Rattle.fleet.specs.Sound.{IsFleet}
 use Rattle.fleet.proofs.Logs.{at_place, is_within}

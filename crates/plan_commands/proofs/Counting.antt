@@ -19,8 +19,11 @@ abbrev numbered : (first : ℕ) → List ℕ → List (ℕ × ℕ)
 numbered first xs = zip (range_with_len first (length xs)) xs
 
 pub length-numbered : (first : ℕ) (xs : List ℕ) → length (numbered first xs) ≡ length xs
-length-numbered first xs = omega (arith, length-zip (range_with_len first (length xs)) xs,
-    length-range_with_len first (length xs))
+length-numbered first xs = omega (
+  arith,
+  length-zip (range_with_len first (length xs)) xs,
+  length-range_with_len first (length xs),
+)
 
 pub one_pair_more : {X : Type 0} (f : ℕ × ℕ → X) (first : ℕ) (xs : List ℕ) (place : ℕ)
     → place < length xs → map f (take (place + 1) (numbered first xs))

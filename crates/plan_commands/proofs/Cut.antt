@@ -1,5 +1,5 @@
 -- The cutover of a plan that isn't refused may be kept.
-use Rattle.std.proofs.Common.{◌≡◌, ℕ, ◌+◌, ◌<◌, ◌≤◌, ◌^◌, ◌==◌, ◌&&◌, ◌||◌, Bool, true, false, List, [], ◌∷◌, length, Option, Some, None, is_some, refl, ap, ◌∙◌, sym, lit<, arith}
+use Rattle.std.proofs.Common.{◌≡◌, ℕ, ◌<◌, ◌^◌, ◌==◌, ◌&&◌, ◌||◌, Bool, true, false, [], ◌∷◌, Option, Some, None, is_some, refl, ap, ◌∙◌, sym, lit<, arith}
 use Rattle.std.specs.Prelude.{nat_lt, IfSome, if◌then◌else◌}
 use Rattle.std.specs.Option.{option_map_or}
 use Rattle.std.proofs.lemmas.Bool.Decides.{nat_tests}
@@ -7,7 +7,6 @@ use Rattle.std.proofs.lemmas.List.Elements.{All-nil, All-cons}
 use Rattle.std.proofs.lemmas.Option.{none-some}
 use Rattle.answers.specs.declared.refusal.Refusal.TheVariants.{UnknownPlan, NotStarted, Ended}
 use Rattle.plan_model.specs.declared.moment.Moment.{Moment}
-use Rattle.record_codec.specs.declared.record.Record.{Record}
 use Rattle.record_codec.specs.declared.record.Record.TheVariants.{CutoverSet}
 use Rattle.record_codec.specs.Record.{HasSpelling}
 use Rattle.ctl_state.specs.declared.plans.PlanCourse.{PlanCourse}

@@ -1,9 +1,8 @@
 -- What is known of the machine at a place of a fleet, and by a name: its number is that of its
 -- place, so machines of different names have different numbers.
-use Rattle.std.proofs.Common.{◌≡◌, ℕ, zero, suc, ◌+◌, ◌<◌, Bool, true, false, cond, List, [], ◌∷◌, length, get_or, map, Option, Some, None, is_some, option_map, All, refl, ap, ◌∙◌, sym, subst, slice_get, arith}
+use Rattle.std.proofs.Common.{◌≡◌, ℕ, suc, ◌+◌, ◌<◌, Bool, true, false, cond, List, [], ◌∷◌, length, get_or, Option, Some, None, is_some, option_map, refl, ap, ◌∙◌, sym, slice_get, arith}
 use Rattle.std.specs.Prelude.{IsTrue}
 use Rattle.std.specs.List.{find}
-use Rattle.std.specs.Option.{option_map_or}
 use Rattle.std.specs.Str.{bytes_eq}
 use Rattle.std.proofs.lemmas.List.{length-map}
 use Rattle.std.proofs.lemmas.Option.{none-some, same_Some, slice_get-map, slice_get-get_or, some_pair_parts}
@@ -85,13 +84,13 @@ found_at {X} test (y ∷ xs) x h = by (test y) refl h (λ later. found_at test x
 
 -- the machine of a name, at its place
 pub record IsKnown (fleet : FleetState) (v : CtlValue) (name : List ℕ) (fact : VmFact) : Type 0
-    where
-  pub place : ℕ
-  pub vm : VmState
-  pub at : slice_get fleet.vms place ≡ Some vm
-  pub named : vm.name ≡ name
-  pub number : fact.number ≡ place + 1
-  pub in_plan : fact.in_plan ≡ is_at_work v fact.number
+  where
+    pub place : ℕ
+    pub vm : VmState
+    pub at : slice_get fleet.vms place ≡ Some vm
+    pub named : vm.name ≡ name
+    pub number : fact.number ≡ place + 1
+    pub in_plan : fact.in_plan ≡ is_at_work v fact.number
 
 pub is_known : (fleet : FleetState) (v : CtlValue) (name : List ℕ) (fact : VmFact)
     → book.fact_of (known_of fleet v) name ≡ Some fact → IsKnown fleet v name fact

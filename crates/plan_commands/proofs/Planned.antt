@@ -1,5 +1,5 @@
 -- A plan that isn't refused: its machines are known and idle, and differ, so that it may be made.
-use Rattle.std.proofs.Common.{◌≡◌, ℕ, zero, suc, ◌+◌, ◌<◌, ◌≤◌, ◌^◌, ◌==◌, ◌&&◌, ◌||◌, not, Bool, true, false, List, [], ◌∷◌, length, map, Option, Some, None, option_map, refl, ap, ◌∙◌, sym, subst, slice_get, lit≤, arith}
+use Rattle.std.proofs.Common.{◌≡◌, ℕ, ◌+◌, ◌<◌, ◌≤◌, ◌^◌, ◌==◌, ◌&&◌, ◌||◌, not, Bool, true, false, List, [], ◌∷◌, length, map, Option, Some, None, option_map, refl, ap, ◌∙◌, sym, lit≤, arith}
 use Rattle.std.specs.Prelude.{option_and_then, unwrap_or, IfSome, if◌then◌else◌}
 use Rattle.std.specs.List.{AllByRecursion, IsDistinct, find, list_any}
 use Rattle.std.specs.Option.{option_or}
@@ -9,27 +9,21 @@ use Rattle.std.proofs.lemmas.List.{length-map}
 use Rattle.std.proofs.lemmas.List.Elements.{All-nil, All-cons, recursion_from_All}
 use Rattle.std.proofs.lemmas.Map.Steps.{length-le_from_distinct_below}
 use Rattle.std.proofs.lemmas.Option.{none-some, slice_get_within}
-use Rattle.basics.specs.Spelled.{IsName}
 use Rattle.basics.specs.declared.limits.TheConstants.{MAX_INTERVAL}
 use Rattle.cmd_json.specs.Range.{IsWithin}
 use Rattle.answers.specs.declared.refusal.Refusal.TheVariants as told
 use Rattle.fleet.specs.Fleet.{FleetState}
-use Rattle.fleet.specs.Sound.{IsFleet}
-use Rattle.plan_model.specs.declared.plan.Plan.{Plan}
-use Rattle.plan_model.specs.declared.plan.VmFact.{VmFact}
-use Rattle.plan_model.specs.declared.plan.PlanRefused.{PlanRefused}
 use Rattle.plan_model.specs.declared.plan.PlanRefused.TheVariants.{Empty, UnknownVm, InPlan, NoTracking, NameTaken, Doubled}
 use Rattle.plan_model.specs.Book.{is_unknown, is_in_plan, is_untracked}
-use Rattle.plan_model.specs.Laws.{IsFree, IsPossible}
-use Rattle.plan_model.specs.Plans.{is_taken, is_doubled_in, first_that, plan_refusal as model_refusal, next_plan, vm_number}
+use Rattle.plan_model.specs.Laws.{IsFree}
+use Rattle.plan_model.specs.Plans.{is_taken, is_doubled_in, first_that, next_plan, vm_number}
 use Rattle.plan_model.proofs.Accepted.{accepted_is_possible, accepted_machines_differ}
-use Rattle.record_codec.specs.declared.record.Record.{Record}
 use Rattle.record_codec.specs.Record.{HasSpelling}
 use Rattle.ctl_state.specs.Value.{CtlValue, is_at_work, is_listed}
 use Rattle.ctl_state.specs.MayStand.{has_double, record_may_stand}
 use Rattle.ctl_state.specs.Fold.{after_record}
 use Rattle.ctl_state.proofs.FoldFacts.{goes_on}
-use Rattle.plan_commands.specs.Laws.{MayBeKept, PlansMayBeKept}
+use Rattle.plan_commands.specs.Laws.{PlansMayBeKept}
 use Rattle.plan_commands.specs.Machines.{known_of}
 use Rattle.plan_commands.specs.commands.Plan.{plan_told, made_by}
 use Rattle.plan_commands.specs.declared.plan.TheConstants.{DEFAULT_INTERVAL}
@@ -166,8 +160,16 @@ plans_may_be_kept records v fleet name vms interval state sound room named limit
       next = after_record v r;
       stand = goes_on v records r state stands;
       spelled = All-cons HasSpelling r [] (record {
-        ranges = (room, (tt, (omega (arith, fits.1),
-            (all_small fleet v numbers small idle, tt))));
+        ranges = (
+          room,
+          (
+            tt,
+            (
+              omega (arith, fits.1),
+              (all_small fleet v numbers small idle, tt),
+            ),
+          ),
+        );
         rule = record {
           named = named;
           least = fits.0;

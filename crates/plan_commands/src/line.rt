@@ -55,10 +55,7 @@ fn cause_of(alloc: Global, how: Option<How>) -> Result<Option<Text>, NoMemory>
 }
 
 /// The checkpoints, as lines show them.
-fn check_lines(
-    alloc: Global,
-    checkpoints: &[Checkpoint],
-) -> Result<Sequence<CheckLine>, NoMemory>
+fn check_lines(alloc: Global, checkpoints: &[Checkpoint]) -> Result<Sequence<CheckLine>, NoMemory>
     ensures { IfOk result
         (λ lines. lines ≡ map check_line (map checkpoint_line checkpoints.now)) }
 {

@@ -30,12 +30,7 @@ pub(crate) fn known_of(
 }
 
 /// What is known of the machine at a place, from 0 on.
-fn fact_at(
-    alloc: Global,
-    fleet: &Fleet,
-    state: &CtlState,
-    place: u32,
-) -> Result<VmFact, NoMemory>
+fn fact_at(alloc: Global, fleet: &Fleet, state: &CtlState, place: u32) -> Result<VmFact, NoMemory>
     requires place { place < length fleet.now.vms }
     requires all_in { AllAreIn fleet.now }
     ensures { IfOk result (λ fact. slice_get (known_of fleet.now state.now) place ≡ Some fact) }

@@ -45,7 +45,14 @@ pub fn ask_plan(
 {
     let known = known_of(alloc, fleet, state)?;
     let interval = interval.unwrap_or(DEFAULT_INTERVAL);
-    match validate(alloc, name.as_str(), vms, known.as_slice(), state.plans(), interval) {
+    match validate(
+        alloc,
+        name.as_str(),
+        vms,
+        known.as_slice(),
+        state.plans(),
+        interval,
+    ) {
         Ok(plan) => Ok(Ok(asked_once(alloc, made_by(plan), Reply::Done)?)),
         Err(why) => Ok(Err(plan_told(why).ok_or(NoMemory)?)),
     }

@@ -105,12 +105,7 @@ fn plan(
     kept(alloc, state, answer)
 }
 
-fn start(
-    alloc: Global,
-    fleet: &Fleet,
-    state: &mut CtlState,
-    name: &str,
-) -> Result<Vec<u8>, Fail> {
+fn start(alloc: Global, fleet: &Fleet, state: &mut CtlState, name: &str) -> Result<Vec<u8>, Fail> {
     let name = named(alloc, name)?;
     if !has_numbers_for(state, &name) {
         None.ok_or("too many migrations")?
@@ -163,7 +158,10 @@ fn a_name_and_a_machine_are_of_one_plan(rt: HostRuntime) -> Result<(), Fail> {
     let fleet = tracked_fleet(alloc)?;
     let mut state = planned(alloc, &fleet)?;
     let line = plan(alloc, &fleet, &mut state, "p", &[])?;
-    assert_eq!(rt; line.as_slice(), b"{\"error\":\"name-taken\",\"ok\":false}\n".as_slice());
+    assert_eq!(rt;
+        line.as_slice(),
+        b"{\"error\":\"name-taken\",\"ok\":false}\n".as_slice()
+    );
     let line = plan(alloc, &fleet, &mut state, "q", &["b", "a"])?;
     assert_eq!(rt;
         line.as_slice(),
@@ -178,7 +176,10 @@ fn a_plan_lists_known_machines_once(rt: HostRuntime) -> Result<(), Fail> {
     let fleet = tracked_fleet(alloc)?;
     let mut state = CtlState::empty(alloc);
     let line = plan(alloc, &fleet, &mut state, "p", &[])?;
-    assert_eq!(rt; line.as_slice(), b"{\"error\":\"empty\",\"ok\":false}\n".as_slice());
+    assert_eq!(rt;
+        line.as_slice(),
+        b"{\"error\":\"empty\",\"ok\":false}\n".as_slice()
+    );
     let line = plan(alloc, &fleet, &mut state, "p", &["c", "a", "a"])?;
     assert_eq!(rt;
         line.as_slice(),
@@ -200,9 +201,15 @@ fn a_start_numbers_over_all_plans(rt: HostRuntime) -> Result<(), Fail> {
     let _ = plan(alloc, &fleet, &mut state, "p", &["b"])?;
     let _ = plan(alloc, &fleet, &mut state, "q", &["a"])?;
     let line = start(alloc, &fleet, &mut state, "p")?;
-    assert_eq!(rt; line.as_slice(), b"{\"migrations\":[1],\"ok\":true}\n".as_slice());
+    assert_eq!(rt;
+        line.as_slice(),
+        b"{\"migrations\":[1],\"ok\":true}\n".as_slice()
+    );
     let line = start(alloc, &fleet, &mut state, "q")?;
-    assert_eq!(rt; line.as_slice(), b"{\"migrations\":[2],\"ok\":true}\n".as_slice());
+    assert_eq!(rt;
+        line.as_slice(),
+        b"{\"migrations\":[2],\"ok\":true}\n".as_slice()
+    );
     assert_eq!(rt; state.live_on(2), Some(1));
     Ok(())
 }
@@ -213,10 +220,16 @@ fn a_plan_is_started_once(rt: HostRuntime) -> Result<(), Fail> {
     let fleet = tracked_fleet(alloc)?;
     let mut state = planned(alloc, &fleet)?;
     let line = start(alloc, &fleet, &mut state, "q")?;
-    assert_eq!(rt; line.as_slice(), b"{\"error\":\"unknown-plan\",\"ok\":false}\n".as_slice());
+    assert_eq!(rt;
+        line.as_slice(),
+        b"{\"error\":\"unknown-plan\",\"ok\":false}\n".as_slice()
+    );
     let _ = start(alloc, &fleet, &mut state, "p")?;
     let line = start(alloc, &fleet, &mut state, "p")?;
-    assert_eq!(rt; line.as_slice(), b"{\"error\":\"started\",\"ok\":false}\n".as_slice());
+    assert_eq!(rt;
+        line.as_slice(),
+        b"{\"error\":\"started\",\"ok\":false}\n".as_slice()
+    );
     Ok(())
 }
 
@@ -232,7 +245,10 @@ fn a_start_goes_on_where_it_was_cut(rt: HostRuntime) -> Result<(), Fail> {
         disks: 1,
     })?;
     let line = start(alloc, &fleet, &mut state, "p")?;
-    assert_eq!(rt; line.as_slice(), b"{\"migrations\":[1,2],\"ok\":true}\n".as_slice());
+    assert_eq!(rt;
+        line.as_slice(),
+        b"{\"migrations\":[1,2],\"ok\":true}\n".as_slice()
+    );
     assert_eq!(rt; state.live_on(2), Some(2));
     Ok(())
 }
@@ -243,9 +259,15 @@ fn a_cutover_is_of_a_started_plan(rt: HostRuntime) -> Result<(), Fail> {
     let fleet = tracked_fleet(alloc)?;
     let mut state = planned(alloc, &fleet)?;
     let line = cutover(alloc, &mut state, "q", None)?;
-    assert_eq!(rt; line.as_slice(), b"{\"error\":\"unknown-plan\",\"ok\":false}\n".as_slice());
+    assert_eq!(rt;
+        line.as_slice(),
+        b"{\"error\":\"unknown-plan\",\"ok\":false}\n".as_slice()
+    );
     let line = cutover(alloc, &mut state, "p", None)?;
-    assert_eq!(rt; line.as_slice(), b"{\"error\":\"not-started\",\"ok\":false}\n".as_slice());
+    assert_eq!(rt;
+        line.as_slice(),
+        b"{\"error\":\"not-started\",\"ok\":false}\n".as_slice()
+    );
     Ok(())
 }
 
@@ -278,7 +300,10 @@ fn a_plan_that_ended_takes_no_cutover(rt: HostRuntime) -> Result<(), Fail> {
         place: 0,
     })?;
     let line = cutover(alloc, &mut state, "p", None)?;
-    assert_eq!(rt; line.as_slice(), b"{\"error\":\"ended\",\"ok\":false}\n".as_slice());
+    assert_eq!(rt;
+        line.as_slice(),
+        b"{\"error\":\"ended\",\"ok\":false}\n".as_slice()
+    );
     Ok(())
 }
 

@@ -17,7 +17,7 @@ use Rattle.plan_commands.specs.Machines.{disks_of}
 -- the machines of the plan of this number that have no migration in it
 abbrev pub waiting_in : (plan : ℕ) → CtlValue → List ℕ
 waiting_in plan v = option_map_or
-    (λ p. option_map_or (λ course. waiting (p , course)) (course_in v plan) []) (plan_in v plan) []
+    (λ p. option_map_or (λ course. waiting (p, course)) (course_in v plan) []) (plan_in v plan) []
 
 -- the same, by the name of the plan
 abbrev pub waiting_under : (plan : List ℕ) → CtlValue → List ℕ

@@ -1,4 +1,4 @@
-use Rattle.std.proofs.Common.{◌≡◌, ◌++◌, ◌∷◌, [], ap, sym, ◌∙◌, map, take}
+use Rattle.std.proofs.Common.{◌++◌, ◌∷◌, [], ap, sym, ◌∙◌, map, take}
 use Rattle.std.proofs.lemmas.List.{map_more}
 use Rattle.plan_commands.specs.commands.Status.{line_of}
 use Rattle.plan_commands.proofs.status.status_of.Goals as goal
