@@ -1,0 +1,5 @@
+pub mod Counting
+pub mod Known
+pub mod Planned
+pub mod Begun
+pub mod Cut

@@ -1,0 +1,4 @@
+pub mod Asked
+pub mod Machines
+pub mod commands
+pub mod Laws

@@ -1,0 +1,4 @@
+pub mod Plan
+pub mod Start
+pub mod Cutover
+pub mod Status
