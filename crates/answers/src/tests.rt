@@ -22,7 +22,10 @@ fn a_reply_is_told(rt: HostRuntime) -> Result<(), Fail> {
 #[test]
 fn a_refusal_may_carry_nothing(rt: HostRuntime) -> Result<(), Fail> {
     let line = told(rt.alloc(), Refusal::NotStarted)?;
-    assert_eq!(rt; line.as_slice(), b"{\"error\":\"not-started\",\"ok\":false}\n".as_slice());
+    assert_eq!(rt;
+        line.as_slice(),
+        b"{\"error\":\"not-started\",\"ok\":false}\n".as_slice()
+    );
     Ok(())
 }
 

@@ -31,16 +31,19 @@ acknowledged r old new (Some why) (Err e) u is h = cc
 pub keeps_one : (r : Record) (v next : CtlValue) (old new : JournalState)
     → IsReady (keeping v old) → record_may_stand v r ≡ true → new ≡ after_append r old
     → next ≡ after_record v r → KeepsOne r (keeping v old) (keeping next new)
-keeps_one r v next old new ready may is to = (record {
-  records = ap (λ j. j.records) is;
-  ready = record {
-    come_to = ap (λ j. after j.records) is ∙ goes_on v old.records r ready.come_to may
-        ∙ ap Ok (sym to);
-    unfailed = ap (λ j. j.failure) is ∙ ready.unfailed;
-  };
-  opened = ap (λ j. j.opened) is;
-  faults = ap (λ j. j.disk.faults) is;
-}, to)
+keeps_one r v next old new ready may is to = (
+  record {
+    records = ap (λ j. j.records) is;
+    ready = record {
+      come_to = ap (λ j. after j.records) is ∙ goes_on v old.records r ready.come_to may
+          ∙ ap Ok (sym to);
+      unfailed = ap (λ j. j.failure) is ∙ ready.unfailed;
+    };
+    opened = ap (λ j. j.opened) is;
+    faults = ap (λ j. j.disk.faults) is;
+  },
+  to,
+)
 
 -- ---- the records up to a place
 
@@ -49,12 +52,14 @@ pub record KeptTo (added : List Record) (at : ℕ) (start now : Keeping) : Type 
   pub keeps : Keeps (take at added) start now
 
 pub kept_none : (added : List Record) (k : Keeping) → IsReady k → KeptTo added 0 k k
-kept_none added k ready = record { keeps = record {
-  records = sym (append-nil k.journal.records);
-  ready = ready;
-  opened = refl;
-  faults = refl;
-} }
+kept_none added k ready = record {
+  keeps = record {
+    records = sym (append-nil k.journal.records);
+    ready = ready;
+    opened = refl;
+    faults = refl;
+  };
+}
 
 rest_of : (added : List Record) (at : ℕ) (r : Record) → at < length added
     → r ≡ slice_index_or added at r
@@ -73,14 +78,16 @@ more_of added at r within is =
 pub kept_more : (added : List Record) (at : ℕ) (r : Record) (start now next : Keeping)
     → at < length added → r ≡ slice_index_or added at r → KeptTo added at start now
     → KeepsOne r now next → KeptTo added (at + 1) start next
-kept_more added at r start now next within is k one = record { keeps = record {
-  records = (one.0).records ∙ ap (λ xs. xs ++ r ∷ []) (k.keeps).records
-      ∙ append_assoc start.journal.records (take at added) (r ∷ [])
-      ∙ ap (λ xs. start.journal.records ++ xs) (sym (more_of added at r within is));
-  ready = (one.0).ready;
-  opened = (one.0).opened ∙ (k.keeps).opened;
-  faults = (one.0).faults ∙ (k.keeps).faults;
-} }
+kept_more added at r start now next within is k one = record {
+  keeps = record {
+    records = (one.0).records ∙ ap (λ xs. xs ++ r ∷ []) (k.keeps).records
+        ∙ append_assoc start.journal.records (take at added) (r ∷ [])
+        ∙ ap (λ xs. start.journal.records ++ xs) (sym (more_of added at r within is));
+    ready = (one.0).ready;
+    opened = (one.0).opened ∙ (k.keeps).opened;
+    faults = (one.0).faults ∙ (k.keeps).faults;
+  };
+}
 
 pub kept_all : (added : List Record) (at : ℕ) (start now : Keeping) → length added ≤ at
     → KeptTo added at start now → Keeps added start now
@@ -117,10 +124,10 @@ next_stands added at r start now within is ready may k =
     let base = start.journal.records in
     let whole = may.stand base ready.come_to in
     let come : IsStateOf now.value (base ++ take at added) =
-        sym (ap after (k.keeps).records) ∙ (k.keeps).ready.come_to in
+    sym (ap after (k.keeps).records) ∙ (k.keeps).ready.come_to in
     stands_by (record_may_stand now.value r) now.value (base ++ take at added)
-        (drop (at + 1) added) r whole.0 refl come
-        (sym (ap after (split_at base added at r within is)) ∙ whole.1)
+    (drop (at + 1) added) r whole.0 refl come
+    (sym (ap after (split_at base added at r within is)) ∙ whole.1)
 
 -- one record alone
 pub one_may : (v : CtlValue) (r : Record) → record_may_stand v r ≡ true → KeepsRule r
