@@ -16,7 +16,7 @@ use target_volume::MemVolumes;
 
 /// The plan `p` of the machine 1.
 fn plan(alloc: Global) -> Result<Record, NoMemory>
-    ensures { IfOk result (λ record. KeepsRule record) }
+    ensures { IfOk result (λ made. KeepsRule made) }
 {
     Ok(Record::PlanMade {
         plan: 1,
