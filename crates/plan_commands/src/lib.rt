@@ -11,8 +11,6 @@ mod machines;
 mod plan;
 mod start;
 mod status;
-#[cfg(test)]
-mod tests;
 
 pub use asked::Asked;
 pub use cutover::ask_cutover;
