@@ -10,10 +10,6 @@ mod machines;
 mod query;
 mod read;
 mod snapshot;
-#[cfg(test)]
-mod tests_of_machines;
-#[cfg(test)]
-mod tests_of_showing;
 mod told;
 mod vm;
 mod write;
