@@ -1,9 +1,10 @@
 #!/usr/bin/env python3
-"""Measures the built program on commands of machines: lines a second, each piped with its reply, and bytes of memory for
+"""Measures the built program on commands of machines: lines a second, each with its reply, and bytes of memory for
 each sector that is written, from the process's peak.
 
-Usage: bench/machines.py [LINES]. It needs Linux (VmHWM of /proc) and the built program (./warm_migrate </dev/null).
-One core: the program is pinned to core 0, what feeds and drains it to the others where there are any."""
+Usage: bench/machines.py [LINES]. It needs Linux and the built program (./warm_migrate </dev/null).
+The program is pinned to core 0. Its lines come from a file and its replies go to one; its peak is that which the system
+tells when it has ended."""
 import os
 import pathlib
 import subprocess

@@ -17,7 +17,8 @@ use Rattle.plan_commands.specs.commands.Plan.{plan_refusal, plan_records}
 use Rattle.plan_commands.specs.commands.Start.{has_numbers_for, start_refusal, start_records}
 use Rattle.plan_commands.specs.commands.Cutover.{cutover_refusal, cutover_records}
 
--- behind these records the added ones may stand, and each of them has a spelling
+-- behind these records the added ones may stand, and each of them has a spelling. It says of one
+-- list of records what `record_keeping` asks of every list that came to the same value
 pub record MayFollow (records added : List Record) : Type 0 where
   pub next : CtlValue
   pub stand : IsStateOf next (records ++ added)

@@ -60,8 +60,8 @@ pub record IsUnfailed (old new : JournalState) : Type 0 where
   pub failure : new.failure ≡ None
   pub faults : new.disk.faults ≡ old.disk.faults
 
--- why the first of those that are left wasn't kept. Where memory ran out, it is none of them that
--- is told, as want of memory may come behind the last one
+-- why the first of those that are left wasn't kept. Want of memory names none of them, since it may
+-- come when the last one was kept already
 abbrev pub StopsAt : NotKept → (left : List Record) → (old new : JournalState) → Type 0
 StopsAt Fault [] old new = ⊥
 StopsAt Fault (r ∷ left) old new = FailsAtRecord r old new
