@@ -13,3 +13,4 @@ pub mod Serve
 pub mod Status
 pub mod Serves
 pub mod EndsFor
+pub mod Runs

@@ -1,26 +1,71 @@
--- What becomes of one line, and the ways in which it or the whole input stops.
+-- What becomes of one line, and the ways in which it or the whole input stops. A line's records are
+-- kept before its reply is put: one whose records aren't all kept has no reply.
 use Rattle.std.specs.Prelude.{◌≡◌, ℕ, ◌⊎◌, List, [], Bool, true, false, Option, Some, None, Result, Ok, Err}
+use Rattle.std.specs.List.{AllByRecursion}
 use Rattle.std.specs.Io.KnownBytes.{Appends}
 use Rattle.edge_traits.specs.Sink.{SinkState, AppendsPrefix}
 use Rattle.basics.specs.Faults.{HasRisen}
 use Rattle.answers.specs.Answer.{Answer, answer_line}
-use Rattle.migrate_server.specs.Line.{is_blank, AsksToQuit}
-use Rattle.migrate_server.specs.Session.{State, Step, LineAnswers}
+use Rattle.cmd_json.specs.declared.command.Command.{Command}
+use Rattle.cmd_json.specs.declared.command.Command.TheVariants.{Plan, Start, Cutover, Status as PlanStatus}
+use Rattle.fleet.specs.Fleet.{FleetState}
+use Rattle.journal.specs.Journal.{JournalState, outcomes}
+use Rattle.record_keeping.specs.Keeping.{IsUnfailed, KeepsFront}
+use Rattle.record_keeping.specs.declared.refusal.NotKept.{NotKept}
+use Rattle.record_keeping.specs.declared.refusal.NotKept.TheVariants.{Fault as DiskFault, Full, NoMemory}
+use Rattle.restart.specs.Agrees.{Agree}
+use Rattle.migrate_server.specs.Line.{is_blank, AsksFor, AsksToQuit}
+use Rattle.migrate_server.specs.Session.{State, state_of, HasRefusal, records_of, Step, LineAnswers}
+use Rattle.migrate_server.specs.World.{Server}
 use Rattle.migrate_server.specs.declared.line.Line.{Line}
-use Rattle.migrate_server.specs.declared.line.Line.TheVariants.{Blank}
+use Rattle.migrate_server.specs.declared.line.Line.TheVariants.{Blank, Asks}
 use Rattle.migrate_server.specs.declared.reader.NoLine.{NoLine}
 use Rattle.migrate_server.specs.declared.reader.NoLine.TheVariants.{Fault as LineFault, Limit, NoMemory as NoLineMemory}
 use Rattle.migrate_server.specs.declared.serve.NoReply.{NoReply}
-use Rattle.migrate_server.specs.declared.serve.NoReply.TheVariants.{Fault, NoMemory}
+use Rattle.migrate_server.specs.declared.serve.NoReply.TheVariants.{Fault, Unkept}
 use Rattle.migrate_server.specs.declared.serve.Stop.{Stop}
-use Rattle.migrate_server.specs.declared.serve.Stop.TheVariants.{ReadFault, WriteFault, InputLimit, NoMemory as NoServingMemory}
+use Rattle.migrate_server.specs.declared.serve.Stop.TheVariants.{ReadFault, JournalFault, WriteFault, InputLimit, JournalFull, NoMemory as NoServingMemory}
 use Rattle.migrate_server.specs.declared.status.Status.{Status}
-use Rattle.migrate_server.specs.declared.status.Status.TheVariants.{Ok as Served, ReadFault as EndsReadFault, WriteFault as EndsWriteFault, InputLimit as EndsInputLimit, NoMemory as EndsNoMemory}
+use Rattle.migrate_server.specs.declared.status.Status.TheVariants.{Ok as Served, ReadFault as EndsReadFault, JournalFault as EndsJournalFault, WriteFault as EndsWriteFault, InputLimit as EndsInputLimit, JournalFull as EndsJournalFull, NoMemory as EndsNoMemory}
+
+-- the fleet agrees with the journal's records, and after a fault also with those and the one whose
+-- append failed: with whatever may stand on the disk
+abbrev pub AgreesWithAll : FleetState → JournalState → Type 0
+AgreesWithAll fleet journal =
+    AllByRecursion (λ records. Agree fleet records None) (outcomes journal)
+
+-- the command goes by what the journal's records come to
+abbrev pub is_on_plans : Command → Bool
+is_on_plans (Plan name vms interval) = true
+is_on_plans (Start plan) = true
+is_on_plans (Cutover plan at) = true
+is_on_plans PlanStatus = true
+is_on_plans _ = false
+
+-- ---- a command that has no answer
+
+-- nothing refuses it, but its records weren't all kept, and nothing else was done of it
+pub record StopsKeeping (command : Command) (why : NotKept) (old new : Server) : Type 0 where
+  pub allowed : HasRefusal command None (state_of old)
+  pub front : KeepsFront why (records_of command (state_of old)) old.journal new.journal
+  pub kept : new ≡ record old { journal = new.journal }
+
+-- the same, or memory ran out before anything was done
+abbrev pub IsUnanswered : Command → NotKept → (old new : Server) → Type 0
+IsUnanswered command why old new =
+    ((why ≡ NoMemory) × (new ≡ old)) ⊎ StopsKeeping command why old new
+
+-- ---- a line
 
 -- a line that means this has this answer, or none where it is blank
 abbrev pub IsAnswered : Line → Option Answer → (old new : State) → Type 0
 IsAnswered what None old new = (what ≡ Blank) × (new ≡ old)
 IsAnswered what (Some answer) old new = LineAnswers what answer old new
+
+-- a line that means this has no answer
+abbrev pub IsStopped : Line → NotKept → (old new : Server) → Type 0
+IsStopped (Asks command) why old new = IsUnanswered command why old new
+IsStopped _ why old new = (why ≡ NoMemory) × (new ≡ old)
 
 -- a blank line has no reply, and each other line has one
 abbrev pub HasReply : (line : List ℕ) → Option Answer → (old new : State) → Type 0
@@ -37,37 +82,57 @@ TellsQuit true line = AsksToQuit line
 TellsQuit false line = AsksToQuit line → ⊥
 
 -- the line was answered, and its reply written
-pub record ServesLine (line : List ℕ) (sink sink_after : SinkState) (old new : State) : Type 0 where
+pub record ServesLine (line : List ℕ) (sink sink_after : SinkState) (old new : Server)
+    : Type 0 where
   pub reply : Option Answer
-  pub answers : HasReply line reply old new
+  pub answers : HasReply line reply (state_of old) (state_of new)
+  pub unfailed : IsUnfailed old.journal new.journal
   pub written : Appends sink.held sink_after.held (bytes_of_reply reply)
   pub steady : sink_after.faults ≡ sink.faults
 
 -- the line was answered, and the sink failed at its reply
-pub record FailsInReply (line : List ℕ) (sink sink_after : SinkState) (old new : State)
+pub record FailsInReply (line : List ℕ) (sink sink_after : SinkState) (old new : Server)
     : Type 0 where
   pub reply : Answer
-  pub answers : HasReply line (Some reply) old new
+  pub answers : HasReply line (Some reply) (state_of old) (state_of new)
+  pub unfailed : IsUnfailed old.journal new.journal
   pub part : AppendsPrefix sink.held sink_after.held (answer_line reply)
   pub rises : HasRisen sink.faults sink_after.faults
 
--- memory ran out before the line was answered, or before its reply was written
-abbrev pub StopsBeforeReply : (line : List ℕ) (sink sink_after : SinkState) (old new : State)
-    → Type 0
-StopsBeforeReply line sink sink_after old new = (sink_after ≡ sink)
-    × ((new ≡ old) ⊎ ((reply : Answer) × HasReply line (Some reply) old new))
+-- the line was answered, but for its reply there was no memory
+pub record LacksMemory (line : List ℕ) (old new : Server) : Type 0 where
+  pub reply : Answer
+  pub answers : HasReply line (Some reply) (state_of old) (state_of new)
+  pub unfailed : IsUnfailed old.journal new.journal
+
+-- the line's command has no answer
+pub record LineStops (line : List ℕ) (why : NotKept) (old new : Server) : Type 0 where
+  pub command : Command
+  pub asks : AsksFor line command
+  pub stops : StopsKeeping command why old new
+
+-- memory ran out before the line did anything, or before its reply was written; or its records
+-- weren't all kept
+abbrev pub StopsBeforeReply : NotKept → (line : List ℕ) (sink sink_after : SinkState)
+    (old new : Server) → Type 0
+StopsBeforeReply why line sink sink_after old new = (sink_after ≡ sink)
+    × (((why ≡ NoMemory) × ((new ≡ old) ⊎ LacksMemory line old new))
+    ⊎ LineStops line why old new)
 
 -- why a line has no reply, or not a whole one
 abbrev pub LacksReply : NoReply → (line : List ℕ) (sink sink_after : SinkState)
-    (old new : State) → Type 0
+    (old new : Server) → Type 0
 LacksReply Fault line sink sink_after old new = FailsInReply line sink sink_after old new
-LacksReply NoMemory line sink sink_after old new = StopsBeforeReply line sink sink_after old new
+LacksReply (Unkept why) line sink sink_after old new =
+    StopsBeforeReply why line sink sink_after old new
 
 -- what a sink has of these bytes that were to be put
 abbrev pub LacksBytes : NoReply → (bytes : List ℕ) (sink sink_after : SinkState) → Type 0
 LacksBytes Fault bytes sink sink_after =
     AppendsPrefix sink.held sink_after.held bytes × HasRisen sink.faults sink_after.faults
-LacksBytes NoMemory bytes sink sink_after = sink_after ≡ sink
+LacksBytes (Unkept why) bytes sink sink_after = (why ≡ NoMemory) × (sink_after ≡ sink)
+
+-- ---- the whole input
 
 -- why the serving of an input stops where no line comes, or a line has no reply
 abbrev pub stop_without_line : NoLine → Stop
@@ -75,14 +140,21 @@ stop_without_line LineFault = ReadFault
 stop_without_line Limit = InputLimit
 stop_without_line NoLineMemory = NoServingMemory
 
+abbrev pub stop_unkept : NotKept → Stop
+stop_unkept DiskFault = JournalFault
+stop_unkept Full = JournalFull
+stop_unkept NoMemory = NoServingMemory
+
 abbrev pub stop_without_reply : NoReply → Stop
 stop_without_reply Fault = WriteFault
-stop_without_reply NoMemory = NoServingMemory
+stop_without_reply (Unkept why) = stop_unkept why
 
 -- the status of a run whose input was served so
 abbrev pub status_of : Result (Unit {0}) Stop → Status
 status_of (Ok _) = Served
 status_of (Err ReadFault) = EndsReadFault
+status_of (Err JournalFault) = EndsJournalFault
 status_of (Err WriteFault) = EndsWriteFault
 status_of (Err InputLimit) = EndsInputLimit
+status_of (Err JournalFull) = EndsJournalFull
 status_of (Err NoServingMemory) = EndsNoMemory

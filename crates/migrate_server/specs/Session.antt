@@ -1,9 +1,11 @@
 -- What the server answers to the lines of an input, one after another, and what it leaves. A
--- command has a row in each of `refusal_of`, `LateRefusal`, `reply_of`, `state_after`, `Fails` and
--- `Stands`, and `Replies` has one for a command whose reply is a relation; nothing else here grows
--- with the commands, their refusals or their replies. A command that isn't built is refused,
--- whatever it asks for.
-use Rattle.std.specs.Prelude.{◌≡◌, ◌⊎◌, ℕ, List, [], ◌∷◌, Bool, true, false, Option, Some, None, Ok, Err, MatchOption}
+-- command has a row in each of `refusal_of`, `LateRefusal`, `reply_of`, `records_of`,
+-- `state_after`, `Fails` and `Stands`, and `Replies` has one for a command whose reply is a
+-- relation; nothing else here grows with the commands, their refusals or their replies. A command
+-- that isn't built is refused, whatever it asks for. The last line of a run may be cut short, where
+-- the journal doesn't take its records: it has no answer then.
+use Rattle.std.specs.Prelude.{◌≡◌, ◌⊎◌, ℕ, List, [], ◌∷◌, ◌++◌, Bool, true, false, Option, Some, None, Ok, Err, MatchOption}
+use Rattle.core.specs.Result.{result_unwrap_or}
 use Rattle.cmd_json.specs.declared.command.Command.{Command}
 use Rattle.cmd_json.specs.declared.command.Command.TheVariants.{Move, Host, Vm, Enable, Write, Snapshot, Remove, Query, Read, Power, Reset, Inventory, Plan, Start, Run, Cutover, Cancel, Status, Target, Digest, Restart, Quit}
 use Rattle.fleet.specs.Fleet.{FleetState}
@@ -23,8 +25,15 @@ use Rattle.answers.specs.declared.refusal.Refusal.TheVariants as refusal
 use Rattle.reply_json.specs.declared.reply.Reply.{Reply}
 use Rattle.reply_json.specs.declared.reply.Reply.TheVariants.{Done}
 use Rattle.target_volume.specs.VolumeStore.{StoreState}
+use Rattle.record_codec.specs.declared.record.Record.{Record}
+use Rattle.ctl_state.specs.Fold.{after}
+use Rattle.ctl_state.specs.Value.{CtlValue, no_records}
+use Rattle.plan_commands.specs.commands.Cutover.{cutover_refusal, cutover_records, cutover_reply}
+use Rattle.plan_commands.specs.commands.Plan.{plan_refusal, plan_records, plan_reply}
+use Rattle.plan_commands.specs.commands.Start.{start_refusal, start_records, start_reply}
+use Rattle.plan_commands.specs.commands.Status.{status_reply}
 use Rattle.migrate_server.specs.Line.{AsksFor, Means}
-use Rattle.migrate_server.specs.World.{World}
+use Rattle.migrate_server.specs.World.{Server}
 use Rattle.migrate_server.specs.commands.Moves.{move_refusal, MoveRefusal, move_reply, after_move, MoveFails, HasMoved}
 use Rattle.migrate_server.specs.commands.Quit.{quit_reply}
 use Rattle.migrate_server.specs.declared.line.Line.{Line}
@@ -33,18 +42,28 @@ use Rattle.migrate_server.specs.declared.line.Line.TheVariants.{Blank, Asks, Ref
 -- what a line finds and leaves
 pub record State : Type 0 where
   pub fleet : FleetState
+  -- of the journal
+  pub records : List Record
   pub store : StoreState
 
--- the state of a server that has this fleet and this store
-abbrev pub serving : FleetState → StoreState → State
-serving fleet store = record { fleet = fleet; store = store }
+-- the state of a server that has this fleet, these records and this store
+abbrev pub serving : FleetState → List Record → StoreState → State
+serving fleet records store = record { fleet = fleet; records = records; store = store }
 
-abbrev pub state_of : World → State
-state_of world = serving world.fleet world.store
+abbrev pub state_of : Server → State
+state_of server = serving server.fleet server.journal.records server.store
+
+-- what records come to. Those of a server always come to a value; of any others it says nothing
+abbrev pub value_of : List Record → CtlValue
+value_of records = result_unwrap_or (after records) no_records
 
 -- the state with another fleet
 abbrev pub with_fleet : FleetState → State → State
 with_fleet fleet s = record s { fleet = fleet }
+
+-- the state with records added
+abbrev pub keeping : List Record → State → State
+keeping added s = record s { records = s.records ++ added }
 
 -- what `power` asks for
 abbrev pub power_deed : Bool → Deed
@@ -78,12 +97,13 @@ refusal_of (Read vm disk first count snapshot) s =
 refusal_of (Power vm on) s = deed_refusal vm (power_deed on) s.fleet
 refusal_of (Reset vm disk) s = deed_refusal vm (deed.Reset disk) s.fleet
 refusal_of Inventory s = None
-refusal_of (Plan name vms interval) s = not_built
-refusal_of (Start plan) s = not_built
+refusal_of (Plan name vms interval) s =
+    plan_refusal name vms s.fleet (value_of s.records)
+refusal_of (Start plan) s = start_refusal plan (value_of s.records)
 refusal_of (Run at workers guests disturb) s = not_built
-refusal_of (Cutover plan at) s = not_built
+refusal_of (Cutover plan at) s = cutover_refusal plan (value_of s.records)
 refusal_of (Cancel vm) s = not_built
-refusal_of Status s = not_built
+refusal_of Status s = None
 refusal_of (Target volume first count) s = not_built
 refusal_of (Digest volume) s = not_built
 refusal_of Restart s = not_built
@@ -135,12 +155,12 @@ reply_of (Read vm disk first count snapshot) s =
 reply_of (Power vm on) s = deed_reply
 reply_of (Reset vm disk) s = deed_reply
 reply_of Inventory s = inventory_reply s.fleet
-reply_of (Plan name vms interval) s = never_answered
-reply_of (Start plan) s = never_answered
+reply_of (Plan name vms interval) s = plan_reply
+reply_of (Start plan) s = start_reply plan (value_of s.records)
 reply_of (Run at workers guests disturb) s = never_answered
-reply_of (Cutover plan at) s = never_answered
+reply_of (Cutover plan at) s = cutover_reply
 reply_of (Cancel vm) s = never_answered
-reply_of Status s = never_answered
+reply_of Status s = status_reply s.fleet (value_of s.records)
 reply_of (Target volume first count) s = never_answered
 reply_of (Digest volume) s = never_answered
 reply_of Restart s = never_answered
@@ -150,6 +170,32 @@ abbrev pub Replies : Command → Reply → State → Type 0
 Replies (Query vm snapshot disk since start) reply s =
     QueryReplies vm snapshot disk since start reply s.fleet
 Replies command reply s = reply ≡ reply_of command s
+
+-- the records that a command adds that is not refused, in their order
+abbrev pub records_of : Command → State → List Record
+records_of (Move name sectors writes) s = []
+records_of Quit s = []
+records_of (Host name limit) s = []
+records_of (Vm name host disks) s = []
+records_of (Enable vm) s = []
+records_of (Write vm disk first count fill) s = []
+records_of (Snapshot vm) s = []
+records_of (Remove vm snapshot) s = []
+records_of (Query vm snapshot disk since start) s = []
+records_of (Read vm disk first count snapshot) s = []
+records_of (Power vm on) s = []
+records_of (Reset vm disk) s = []
+records_of Inventory s = []
+records_of (Plan name vms interval) s =
+    plan_records name vms interval s.fleet (value_of s.records)
+records_of (Start plan) s = start_records plan s.fleet (value_of s.records)
+records_of (Run at workers guests disturb) s = []
+records_of (Cutover plan at) s = cutover_records plan at (value_of s.records)
+records_of (Cancel vm) s = []
+records_of Status s = []
+records_of (Target volume first count) s = []
+records_of (Digest volume) s = []
+records_of Restart s = []
 
 -- what a command leaves that is not refused
 abbrev pub state_after : Command → State → State
@@ -169,12 +215,13 @@ state_after (Read vm disk first count snapshot) s = s
 state_after (Power vm on) s = with_fleet (after_deed vm (power_deed on) s.fleet) s
 state_after (Reset vm disk) s = with_fleet (after_deed vm (deed.Reset disk) s.fleet) s
 state_after Inventory s = s
-state_after (Plan name vms interval) s = never_left s
-state_after (Start plan) s = never_left s
+state_after (Plan name vms interval) s =
+    keeping (records_of (Plan name vms interval) s) s
+state_after (Start plan) s = keeping (records_of (Start plan) s) s
 state_after (Run at workers guests disturb) s = never_left s
-state_after (Cutover plan at) s = never_left s
+state_after (Cutover plan at) s = keeping (records_of (Cutover plan at) s) s
 state_after (Cancel vm) s = never_left s
-state_after Status s = never_left s
+state_after Status s = s
 state_after (Target volume first count) s = never_left s
 state_after (Digest volume) s = never_left s
 state_after Restart s = never_left s
@@ -182,7 +229,8 @@ state_after Restart s = never_left s
 -- what a command may leave where the store fails in it
 abbrev pub Fails : Command → (old new : State) → Type 0
 Fails (Move name sectors writes) old new =
-    (new.fleet ≡ old.fleet) × MoveFails name sectors old.store new.store
+    (new.fleet ≡ old.fleet) × (new.records ≡ old.records)
+    × MoveFails name sectors old.store new.store
 Fails Quit old new = ⊥
 Fails (Host name limit) old new = ⊥
 Fails (Vm name host disks) old new = ⊥
@@ -229,6 +277,23 @@ Session old (line ∷ lines) (answer ∷ answers) new =
     (mid : State) × Step line answer old mid × Session mid lines answers new
 Session old [] (answer ∷ answers) new = ⊥
 Session old (line ∷ lines) [] new = ⊥
+
+-- ---- a line that is cut short
+
+-- nothing refuses the command, but one of its records isn't kept: those before it are, and nothing
+-- else is done. These are left
+pub record IsCut (command : Command) (left : List Record) (old new : State) : Type 0 where
+  pub allowed : HasRefusal command None old
+  pub front : List Record
+  pub split : records_of command old ≡ front ++ left
+  pub kept : new ≡ keeping front old
+
+pub record LineIsCut (line : List ℕ) (left : List Record) (old new : State) : Type 0 where
+  pub command : Command
+  pub asks : AsksFor line command
+  pub cut : IsCut command left old new
+
+-- ---- what stands of them
 
 -- what stands of a command that was not refused
 abbrev pub Stands : Command → (now : State) → Type 0

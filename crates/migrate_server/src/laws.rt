@@ -1,17 +1,27 @@
 //! Laws of the definitions. Each function's contract is the law, and its body does nothing.
 ghost use Rattle.migrate_server.specs.Laws.{SameLinesSameReplies, SameInputSameOutput, StoresAnswerMovesAlone};
+ghost use Rattle.migrate_server.specs.Runs.{RunsHoldTogether, CrashesHoldTogether, NoneIsStrange};
 
-/// The same lines have the same replies, from the same fleet and volumes of the same names, as long
-/// as the store fails in no command; and what they leave agrees in the same way. So two runs of the
-/// same input that end well write the same bytes.
+/// The same lines have the same replies, from the same fleet and records and volumes of the same
+/// names, as long as the store fails in no command; and what they leave agrees in the same way. So
+/// two runs of the same input that end well write the same bytes.
 pub fn sessions_agree()
     ensures lines { SameLinesSameReplies }
     ensures input { SameInputSameOutput }
 {}
 
 /// A store has a say in the answers to moves alone, and in those only by refusing one, because the
-/// name is taken or a call of it failed. All other answers, and what becomes of the fleet, are the
-/// same over any two stores.
+/// name is taken or a call of it failed. All other answers, and what becomes of the fleet and of the
+/// records, are the same over any two stores.
 pub fn stores_answer_moves_alone()
     ensures { StoresAnswerMovesAlone }
+{}
+
+/// Where the fleet agrees with whatever a crash may leave of the journal's disk, it does so behind a
+/// run, and behind a crash; and no run over it finds the journal strange. So a chain of runs, each
+/// over what the one before left or a crash of that, never ends by a strange journal.
+pub fn runs_hold_together()
+    ensures runs { RunsHoldTogether }
+    ensures crashes { CrashesHoldTogether }
+    ensures none { NoneIsStrange }
 {}

@@ -1,33 +1,37 @@
 //! The lines of an input, answered one after another.
-ghost use Rattle.std.specs.Prelude.{◌≡◌, ℕ, List, IfOk, OnOk, OnErr, IfErr, length};
+ghost use Rattle.std.specs.Prelude.{◌≡◌, ℕ, List, false, IfOk, OnOk, OnErr, IfErr, length, None};
 ghost use Rattle.std.specs.Io.KnownBytes.{Appends};
 ghost use Rattle.fleet.specs.Sound.{AllAreIn};
 ghost use Rattle.cmd_json.specs.Known.{IsAskable};
 ghost use Rattle.cmd_json.specs.declared.command.Command.TheVariants.{Query};
 ghost use Rattle.answers.specs.Answer.{answer_line};
+ghost use Rattle.record_codec.specs.declared.record.Record.{Record};
+ghost use Rattle.record_keeping.specs.Keeping.{keeping, IsReady, IsUnfailed};
 ghost use Rattle.target_volume.specs.VolumeStore.{StoreState};
 ghost use Rattle.migrate_server.specs.LineBuffer.{Holds};
 ghost use Rattle.migrate_server.specs.Line.{AsksInRange};
-ghost use Rattle.migrate_server.specs.Session.{serving, power_deed, Answers};
-ghost use Rattle.migrate_server.specs.Serve.{IsAnswered, TellsQuit, ServesLine, LacksReply, LacksBytes, status_of};
-ghost use Rattle.migrate_server.specs.World.{world_of};
+ghost use Rattle.migrate_server.specs.Session.{serving, state_of, power_deed, Answers};
+ghost use Rattle.migrate_server.specs.Serve.{is_on_plans, AgreesWithAll, IsAnswered, IsUnanswered, IsStopped, TellsQuit, ServesLine, LacksReply, LacksBytes, status_of};
+ghost use Rattle.migrate_server.specs.World.{desk_of, server_of};
 ghost use Rattle.migrate_server.specs.Serves.{Serves};
 ghost use Rattle.migrate_server.specs.EndsFor.{EndsFor};
 
-use crate::Devices;
 use crate::commands::moves::run_move;
+use crate::commands::plans::{run_cutover, run_plan, run_start};
 use crate::line::{Line, meaning_of};
 use crate::line_buffer::LineBuffer;
 use crate::reader::{LineReader, NoLine};
 use answers::{Answer, Refusal, line_for};
 use basics::{Name, NoMemory, Text};
 use cmd_json::Command;
+use ctl_state::Controller;
 use edge_traits::{Disk, Sink, Source};
 use fleet::Fleet;
 use fleet_commands::{
     Deed, QueryLine, ReadLine, WriteLine, run_deed, run_host, run_inventory, run_query, run_read,
     run_snapshot, run_vm, run_write,
 };
+use record_keeping::NotKept;
 use reply_json::Reply;
 use std::alloc::Global;
 use target_volume::VolumeStore;
@@ -37,10 +41,14 @@ use target_volume::VolumeStore;
 pub(crate) enum Stop {
     /// The source failed.
     ReadFault,
+    /// The journal's disk failed.
+    JournalFault,
     /// The sink failed.
     WriteFault,
     /// The input goes on past its limit.
     InputLimit,
+    /// The journal has no room for a record.
+    JournalFull,
     /// Memory ran out.
     NoMemory,
 }
@@ -65,18 +73,30 @@ impl From<NoLine> for Stop {
 pub(crate) enum NoReply {
     /// The sink failed.
     Fault,
-    /// Memory ran out.
-    NoMemory,
+    /// A record of the line wasn't kept, or memory ran out.
+    Unkept(NotKept),
+}
+
+impl From<NotKept> for NoReply {
+    ghost use Rattle.std.specs.Prelude.{◌≡◌};
+    ghost use Rattle.migrate_server.specs.declared.serve.NoReply.TheVariants.{Unkept};
+
+    ghost from_gives = { λ why no_reply. no_reply ≡ Unkept why };
+
+    fn from(why: NotKept) -> NoReply {
+        NoReply::Unkept(why)
+    }
 }
 
 impl From<NoMemory> for NoReply {
     ghost use Rattle.std.specs.Prelude.{◌≡◌};
-    ghost use Rattle.migrate_server.specs.declared.serve.NoReply.TheVariants.{NoMemory};
+    ghost use Rattle.record_keeping.specs.declared.refusal.NotKept.TheVariants.{NoMemory as Wanting};
+    ghost use Rattle.migrate_server.specs.declared.serve.NoReply.TheVariants.{Unkept};
 
-    ghost from_gives = { λ _ why. why ≡ NoMemory };
+    ghost from_gives = { λ _ no_reply. no_reply ≡ Unkept Wanting };
 
     fn from(_refused: NoMemory) -> NoReply {
-        NoReply::NoMemory
+        NoReply::Unkept(NotKept::NoMemory)
     }
 }
 
@@ -89,7 +109,9 @@ impl From<NoReply> for Stop {
     fn from(why: NoReply) -> Stop {
         match why {
             NoReply::Fault => Stop::WriteFault,
-            NoReply::NoMemory => Stop::NoMemory,
+            NoReply::Unkept(NotKept::Fault) => Stop::JournalFault,
+            NoReply::Unkept(NotKept::Full) => Stop::JournalFull,
+            NoReply::Unkept(NotKept::NoMemory) => Stop::NoMemory,
         }
     }
 }
@@ -99,23 +121,25 @@ pub(crate) fn serve<S: Source, K: Sink, D: Disk, T: VolumeStore>(
     alloc: Global,
     input: &mut S,
     out: &mut K,
-    devices: &mut Devices<D, T>,
+    controller: &mut Controller<D, T>,
     fleet: &mut Fleet,
 ) -> Result<(), Stop>
     requires all_in { AllAreIn fleet.old }
+    requires ready { IsReady (keeping controller.old.state controller.old.journal) }
+    requires agree { AgreesWithAll fleet.old controller.old.journal }
     ensures served { Serves
-        (world_of (S.state input.old) (K.state out.old)
-        (D.state devices.old.disk) (T.state devices.old.volumes) fleet.old)
-        (world_of (S.state input.new) (K.state out.new)
-        (D.state devices.new.disk) (T.state devices.new.volumes) fleet.new)
+        (desk_of (S.state input.old) (K.state out.old)
+        (server_of fleet.old controller.old.journal (T.state controller.old.store)))
+        (desk_of (S.state input.new) (K.state out.new)
+        (server_of fleet.new controller.new.journal (T.state controller.new.store)))
         (status_of result) }
     ensures ends { EndsFor
-        (world_of (S.state input.old) (K.state out.old)
-        (D.state devices.old.disk) (T.state devices.old.volumes) fleet.old)
-        (world_of (S.state input.new) (K.state out.new)
-        (D.state devices.new.disk) (T.state devices.new.volumes) fleet.new)
+        (desk_of (S.state input.old) (K.state out.old)
+        (server_of fleet.old controller.old.journal (T.state controller.old.store)))
+        (desk_of (S.state input.new) (K.state out.new)
+        (server_of fleet.new controller.new.journal (T.state controller.new.store)))
         (status_of result) }
-    ensures disk { devices.new.disk ≡ devices.old.disk }
+    ensures agree { AgreesWithAll fleet.new controller.new.journal }
 {
     let Ok(mut reader) = LineReader::new(alloc) else {
         return Err(Stop::NoMemory);
@@ -125,34 +149,42 @@ pub(crate) fn serve<S: Source, K: Sink, D: Disk, T: VolumeStore>(
         if !reader.next(&mut line, input)? {
             return Ok(());
         }
-        let quits = serve_line(alloc, &line, out, fleet, &mut devices.volumes)?;
+        let quits = serve_line(alloc, &line, out, fleet, controller)?;
         if quits {
             return Ok(());
         }
     }
 }
 
-/// Answers a line, puts the reply, and says whether the line asks to quit.
-fn serve_line<K: Sink, T: VolumeStore>(
+/// Answers a line, puts the reply, and says whether the line asks to quit. The line's records are
+/// kept before its reply is put.
+fn serve_line<K: Sink, D: Disk, T: VolumeStore>(
     alloc: Global,
     line: &LineBuffer,
     out: &mut K,
     fleet: &mut Fleet,
-    store: &mut T,
+    controller: &mut Controller<D, T>,
 ) -> Result<bool, NoReply>
     requires all_in { AllAreIn fleet.old }
+    requires ready { IsReady (keeping controller.old.state controller.old.journal) }
+    requires agree { AgreesWithAll fleet.old controller.old.journal }
     ensures served { OnOk result ((text : List ℕ) → Holds line.now text
         → ServesLine text (K.state out.old) (K.state out.new)
-        (serving fleet.old (T.state store.old)) (serving fleet.new (T.state store.new))) }
+        (server_of fleet.old controller.old.journal (T.state controller.old.store))
+        (server_of fleet.new controller.new.journal (T.state controller.new.store))) }
     ensures quits { IfOk result (λ quits. (text : List ℕ) → Holds line.now text
         → TellsQuit quits text) }
+    ensures agree { AgreesWithAll fleet.new controller.new.journal }
+    ensures ready { OnOk result
+        (IsReady (keeping controller.new.state controller.new.journal)) }
     ensures lacks { IfErr result (λ why. (text : List ℕ) → Holds line.now text
         → LacksReply why text (K.state out.old) (K.state out.new)
-        (serving fleet.old (T.state store.old)) (serving fleet.new (T.state store.new))) }
+        (server_of fleet.old controller.old.journal (T.state controller.old.store))
+        (server_of fleet.new controller.new.journal (T.state controller.new.store))) }
 {
     let what = meaning_of(alloc, line)?;
     let quits = what.quits();
-    if let Some(answer) = answer_to(alloc, what, fleet, store)? {
+    if let Some(answer) = answer_to(alloc, what, fleet, controller)? {
         put_answer(alloc, answer, out)?;
     }
     Ok(quits)
@@ -173,30 +205,77 @@ fn put_answer<K: Sink>(alloc: Global, answer: Answer, out: &mut K) -> Result<(),
     }
 }
 
-/// The answer to a line, and none to a blank one. It answers only want of memory, and has then
-/// changed nothing.
-fn answer_to<T: VolumeStore>(
+/// The answer to a line, and none to a blank one. Where its records weren't all kept, it has none
+/// either, and nothing else of it was done.
+fn answer_to<D: Disk, T: VolumeStore>(
     alloc: Global,
     what: Line,
     fleet: &mut Fleet,
-    store: &mut T,
-) -> Result<Option<Answer>, NoMemory>
+    controller: &mut Controller<D, T>,
+) -> Result<Option<Answer>, NotKept>
     requires known { AsksInRange what }
     requires all_in { AllAreIn fleet.old }
+    requires ready { IsReady (keeping controller.old.state controller.old.journal) }
+    requires agree { AgreesWithAll fleet.old controller.old.journal }
     ensures answer { IfOk result (λ answer. IsAnswered what answer
-        (serving fleet.old (T.state store.old)) (serving fleet.new (T.state store.new))) }
-    ensures err { OnErr result
-        (serving fleet.new (T.state store.new) ≡ serving fleet.old (T.state store.old)) }
+        (serving fleet.old controller.old.journal.records (T.state controller.old.store))
+        (serving fleet.new controller.new.journal.records (T.state controller.new.store))) }
+    ensures ready { OnOk result
+        (IsReady (keeping controller.new.state controller.new.journal)) }
+    ensures unfailed { OnOk result
+        (IsUnfailed controller.old.journal controller.new.journal) }
+    ensures agree { AgreesWithAll fleet.new controller.new.journal }
+    ensures stopped { IfErr result (λ why. IsStopped what why
+        (server_of fleet.old controller.old.journal (T.state controller.old.store))
+        (server_of fleet.new controller.new.journal (T.state controller.new.store))) }
 {
     match what {
         Line::Blank => Ok(None),
         Line::Refuses(why) => Ok(Some(Err(why))),
-        Line::Asks(command) => Ok(Some(run(alloc, command, fleet, store)?)),
+        Line::Asks(command) => Ok(Some(run(alloc, command, fleet, controller)?)),
     }
 }
 
-/// Carries out a command. It answers only want of memory, and has then changed nothing.
-fn run<T: VolumeStore>(
+/// Carries out a command. Where its records weren't all kept, it has no answer, and nothing else of
+/// it was done; and for want of memory nothing may be done at all.
+fn run<D: Disk, T: VolumeStore>(
+    alloc: Global,
+    command: Command,
+    fleet: &mut Fleet,
+    controller: &mut Controller<D, T>,
+) -> Result<Answer, NotKept>
+    requires known { IsAskable command }
+    requires all_in { AllAreIn fleet.old }
+    requires ready { IsReady (keeping controller.old.state controller.old.journal) }
+    requires agree { AgreesWithAll fleet.old controller.old.journal }
+    ensures answer { IfOk result (λ answer. Answers command answer
+        (serving fleet.old controller.old.journal.records (T.state controller.old.store))
+        (serving fleet.new controller.new.journal.records (T.state controller.new.store))) }
+    ensures ready { OnOk result
+        (IsReady (keeping controller.new.state controller.new.journal)) }
+    ensures unfailed { OnOk result
+        (IsUnfailed controller.old.journal controller.new.journal) }
+    ensures agree { AgreesWithAll fleet.new controller.new.journal }
+    ensures unanswered { IfErr result (λ why. IsUnanswered command why
+        (server_of fleet.old controller.old.journal (T.state controller.old.store))
+        (server_of fleet.new controller.new.journal (T.state controller.new.store))) }
+{
+    match command {
+        Command::Plan {
+            name,
+            vms,
+            interval,
+        } => run_plan(alloc, fleet, controller, &name, vms.as_slice(), interval),
+        Command::Start { plan } => run_start(alloc, fleet, controller, &plan),
+        Command::Cutover { plan, at } => run_cutover(alloc, fleet, controller, &plan, at),
+        Command::Status => Ok(Ok(plan_commands::status_of(alloc, fleet, &controller.state)?)),
+        command => Ok(run_other(alloc, command, fleet, &mut controller.store)?),
+    }
+}
+
+/// Carries out a command that doesn't go by the journal's records. It answers only want of memory,
+/// and has then changed nothing.
+fn run_other<T: VolumeStore>(
     alloc: Global,
     command: Command,
     fleet: &mut Fleet,
@@ -204,10 +283,12 @@ fn run<T: VolumeStore>(
 ) -> Result<Answer, NoMemory>
     requires known { IsAskable command }
     requires all_in { AllAreIn fleet.old }
-    ensures answer { IfOk result (λ answer. Answers command answer
-        (serving fleet.old (T.state store.old)) (serving fleet.new (T.state store.new))) }
-    ensures err { OnErr result
-        (serving fleet.new (T.state store.new) ≡ serving fleet.old (T.state store.old)) }
+    requires other { is_on_plans command ≡ false }
+    ensures answer { IfOk result (λ answer. (records : List Record) → Answers command answer
+        (serving fleet.old records (T.state store.old))
+        (serving fleet.new records (T.state store.new))) }
+    ensures err { OnErr result (fleet.new ≡ fleet.old) }
+    ensures err_store { OnErr result (T.state store.new ≡ T.state store.old) }
 {
     match command {
         Command::Move {
@@ -278,9 +359,9 @@ fn answer_query(
     since: &Text,
     start: u64,
 ) -> Result<Answer, NoMemory>
-    ensures answer { IfOk result (λ answer. (store : StoreState)
+    ensures answer { IfOk result (λ answer. (records : List Record) (store : StoreState)
         → Answers (Query vm.now snapshot disk since.now start) answer
-        (serving fleet.old store) (serving fleet.new store)) }
+        (serving fleet.old records store) (serving fleet.new records store)) }
     ensures err { OnErr result (fleet.new ≡ fleet.old) }
 {
     let line = QueryLine {

@@ -1,9 +1,10 @@
 //! A move: a fresh disk, written as the line says, and copied in full to a fresh volume.
-ghost use Rattle.std.specs.Prelude.{◌≡◌, ◌+◌, ◌-◌, ◌^◌, ◌≤◌, min, nat_le, true, All, IfOk, OnErr, length};
+ghost use Rattle.std.specs.Prelude.{◌≡◌, ◌+◌, ◌-◌, ◌^◌, ◌≤◌, min, nat_le, true, List, All, IfOk, OnErr, length};
 ghost use Rattle.std.specs.List.{list_all, sum_by};
 ghost use Rattle.basics.specs.Refusal.{IsRefusedBy};
 ghost use Rattle.cmd_json.specs.declared.command.Command.TheVariants.{Move};
 ghost use Rattle.fleet.specs.Fleet.{FleetState};
+ghost use Rattle.record_codec.specs.declared.record.Record.{Record};
 ghost use Rattle.migrate_server.specs.NewVolume.{CopyAnswers};
 ghost use Rattle.migrate_server.specs.Session.{serving, Answers};
 ghost use Rattle.migrate_server.specs.WrittenDisk.{AreWithin, frozen_sectors, IsFrozen};
@@ -32,8 +33,9 @@ pub(crate) fn run_move<T: VolumeStore>(
     store: &mut T,
 ) -> Result<Answer, NoMemory>
     ensures answer { IfOk result (λ answer. (fleet : FleetState)
-        → Answers (Move name sectors writes.now) answer
-        (serving fleet (T.state store.old)) (serving fleet (T.state store.new))) }
+        (records : List Record) → Answers (Move name sectors writes.now) answer
+        (serving fleet records (T.state store.old))
+        (serving fleet records (T.state store.new))) }
     ensures err { OnErr result (T.state store.new ≡ T.state store.old) }
 {
     if let Err(why) = fits(sectors, writes) {
