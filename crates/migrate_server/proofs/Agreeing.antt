@@ -22,7 +22,8 @@ use Rattle.target_volume.specs.declared.volume_name.VolumeName.{VolumeName}
 use Rattle.target_volume.specs.declared.volume_name.VolumeName.TheVariants.{Given}
 use Rattle.target_volume.proofs.NameLemmas.{exact_volumes, find-with_same}
 use Rattle.target_volume.proofs.PairLemmas.{lookup-insert_entry_other}
-use Rattle.migrate_server.specs.Laws.{HaveSameNames, Agree, NoneFails}
+use Rattle.record_codec.specs.declared.record.Record.{Record}
+use Rattle.migrate_server.specs.Laws.{AreAlikeInside, HaveSameNames, Agree, NoneFails}
 use Rattle.migrate_server.specs.Session.{State, serving, refusal_of, LateRefusal, HasRefusal, reply_of, Replies, state_after, Answers, LineAnswers, Step, Session}
 use Rattle.migrate_server.specs.commands.Moves.{name_refusal, moved_volume}
 use Rattle.migrate_server.specs.declared.line.Line.{Line}
@@ -58,43 +59,57 @@ names_with name x (Some v) (Some w) h = λ n.
     ∙ either_way same x (find_volume n v) (find_volume n w) (h n)
     ∙ sym (ap (λ (o : Option StoredVolume). is_some o) (found_by name n x v same refl))
 
--- ---- what a command finds goes by the fleet, but for the names of volumes
+-- ---- what a command finds goes by the fleet and the records, but for the names of volumes
 
-refusal_by_fleet : (command : Command) (s : State) (store : StoreState)
-    → refusal_of command s ≡ refusal_of command (serving s.fleet store)
-refusal_by_fleet (Move name sectors writes) s store = refl
-refusal_by_fleet _ s store = refl
+-- the other state, but for its store, is this one
+with_store_of : (one other : State) → AreAlikeInside one other
+    → serving other.fleet other.records one.store ≡ one
+with_store_of one other same =
+    ap (λ (f : FleetState). serving f other.records one.store) same.fleet
+    ∙ ap (λ (r : List Record). serving one.fleet r one.store) same.records
 
-same_refusal : (command : Command) (one other : State) → other.fleet ≡ one.fleet
+refusal_by_inside : (command : Command) (s : State) (store : StoreState)
+    → refusal_of command s ≡ refusal_of command (serving s.fleet s.records store)
+refusal_by_inside (Move name sectors writes) s store = refl
+refusal_by_inside _ s store = refl
+
+same_refusal : (command : Command) (one other : State) → AreAlikeInside one other
     → refusal_of command other ≡ refusal_of command one
 same_refusal command one other same =
-    refusal_by_fleet command other one.store
-    ∙ ap (λ (f : FleetState). refusal_of command (serving f one.store)) same
-    ∙ sym (refusal_by_fleet command one one.store)
+    refusal_by_inside command other one.store
+    ∙ ap (refusal_of command) (with_store_of one other same)
 
-reply_by_fleet : (command : Command) (s : State) (store : StoreState)
-    → reply_of command s ≡ reply_of command (serving s.fleet store)
-reply_by_fleet (Move name sectors writes) s store = refl
-reply_by_fleet _ s store = refl
+reply_by_inside : (command : Command) (s : State) (store : StoreState)
+    → reply_of command s ≡ reply_of command (serving s.fleet s.records store)
+reply_by_inside (Move name sectors writes) s store = refl
+reply_by_inside _ s store = refl
 
-same_reply : (command : Command) (one other : State) → other.fleet ≡ one.fleet
+same_reply : (command : Command) (one other : State) → AreAlikeInside one other
     → reply_of command other ≡ reply_of command one
 same_reply command one other same =
-    reply_by_fleet command other one.store
-    ∙ ap (λ (f : FleetState). reply_of command (serving f one.store)) same
-    ∙ sym (reply_by_fleet command one one.store)
+    reply_by_inside command other one.store
+    ∙ ap (reply_of command) (with_store_of one other same)
 
-after_by_fleet : (command : Command) (s : State) (store : StoreState)
-    → (state_after command s).fleet ≡ (state_after command (serving s.fleet store)).fleet
-after_by_fleet (Move name sectors writes) s store = refl
-after_by_fleet _ s store = refl
+fleet_by_inside : (command : Command) (s : State) (store : StoreState)
+    → (state_after command s).fleet
+    ≡ (state_after command (serving s.fleet s.records store)).fleet
+fleet_by_inside (Move name sectors writes) s store = refl
+fleet_by_inside _ s store = refl
 
-pub same_fleet_after : (command : Command) (one other : State) → other.fleet ≡ one.fleet
-    → (state_after command other).fleet ≡ (state_after command one).fleet
-same_fleet_after command one other same =
-    after_by_fleet command other one.store
-    ∙ ap (λ (f : FleetState). (state_after command (serving f one.store)).fleet) same
-    ∙ sym (after_by_fleet command one one.store)
+records_by_inside : (command : Command) (s : State) (store : StoreState)
+    → (state_after command s).records
+    ≡ (state_after command (serving s.fleet s.records store)).records
+records_by_inside (Move name sectors writes) s store = refl
+records_by_inside _ s store = refl
+
+pub same_after : (command : Command) (one other : State) → AreAlikeInside one other
+    → AreAlikeInside (state_after command one) (state_after command other)
+same_after command one other same = record {
+  fleet = fleet_by_inside command other one.store
+      ∙ ap (λ (s : State). (state_after command s).fleet) (with_store_of one other same);
+  records = records_by_inside command other one.store
+      ∙ ap (λ (s : State). (state_after command s).records) (with_store_of one other same);
+}
 
 same_names_after : (command : Command) (one other : State)
     → HaveSameNames one.store.volumes other.store.volumes
@@ -106,7 +121,7 @@ same_names_after _ one other h = h
 agree_after : (command : Command) (one other : State) → Agree one other
     → Agree (state_after command one) (state_after command other)
 agree_after command one other agree = record {
-  fleet = same_fleet_after command one other agree.fleet;
+  inside = same_after command one other agree.inside;
   names = same_names_after command one other agree.names;
 }
 
@@ -124,24 +139,24 @@ abbrev pub IsNoMove : Command → Type 0
 IsNoMove (Move name sectors writes) = ⊥
 IsNoMove _ = Unit {0}
 
-pub late_by_fleet : (command : Command) → IsNoMove command → (a b : Option Refusal)
-    (one other : State) → other.fleet ≡ one.fleet → LateRefusal command a one
+pub late_by_inside : (command : Command) → IsNoMove command → (a b : Option Refusal)
+    (one other : State) → AreAlikeInside one other → LateRefusal command a one
     → LateRefusal command b other → b ≡ a
-late_by_fleet (Move name sectors writes) moves a b one other same h k = absurd moves
-late_by_fleet (Query vm snapshot disk since start) moves a b one other same h k =
+late_by_inside (Move name sectors writes) moves a b one other same h k = absurd moves
+late_by_inside (Query vm snapshot disk since start) moves a b one other same h k =
     k.2
     ∙ ap (λ (asked : Result Since IdRefused). query_refusal vm snapshot disk asked start other.fleet)
     (asks_for_one since k.0 h.0 k.1 h.1)
-    ∙ ap (λ (f : FleetState). query_refusal vm snapshot disk h.0 start f) same
+    ∙ ap (λ (f : FleetState). query_refusal vm snapshot disk h.0 start f) same.fleet
     ∙ sym h.2
-late_by_fleet _ moves a b one other same h k = k ∙ sym h
+late_by_inside _ moves a b one other same h k = k ∙ sym h
 
 late_alike : (command : Command) (a b : Option Refusal) (one other : State) → Agree one other
     → LateRefusal command a one → LateRefusal command b other → b ≡ a
 late_alike (Move name sectors writes) a b one other agree h k =
     taken_alike name a b one.store.volumes other.store.volumes agree.names h.1 k.1
 late_alike command a b one other agree h k =
-    late_by_fleet command tt a b one other agree.fleet h k
+    late_by_inside command tt a b one other agree.inside h k
 
 found_alike : (refusal : Option Refusal) (P Q : Type 0) (a b : Option Refusal) → (P → Q → b ≡ a)
     → MatchOption refusal P (λ why. a ≡ Some why) → MatchOption refusal Q (λ why. b ≡ Some why)
@@ -154,7 +169,7 @@ abbrev pub OneRefusal : Command → (one other : State) → Type 0
 OneRefusal command one other = (a b : Option Refusal) → HasRefusal command a one
     → HasRefusal command b other → b ≡ a
 
-pub one_refusal : (command : Command) (one other : State) → other.fleet ≡ one.fleet
+pub one_refusal : (command : Command) (one other : State) → AreAlikeInside one other
     → ((a b : Option Refusal) → LateRefusal command a one → LateRefusal command b other → b ≡ a)
     → OneRefusal command one other
 one_refusal command one other same late a b h k =
@@ -165,13 +180,13 @@ one_refusal command one other same late a b h k =
 
 -- ---- the same reply
 
-replied_alike : (command : Command) (a b : Reply) (one other : State) → other.fleet ≡ one.fleet
+replied_alike : (command : Command) (a b : Reply) (one other : State) → AreAlikeInside one other
     → Replies command a one → Replies command b other → b ≡ a
 replied_alike (Query vm snapshot disk since start) a b one other same h k =
     k.2
     ∙ ap (λ (asked : Result Since IdRefused). query_reply vm snapshot disk asked start other.fleet)
     (asks_for_one since k.0 h.0 k.1 h.1)
-    ∙ ap (λ (f : FleetState). query_reply vm snapshot disk h.0 start f) same
+    ∙ ap (λ (f : FleetState). query_reply vm snapshot disk h.0 start f) same.fleet
     ∙ sym h.2
 replied_alike command a b one other same h k =
     k ∙ same_reply command one other same ∙ sym h
@@ -197,7 +212,7 @@ BothLeft command one other one_after other_after = ((one_after ≡ one) × (othe
     ⊎ ((one_after ≡ state_after command one) × (other_after ≡ state_after command other))
 
 pub plain_alike : (command : Command) (a b : Answer) (one other one_after other_after : State)
-    → other.fleet ≡ one.fleet → OneRefusal command one other → Plain command a one one_after
+    → AreAlikeInside one other → OneRefusal command one other → Plain command a one one_after
     → Plain command b other other_after
     → (b ≡ a) × BothLeft command one other one_after other_after
 plain_alike command (Ok a) (Ok b) one other one_after other_after same refused h k =
@@ -227,9 +242,9 @@ answers_alike : (command : Command) (a b : Answer) (one other one_after other_af
     → Agree one other → a ≢ Err Volume → b ≢ Err Volume → Answers command a one one_after
     → Answers command b other other_after → (b ≡ a) × Agree one_after other_after
 answers_alike command a b one other one_after other_after agree sound sounds h k =
-    let refused = one_refusal command one other agree.fleet
+    let refused = one_refusal command one other agree.inside
     (λ x y. late_alike command x y one other agree) in
-    let both = plain_alike command a b one other one_after other_after agree.fleet refused
+    let both = plain_alike command a b one other one_after other_after agree.inside refused
     (plainly command a one one_after sound h) (plainly command b other other_after sounds k) in
     (both.0, left_alike command one other one_after other_after agree both.1)
 

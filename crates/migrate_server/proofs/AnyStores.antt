@@ -10,14 +10,14 @@ use Rattle.answers.specs.declared.refusal.Refusal.{Refusal}
 use Rattle.answers.specs.declared.refusal.Refusal.TheVariants.{NameTaken, Volume}
 use Rattle.reply_json.specs.declared.reply.Reply.{Reply}
 use Rattle.target_volume.specs.VolumeStore.{StoreState}
-use Rattle.migrate_server.specs.Laws.{IsByStore, AreAlike, AllAlike}
+use Rattle.migrate_server.specs.Laws.{AreAlikeInside, IsByStore, AreAlike, AllAlike}
 use Rattle.migrate_server.specs.Line.{Means}
-use Rattle.migrate_server.specs.Session.{State, Answers, LineAnswers, Step, Session}
+use Rattle.migrate_server.specs.Session.{State, state_after, Answers, LineAnswers, Step, Session}
 use Rattle.migrate_server.specs.commands.Moves.{move_refusal, MoveRefusal, move_reply}
 use Rattle.migrate_server.specs.declared.line.Line.{Line}
 use Rattle.migrate_server.specs.declared.line.Line.TheVariants.{Blank, Asks, Refuses}
-use Rattle.migrate_server.proofs.Agreeing.{IsNoMove, late_by_fleet, one_refusal, Plain, BothLeft, plain_alike, same_fleet_after}
-use Rattle.migrate_server.proofs.EachCommand.{refused_stays}
+use Rattle.migrate_server.proofs.Agreeing.{IsNoMove, late_by_inside, one_refusal, Plain, BothLeft, plain_alike, same_after}
+use Rattle.migrate_server.proofs.EachCommand.{alike_inside, refused_stays}
 use Rattle.migrate_server.proofs.Meanings.{means_one}
 
 -- ---- a move
@@ -72,8 +72,11 @@ moves_alike None reply a b (inr h) k = inr (inl h)
 
 move_leaves : (name : List ℕ) (sectors : ℕ) (writes : List MoveWrite) (answer : Answer)
     (old new : State) → Answers (Move name sectors writes) answer old new
-    → new.fleet ≡ old.fleet
-move_leaves name sectors writes (Ok reply) old new h = ap (λ (s : State). s.fleet) h.2
+    → AreAlikeInside old new
+move_leaves name sectors writes (Ok reply) old new h = record {
+  fleet = ap (λ (s : State). s.fleet) h.2;
+  records = ap (λ (s : State). s.records) h.2;
+}
 move_leaves name sectors writes (Err why) old new h =
     refused_stays (Move name sectors writes) why old new h
 
@@ -86,36 +89,48 @@ plain command moves (Err why) old new (inl same) = same
 plain (Move name sectors writes) moves (Err why) old new (inr fails) = absurd moves
 plain _ moves (Err why) old new (inr fails) = absurd fails.2
 
-fleets_left : (command : Command) (one other one_after other_after : State)
-    → other.fleet ≡ one.fleet → BothLeft command one other one_after other_after
-    → other_after.fleet ≡ one_after.fleet
-fleets_left command one other one_after other_after same (inl stay) =
-    ap (λ (s : State). s.fleet) stay.1 ∙ same ∙ sym (ap (λ (s : State). s.fleet) stay.0)
-fleets_left command one other one_after other_after same (inr go) =
-    ap (λ (s : State). s.fleet) go.1 ∙ same_fleet_after command one other same
-    ∙ sym (ap (λ (s : State). s.fleet) go.0)
+-- what each left of two states that are alike inside is so too
+alike_then : (one other one_after other_after : State) → AreAlikeInside one other
+    → AreAlikeInside one one_after → AreAlikeInside other other_after
+    → AreAlikeInside one_after other_after
+alike_then one other one_after other_after same h k = record {
+  fleet = k.fleet ∙ same.fleet ∙ sym h.fleet;
+  records = k.records ∙ same.records ∙ sym h.records;
+}
+
+insides_left : (command : Command) (one other one_after other_after : State)
+    → AreAlikeInside one other → BothLeft command one other one_after other_after
+    → AreAlikeInside one_after other_after
+insides_left command one other one_after other_after same (inl stay) =
+    alike_then one other one_after other_after same (alike_inside one one_after stay.0)
+    (alike_inside other other_after stay.1)
+insides_left command one other one_after other_after same (inr go) =
+    alike_then (state_after command one) (state_after command other) one_after other_after
+    (same_after command one other same) (alike_inside (state_after command one) one_after go.0)
+    (alike_inside (state_after command other) other_after go.1)
 
 no_move_alike : (command : Command) → IsNoMove command → (a b : Answer)
-    (one other one_after other_after : State) → other.fleet ≡ one.fleet
+    (one other one_after other_after : State) → AreAlikeInside one other
     → Answers command a one one_after → Answers command b other other_after
-    → (b ≡ a) × (other_after.fleet ≡ one_after.fleet)
+    → (b ≡ a) × AreAlikeInside one_after other_after
 no_move_alike command other_kind a b one other one_after other_after same h k =
     let both = plain_alike command a b one other one_after other_after same
     (one_refusal command one other same
-    (λ x y. late_by_fleet command other_kind x y one other same))
+    (λ x y. late_by_inside command other_kind x y one other same))
     (plain command other_kind a one one_after h) (plain command other_kind b other other_after k) in
-    (both.0, fleets_left command one other one_after other_after same both.1)
+    (both.0, insides_left command one other one_after other_after same both.1)
 
 -- ---- a line
 
 line_alike : (line : List ℕ) (what : Line) (a b : Answer) (one other one_after other_after : State)
-    → Means line what → other.fleet ≡ one.fleet → LineAnswers what a one one_after
+    → Means line what → AreAlikeInside one other → LineAnswers what a one one_after
     → LineAnswers what b other other_after
-    → AreAlike line a b × (other_after.fleet ≡ one_after.fleet)
+    → AreAlike line a b × AreAlikeInside one_after other_after
 line_alike line Blank a b one other one_after other_after means same h k = absurd h
 line_alike line (Refuses why) a b one other one_after other_after means same h k = (
   inl (k.0 ∙ sym h.0),
-  ap (λ (s : State). s.fleet) k.1 ∙ same ∙ sym (ap (λ (s : State). s.fleet) h.1),
+  alike_then one other one_after other_after same (alike_inside one one_after h.1)
+      (alike_inside other other_after k.1),
 )
 line_alike line (Asks (Move name sectors writes)) a b one other one_after other_after means same
     h k =
@@ -126,16 +141,17 @@ line_alike line (Asks (Move name sectors writes)) a b one other one_after other_
         | inl one_answer ↦ inl one_answer
         | inr stores ↦ inr ((name, sectors, writes, means), stores)
       ],
-      move_leaves name sectors writes b other other_after k ∙ same
-          ∙ sym (move_leaves name sectors writes a one one_after h),
+      alike_then one other one_after other_after same
+          (move_leaves name sectors writes a one one_after h)
+          (move_leaves name sectors writes b other other_after k),
     )
 line_alike line (Asks command) a b one other one_after other_after means same h k =
     let both = no_move_alike command tt a b one other one_after other_after same h k in
     (inl both.0, both.1)
 
 step_alike : (line : List ℕ) (a b : Answer) (one other one_after other_after : State)
-    → other.fleet ≡ one.fleet → Step line a one one_after → Step line b other other_after
-    → AreAlike line a b × (other_after.fleet ≡ one_after.fleet)
+    → AreAlikeInside one other → Step line a one one_after → Step line b other other_after
+    → AreAlike line a b × AreAlikeInside one_after other_after
 step_alike line a b one other one_after other_after same h k =
     let one_meaning = means_one line k.0 h.0 k.1 h.1 in
     line_alike line h.0 a b one other one_after other_after h.1 same h.2
@@ -144,11 +160,12 @@ step_alike line a b one other one_after other_after same h k =
 -- ---- a session
 
 pub stores_answer_moves_alone : (one other one_after other_after : State)
-    (lines : List (List ℕ)) (answers others : List Answer) → other.fleet ≡ one.fleet
+    (lines : List (List ℕ)) (answers others : List Answer) → AreAlikeInside one other
     → Session one lines answers one_after → Session other lines others other_after
-    → AllAlike lines answers others × (other_after.fleet ≡ one_after.fleet)
+    → AllAlike lines answers others × AreAlikeInside one_after other_after
 stores_answer_moves_alone one other one_after other_after [] [] [] same h k =
-    (tt, ap (λ (s : State). s.fleet) k ∙ same ∙ sym (ap (λ (s : State). s.fleet) h))
+    (tt, alike_then one other one_after other_after same (alike_inside one one_after h)
+    (alike_inside other other_after k))
 stores_answer_moves_alone one other one_after other_after [] [] (b ∷ others) same h k = absurd k
 stores_answer_moves_alone one other one_after other_after [] (a ∷ answers) others same h k =
     absurd h

@@ -1,5 +1,5 @@
 -- A volume that was complete once is so at the end, and over a sound store no command is refused as `volume`.
-use Rattle.std.proofs.Common.{◌≡◌, ◌≢◌, ℕ, ◌/◌, Bool, true, false, nat_le, length, List, [], ◌∷◌, Option, Some, None, Result, Ok, Err, option_map, if◌then◌else◌, inl, inr, refl, sym, ap, subst, ◌∙◌, arith}
+use Rattle.std.proofs.Common.{◌≡◌, ◌≢◌, ℕ, ◌/◌, ◌==◌, Bool, true, false, nat_le, length, List, [], ◌∷◌, Option, Some, None, Result, Ok, Err, option_map, if◌then◌else◌, inl, inr, refl, sym, ap, subst, ◌∙◌, arith}
 use Rattle.std.specs.Prelude.{MatchOption, IfSome, IsSome, IsSomeAnd, IsTrue, All, is_some, option_and_then}
 use Rattle.std.specs.Option.{option_map_or}
 use Rattle.std.proofs.lemmas.Bool.{false≢true, true≢false}
@@ -40,13 +40,22 @@ use Rattle.fleet_commands.specs.declared.deed.Deed.{Deed}
 use Rattle.fleet_commands.specs.declared.deed.Deed.TheVariants as deed
 use Rattle.answers.specs.declared.refusal.Refusal.{Refusal}
 use Rattle.answers.specs.declared.refusal.Refusal.TheVariants as refusal
-use Rattle.answers.specs.declared.refusal.Refusal.TheVariants.{Range, LogFull, NameTaken, UnknownVm, Volume}
+use Rattle.answers.specs.declared.refusal.Refusal.TheVariants.{Range, LogFull, NameTaken, UnknownVm, UnknownPlan, Started, NotStarted, Ended, Volume}
+use Rattle.plan_model.specs.Plans.{plan_refusal as model_refusal}
+use Rattle.plan_model.specs.declared.plan.PlanRefused.{PlanRefused}
+use Rattle.plan_model.specs.declared.plan.PlanRefused.TheVariants as plan
+use Rattle.ctl_state.specs.Value.{plan_named, course_in}
+use Rattle.ctl_state.specs.declared.plans.PlanCourse.{PlanCourse}
+use Rattle.plan_commands.specs.Machines.{known_of}
+use Rattle.plan_commands.specs.commands.Cutover.{course_refusal, cutover_refusal_of}
+use Rattle.plan_commands.specs.commands.Plan.{plan_told}
+use Rattle.plan_commands.specs.commands.Start.{waiting_in, start_refusal_of}
 use Rattle.answers.specs.Answer.{Answer}
 use Rattle.migrate_server.specs.Line.{AsksFor, Means, refusal_told, refused_by, line_refusal}
 use Rattle.migrate_server.specs.commands.Moves.{MoveRefusal, move_refusal, name_refusal, moved_volume}
 use Rattle.migrate_server.specs.NewVolume.{IsFree, FailsInCopy, with_new_volume}
 use Rattle.migrate_server.proofs.NewVolumes.{Volumes}
-use Rattle.migrate_server.specs.Session.{State, power_deed, HasRefusal, LateRefusal, refusal_of, state_after, Fails, Answers, LineAnswers, Session, Stands, IsComplete, AllComplete}
+use Rattle.migrate_server.specs.Session.{State, value_of, power_deed, HasRefusal, LateRefusal, refusal_of, state_after, Fails, Answers, LineAnswers, Session, Stands, IsComplete, AllComplete}
 
 -- a store tells still, and has still each volume that it had
 record Keeps (old new : Option Volumes) : Type 0 where
@@ -126,7 +135,7 @@ after_keeps (Digest volume) old h = keeps_same old.store.volumes
 after_keeps Restart old h = keeps_same old.store.volumes
 
 failed_keep : (command : Command) (old new : State) → Fails command old new → Keeps old.store.volumes new.store.volumes
-failed_keep (Move name sectors writes) old new h = fails_keep (Given name) sectors old.store new.store h.1
+failed_keep (Move name sectors writes) old new h = fails_keep (Given name) sectors old.store new.store h.2
 failed_keep _ old new h = absurd h
 
 answers_keep : (command : Command) (answer : Answer) (old new : State) → Answers command answer old new → Keeps old.store.volumes new.store.volumes
@@ -191,6 +200,17 @@ session_complete old new (l ∷ lines) (r ∷ replies) h tells =
     let first = line_complete l (h.1).0 r old h.0 tells (h.1).1 (h.1).2 in
     (session_still h.0 new lines replies h.2 l r first, session_complete h.0 new lines replies h.2 ((line_keeps (h.1).0 r old h.0 (h.1).2).tells tells))
 
+-- what stands of commands goes by the store alone
+pub all_still : (lines : List (List ℕ)) (replies : List Answer) (old new : State)
+    → new.store ≡ old.store → AllComplete lines replies old → AllComplete lines replies new
+all_still [] [] old new same h = tt
+all_still [] (r ∷ replies) old new same h = tt
+all_still (l ∷ lines) [] old new same h = tt
+all_still (l ∷ lines) (r ∷ replies) old new same h =
+    let keeps = subst (λ (t : StoreState). Keeps old.store.volumes t.volumes) (sym same)
+    (keeps_same old.store.volumes) in
+    (complete_still l r old new keeps h.0, all_still lines replies old new same h.1)
+
 -- ---- a sound store
 
 err_is : (why : Refusal) → ◌≡◌ {A = Answer} (Err why) (Err Volume) → why ≡ Volume
@@ -238,6 +258,31 @@ deed_why vm asked fleet = machine_why (machine_named vm fleet)
     (λ m. option_and_then link_told (refusal_by asked m.capacities m.log))
     (λ m. told_by (refusal_by asked m.capacities m.log) link_told link_why)
 
+-- nor what a plan is refused for
+plan_why : (why : PlanRefused) → plan_told why ≢ Some Volume
+plan_why plan.Empty = λ same. cc
+plan_why _ = λ same. cc
+
+named_why : {X : Type 0} (found : Option X) (by : X → Option Refusal)
+    → ((x : X) → by x ≢ Some Volume) → option_map_or by found (Some UnknownPlan) ≢ Some Volume
+named_why None by never = λ same. cc
+named_why (Some x) by never = never x
+
+started_why : (all : Bool) → (if all then Some Started else None) ≢ Some Volume
+started_why true = λ same. cc
+started_why false = λ same. cc
+
+ended_why : (a b : Bool)
+    → (if a then Some NotStarted else if b then Some Ended else None) ≢ Some Volume
+ended_why true b = λ same. cc
+ended_why false true = λ same. cc
+ended_why false false = λ same. cc
+
+course_why : (course : Option PlanCourse)
+    → option_map_or course_refusal course (Some UnknownPlan) ≢ Some Volume
+course_why course =
+    named_why course course_refusal (λ c. ended_why (c.started == 0) (c.live == 0))
+
 -- what a command asks for isn't refused as `volume`
 asked_why : (command : Command) (s : State) → refusal_of command s ≢ Some Volume
 asked_why (Move name sectors writes) s = move_why _ _
@@ -258,6 +303,15 @@ asked_why (Read vm disk first count snapshot) s = machine_why (machine_named vm 
     (λ m. told_by (refusal_at_read snapshot disk first count m) link_told link_why)
 asked_why (Power vm on) s = deed_why vm (power_deed on) s.fleet
 asked_why (Reset vm disk) s = deed_why vm (deed.Reset disk) s.fleet
+asked_why (Plan name vms interval) s =
+    told_by (model_refusal name vms (known_of s.fleet (value_of s.records)) (value_of s.records).plans)
+    plan_told plan_why
+asked_why (Start plan) s = named_why (plan_named (value_of s.records).plans plan)
+    (λ number. start_refusal_of number (value_of s.records))
+    (λ number. started_why (length (waiting_in number (value_of s.records)) == 0))
+asked_why (Cutover plan at) s = named_why (plan_named (value_of s.records).plans plan)
+    (λ number. cutover_refusal_of number (value_of s.records))
+    (λ number. course_why (course_in (value_of s.records) number))
 asked_why _ s = λ same. cc
 
 since_why : (snapshot disk : ℕ) (asked : Result Since IdRefused) (start : ℕ) (m : MachineState)
@@ -288,7 +342,7 @@ after_sound (Move name sectors writes) old = (refl, refl)
 after_sound _ old = (refl, refl)
 
 fails_unsound : (command : Command) (old new : State) → Fails command old new → old.store.sound ≡ false
-fails_unsound (Move name sectors writes) old new h = h.1.unsound
+fails_unsound (Move name sectors writes) old new h = (h.2).unsound
 fails_unsound _ old new h = absurd h
 
 answers_sound : (command : Command) (answer : Answer) (old new : State) → IsTrue old.store.sound → Answers command answer old new → Sound answer old new

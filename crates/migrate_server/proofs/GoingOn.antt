@@ -1,4 +1,4 @@
--- The fleet goes on with each command, and so with a session.
+-- The fleet and the records go on with each command, and so with a session.
 use Rattle.std.proofs.Common.{◌≡◌, ℕ, ◌≤◌, false, List, [], ◌∷◌, ◌++◌, length, take, Option, Some, None, refl, sym, ap, subst, ◌∙◌, arith}
 use Rattle.std.specs.Prelude.{unwrap_or}
 use Rattle.std.specs.Option.{option_map_or}
@@ -7,7 +7,7 @@ use Rattle.std.proofs.lemmas.List.{length-take, take-take, take_at}
 use Rattle.std.proofs.lemmas.Option.{slice_get_within}
 use Rattle.basics.proofs.ItemAt.{slice_get-front}
 use Rattle.cmd_json.specs.declared.command.Command.{Command}
-use Rattle.cmd_json.specs.declared.command.Command.TheVariants.{Host, Vm, Enable, Write, Snapshot, Remove, Power, Reset}
+use Rattle.cmd_json.specs.declared.command.Command.TheVariants.{Host, Vm, Enable, Write, Snapshot, Remove, Power, Reset, Plan, Start, Cutover}
 use Rattle.log_model.specs.declared.entry.Act.{Act}
 use Rattle.log_model.specs.declared.entry.Entry.{Entry}
 use Rattle.log_model.proofs.LinkLaws.{prefix-join}
@@ -24,7 +24,8 @@ use Rattle.fleet_commands.specs.commands.Write.{fill_act}
 use Rattle.fleet_commands.specs.declared.deed.Deed.TheVariants as deed
 use Rattle.fleet_commands.specs.declared.host.TheConstants.{DEFAULT_HOST_LIMIT}
 use Rattle.fleet_commands.proofs.Lifting.{vm_here}
-use Rattle.migrate_server.specs.Session.{State, power_deed, state_after, Session}
+use Rattle.record_codec.specs.declared.record.Record.{Record}
+use Rattle.migrate_server.specs.Session.{State, power_deed, records_of, state_after, Session}
 use Rattle.migrate_server.proofs.EachCommand.{session_keeps}
 
 -- ---- the laws of a fleet
@@ -120,5 +121,35 @@ goes_then _ s = goes_on_itself s.fleet
 
 pub session_goes_on : (old new : State) (lines : List (List ℕ)) (answers : List Answer)
     → Session old lines answers new → FleetGoesOn old.fleet new.fleet
-session_goes_on old new lines answers h = session_keeps FleetGoesOn goes_on_itself goes_on_further
-    goes_then old new lines answers h
+session_goes_on old new lines answers h =
+    session_keeps (λ (s : State). s.fleet) FleetGoesOn goes_on_itself goes_on_further goes_then
+    (λ a b same. same.fleet) old new lines answers h
+
+-- ---- the records
+
+abbrev pub GoOn : (old new : List Record) → Type 0
+GoOn old new = take (length old) new ≡ old
+
+pub added_go_on : (records added : List Record) → GoOn records (records ++ added)
+added_go_on records added = take_at records added (length records) refl
+
+records_then : (command : Command) (s : State) → GoOn s.records (state_after command s).records
+records_then (Plan name vms interval) s =
+    added_go_on s.records (records_of (Plan name vms interval) s)
+records_then (Start plan) s = added_go_on s.records (records_of (Start plan) s)
+records_then (Cutover plan at) s = added_go_on s.records (records_of (Cutover plan at) s)
+records_then _ s = take-length s.records
+
+pub records_go_further : (first second third : List Record) → GoOn first second
+    → GoOn second third → GoOn first third
+records_go_further first second third h k =
+    let fits : length first ≤ length second =
+    omega (arith, ap length h, length-take (length first) second) in
+    sym (take-take (length first) (length second) third fits)
+    ∙ ap (take (length first)) k ∙ h
+
+pub session_keeps_records : (old new : State) (lines : List (List ℕ)) (answers : List Answer)
+    → Session old lines answers new → GoOn old.records new.records
+session_keeps_records old new lines answers h =
+    session_keeps (λ (s : State). s.records) GoOn take-length records_go_further records_then
+    (λ a b same. same.records) old new lines answers h

@@ -13,3 +13,6 @@ pub mod Agreeing
 pub mod AnyStores
 pub mod SameInput
 pub mod Serving
+pub mod Chains
+pub mod Growing
+pub mod Owning

@@ -148,9 +148,11 @@ session_log old new (l ∷ lines) (Ok reply ∷ answers) h name =
 session_log old new (l ∷ lines) (Err why ∷ answers) h name =
     session_log h.0 new lines answers h.2 name
     ∙ ap (λ (f : FleetState). log_after name (log_named name f) lines answers)
-    (line_stays (h.1).0 why old h.0 (h.1).2)
+    (line_stays (h.1).0 why old h.0 (h.1).2).fleet
 
 pub session_in : (old new : State) (lines : List (List ℕ)) (answers : List Answer)
     → Session old lines answers new → AllAreIn old.fleet → AllAreIn new.fleet
-session_in old new lines answers h = session_keeps (λ a b. AllAreIn a → AllAreIn b)
-    (λ fleet are. are) (λ first second third p q are. q (p are)) in_then old new lines answers h
+session_in old new lines answers h =
+    session_keeps (λ (s : State). s.fleet) (λ a b. AllAreIn a → AllAreIn b) (λ fleet are. are)
+    (λ first second third p q are. q (p are)) in_then (λ a b same. same.fleet) old new lines
+    answers h

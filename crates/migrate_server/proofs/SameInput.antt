@@ -6,11 +6,11 @@ use Rattle.std.proofs.lemmas.Bool.{leb-true, leb-false}
 use Rattle.std.proofs.lemmas.List.{append-nil, length-append, length-take-le, take_at, get_or-take, get_or_append_left}
 use Rattle.std.proofs.Math.Seq.{get_or-append_seam}
 use Rattle.answers.specs.Answer.{answer_line}
-use Rattle.migrate_server.specs.Laws.{SameInputSameOutput}
+use Rattle.migrate_server.specs.Laws.{Agree, SameInputSameOutput}
 use Rattle.migrate_server.specs.Line.{AsksToQuit, lines_of, requests_among}
 use Rattle.migrate_server.specs.Serves.{Serves, QuitsLast, EndsByQuit}
-use Rattle.migrate_server.specs.Session.{state_of, Session}
-use Rattle.migrate_server.specs.World.{World}
+use Rattle.migrate_server.specs.Session.{State, state_of, Session}
+use Rattle.migrate_server.specs.World.{Desk}
 use Rattle.migrate_server.specs.declared.status.Status.TheVariants.{Ok}
 use Rattle.migrate_server.proofs.Agreeing.{same_lines_same_replies}
 
@@ -88,7 +88,7 @@ ends : (left : Option (List ℕ)) (lines more : List (List ℕ))
 ends left lines more (inl whole) = inl whole.0
 ends left lines more (inr quit) = inr quit
 
-all_written : (old new : World) (run : Serves old new Ok)
+all_written : (old new : Desk) (run : Serves old new Ok)
     → run.written ≡ flat_map answer_line run.replies
 all_written old new run = sym (append-nil run.written)
     ∙ ap (λ (l : List ℕ). run.written ++ l) (sym run.leaves) ∙ run.all_bytes
@@ -101,12 +101,13 @@ same_input_same_output one one_after other other_after first second same agree n
     (ends one_after.source.left first.lines first.more first.comes_to)
     (ends other_after.source.left second.lines second.more second.comes_to)
     first.quits second.quits in
-    let session = subst (λ (l : List (List ℕ)). Session (state_of other) (requests_among l)
-    second.replies (state_of other_after)) lines second.session in
-    let alike = same_lines_same_replies (state_of one) (state_of other) (state_of one_after)
-    (state_of other_after) (requests_among first.lines) first.replies second.replies agree
-    first.session session none nones in (
+    let session = subst (λ (l : List (List ℕ)). Session (state_of other.server)
+    (requests_among l) second.replies second.mid) lines second.session in
+    let alike = same_lines_same_replies (state_of one.server) (state_of other.server) first.mid
+    second.mid (requests_among first.lines) first.replies second.replies agree first.session
+    session none nones in (
       all_written other other_after second ∙ ap (flat_map answer_line) alike.0
           ∙ sym (all_written one one_after first),
-      alike.1,
+      subst (λ (s : State). Agree s (state_of other_after.server)) (sym (first.cut).0)
+          (subst (λ (s : State). Agree first.mid s) (sym (second.cut).0) alike.1),
     )

@@ -5,14 +5,22 @@ use Rattle.std.proofs.KnownBytes.{Appends-nil, Appends-trans, Consumes-nil, Cons
 use Rattle.std.proofs.lemmas.Bool.{false≢true, true≢false, false_from_ne_true, and_left, eqb-true, lt-leb, le-leb}
 use Rattle.std.specs.List.{flat_map, list_all}
 use Rattle.std.specs.Io.KnownBytes.{Appends, Consumes, IsAtEnd}
+use Rattle.std.proofs.Math.Seq.{take-length}
 use Rattle.std.proofs.lemmas.List.{append-nil, length-append, take-append-drop, take_at}
 use Rattle.std.proofs.lemmas.List.Elements.{filter-append, All-head, All-tail, All-cons, All-append, All-take}
 use Rattle.std.proofs.lemmas.List.Sums.{sum_by-append, sum_by-cons}
 use Rattle.std.proofs.lemmas.Grind.{flat_map-append}
 use Rattle.basics.specs.Faults.{Rose, HasRisen}
 use Rattle.edge_traits.specs.Source.{SourceState}
+use Rattle.fleet.specs.Fleet.{FleetGoesOn}
 use Rattle.fleet.specs.Sound.{AllAreIn}
-use Rattle.fleet.proofs.Logs.{goes_on_itself}
+use Rattle.fleet_commands.specs.Logs.{log_named}
+use Rattle.journal.specs.Journal.{JournalState}
+use Rattle.record_codec.specs.declared.record.Record.{Record}
+use Rattle.record_keeping.specs.Keeping.{IsUnfailed, StopsAt}
+use Rattle.record_keeping.specs.declared.refusal.NotKept.{NotKept}
+use Rattle.record_keeping.specs.declared.refusal.NotKept.TheVariants as kept
+use Rattle.target_volume.specs.VolumeStore.{StoreState}
 use Rattle.edge_traits.specs.Sink.{SinkState, AppendsPrefix}
 use Rattle.migrate_server.specs.declared.line_buffer.LineBuffer.{LineBuffer}
 use Rattle.cmd_json.specs.Line.{command_of}
@@ -27,22 +35,23 @@ use Rattle.migrate_server.specs.declared.reader.NoLine.TheVariants.{Fault as Lin
 use Rattle.answers.specs.declared.refusal.Refusal.{Refusal}
 use Rattle.answers.specs.declared.refusal.Refusal.TheVariants.{Long}
 use Rattle.migrate_server.specs.declared.serve.NoReply.{NoReply}
-use Rattle.migrate_server.specs.declared.serve.NoReply.TheVariants.{Fault, NoMemory as NoReplyMemory}
+use Rattle.migrate_server.specs.declared.serve.NoReply.TheVariants.{Fault, Unkept}
 use Rattle.migrate_server.specs.declared.status.Status.{Status}
+use Rattle.migrate_server.specs.declared.status.Status.TheVariants as status
 use Rattle.migrate_server.specs.declared.serve.Stop.{Stop}
 use Rattle.migrate_server.specs.declared.serve.Stop.TheVariants.{WriteFault, NoMemory}
-use Rattle.migrate_server.specs.EndsFor.{EndsFor, TellsUsage, usage_line}
+use Rattle.migrate_server.specs.EndsFor.{EndsFor, IsServing, KeepsFor, PutsFor, ReadsFor, TellsUsage, usage_line}
 use Rattle.migrate_server.specs.declared.line.TheConstants.{LINE_LIMIT}
 use Rattle.answers.specs.Answer.{Answer, answer_line}
 use Rattle.migrate_server.specs.Line.{AsksToQuit, Means, refused_by, quits, is_space, is_blank, is_lf, lines_of, ended_lines, before_first_line, requests_among}
 use Rattle.migrate_server.specs.LineBuffer.{Holds}
 use Rattle.migrate_server.specs.Reader.{ReaderState, HasNoLf, IsIdle, TakesLine, TakesEnd, HasNoLine, budget}
-use Rattle.migrate_server.specs.Serve.{IsAnswered, HasReply, TellsQuit, ServesLine, FailsInReply, LacksReply, LacksBytes, bytes_of_reply, stop_without_line, stop_without_reply, status_of}
-use Rattle.migrate_server.specs.Serves.{Serves, NoneQuits, QuitsLast}
-use Rattle.migrate_server.specs.Session.{State, state_of, Session, Step}
-use Rattle.migrate_server.specs.World.{World}
-use Rattle.migrate_server.proofs.Complete.{session_complete, session_sound, no_volume}
-use Rattle.migrate_server.proofs.GoingOn.{session_goes_on}
+use Rattle.migrate_server.specs.Serve.{IsAnswered, IsStopped, HasReply, TellsQuit, ServesLine, FailsInReply, LacksMemory, LineStops, StopsBeforeReply, LacksReply, LacksBytes, bytes_of_reply, stop_without_line, stop_unkept, stop_without_reply, status_of}
+use Rattle.migrate_server.specs.Serves.{Serves, TakesFor, NoneQuits, QuitsLast, QuitsFor, ComesTo, LeavesFor, CutsNext, CutFor}
+use Rattle.migrate_server.specs.Session.{State, state_of, serving, LineIsCut, Session, Step}
+use Rattle.migrate_server.specs.World.{Server, Desk}
+use Rattle.migrate_server.proofs.Complete.{all_still, session_complete, session_sound, no_volume}
+use Rattle.migrate_server.proofs.GoingOn.{GoOn, added_go_on, records_go_further, session_goes_on, session_keeps_records}
 use Rattle.migrate_server.proofs.LogsAfter.{session_log, session_in}
 use Rattle.migrate_server.proofs.Meanings.{means_one}
 
@@ -92,10 +101,30 @@ has_reply line Blank (Some answer) old new means h = absurd h
 has_reply line (Asks command) (Some answer) old new means h = (means.some, (Asks command, means, h))
 has_reply line (Refuses why) (Some answer) old new means h = (means.0, (Refuses why, means, h))
 
-pub lacks_reply : (why : NoReply) (line : List ℕ) (answer : Answer) (sink sink_after : SinkState) (old new : State) → HasReply line (Some answer) old new → LacksBytes why (answer_line answer) sink sink_after
+-- its reply wasn't written, or not whole
+pub lacks_reply : (why : NoReply) (line : List ℕ) (answer : Answer) (sink sink_after : SinkState)
+    (old new : Server) → HasReply line (Some answer) (state_of old) (state_of new)
+    → IsUnfailed old.journal new.journal → LacksBytes why (answer_line answer) sink sink_after
     → LacksReply why line sink sink_after old new
-lacks_reply Fault line answer sink sink_after old new has part = record { reply = answer; answers = has; part = part.0; rises = part.1 }
-lacks_reply NoReplyMemory line answer sink sink_after old new has same = (same, inr (answer, has))
+lacks_reply Fault line answer sink sink_after old new has unfailed part = record {
+  reply = answer;
+  answers = has;
+  unfailed = unfailed;
+  part = part.0;
+  rises = part.1;
+}
+lacks_reply (Unkept why) line answer sink sink_after old new has unfailed same =
+    (same.1, inl (same.0, inr (record { reply = answer; answers = has; unfailed = unfailed })))
+
+-- it has no answer
+pub stopped : (line : List ℕ) (what : Line) (why : NotKept) (sink : SinkState) (old new : Server)
+    → Means line what → IsStopped what why old new
+    → StopsBeforeReply why line sink sink old new
+stopped line Blank why sink old new means h = (refl, inl (h.0, inl h.1))
+stopped line (Refuses other) why sink old new means h = (refl, inl (h.0, inl h.1))
+stopped line (Asks command) why sink old new means (inl h) = (refl, inl (h.0, inl h.1))
+stopped line (Asks command) why sink old new means (inr stops) =
+    (refl, inr (record { command = command; asks = means; stops = stops }))
 
 -- ---- the lines of an input
 
@@ -327,19 +356,30 @@ last_more lines text none =
 all_last : (lines : List (List ℕ)) → NoneQuits lines → QuitsLast lines
 all_last lines none = All-take NoQuit (length lines - 1) lines none
 
--- what was heard, answered and written so far
-pub record Progress (old now : World) (reader : ReaderState) : Type 0 where
+-- what was heard, answered, kept and written so far
+pub record Progress (old now : Desk) (reader : ReaderState) : Type 0 where
   pub lines : List (List ℕ)
   pub heard : Heard old.source.left now.source.left reader lines
   pub goes_on : NoneQuits lines
   pub replies : List Answer
-  pub session : Session (state_of old) (requests_among lines) replies (state_of now)
+  pub session : Session (state_of old.server) (requests_among lines) replies (state_of now.server)
   pub written : Appends old.sink.held now.sink.held (text_of replies)
   pub reads : now.source.faults ≡ old.source.faults
   pub puts : now.sink.faults ≡ old.sink.faults
+  pub unfailed : IsUnfailed old.server.journal now.server.journal
 
-pub progress_start : (old : World) → Progress old old fresh_reader
-progress_start old = record { lines = []; heard = heard_none old.source.left; goes_on = λ k d within. absurd (omega arith); replies = []; session = refl; written = Appends-nil old.sink.held; reads = refl; puts = refl }
+pub progress_start : (old : Desk) → old.server.journal.failure ≡ None → Progress old old fresh_reader
+progress_start old unfailed = record {
+  lines = [];
+  heard = heard_none old.source.left;
+  goes_on = λ k d within. absurd (omega arith);
+  replies = [];
+  session = refl;
+  written = Appends-nil old.sink.held;
+  reads = refl;
+  puts = refl;
+  unfailed = record { failure = unfailed; faults = refl };
+}
 
 record Replied (lines : List (List ℕ)) (old : State) (sink : SinkState) (new : State) (sink_after : SinkState) : Type 0 where
   pub replies : List Answer
@@ -369,51 +409,156 @@ replied_line text (Some reply) lines replies old now after sink sink_now sink_af
   written = subst (Appends sink.held sink_after.held) (sym (text_more replies reply)) (Appends-trans sink.held sink_now.held sink_after.held (text_of replies) (answer_line reply) written told);
 }
 
-pub progress_line : (old now after : World) (reader reader_after : ReaderState) (buffer : LineBuffer) → Progress old now reader → (t : TakesLine now.source after.source reader reader_after buffer)
-    → ServesLine t.text now.sink after.sink (state_of now) (state_of after) → TellsQuit false t.text → Progress old after reader_after
+-- the journal hasn't failed in the next line either
+pub unfailed_further : (first second third : JournalState) → IsUnfailed first second
+    → IsUnfailed second third → IsUnfailed first third
+unfailed_further first second third h k =
+    record { failure = k.failure; faults = k.faults ∙ h.faults }
+
+pub progress_line : (old now after : Desk) (reader reader_after : ReaderState) (buffer : LineBuffer)
+    → Progress old now reader → (t : TakesLine now.source after.source reader reader_after buffer)
+    → ServesLine t.text now.sink after.sink now.server after.server → TellsQuit false t.text
+    → Progress old after reader_after
 progress_line old now after reader reader_after buffer p t serves goes =
-    let replied = replied_line t.text serves.reply p.lines p.replies (state_of old) (state_of now) (state_of after) old.sink now.sink after.sink p.session p.written serves.answers serves.written in
+    let replied = replied_line t.text serves.reply p.lines p.replies (state_of old.server)
+    (state_of now.server) (state_of after.server) old.sink now.sink after.sink p.session p.written
+    serves.answers serves.written in
     record {
       lines = p.lines ++ t.text ∷ [];
-      heard = heard_line old.source.left now.source after.source reader reader_after buffer p.lines p.heard t;
+      heard = heard_line old.source.left now.source after.source reader reader_after buffer p.lines
+          p.heard t;
       goes_on = none_more p.lines t.text p.goes_on goes;
       replies = replied.replies;
       session = replied.session;
       written = replied.written;
       reads = t.steady ∙ p.reads;
       puts = serves.steady ∙ p.puts;
+      unfailed = unfailed_further old.server.journal now.server.journal after.server.journal
+          p.unfailed serves.unfailed;
     }
+
+-- ---- what a line that is cut short leaves
+
+-- nothing but records is new
+record AddsRecords (mid new : State) : Type 0 where
+  pub fleet : new.fleet ≡ mid.fleet
+  pub store : new.store ≡ mid.store
+  pub records : GoOn mid.records new.records
+
+adds_none : (mid new : State) → new ≡ mid → AddsRecords mid new
+adds_none mid new same = record {
+  fleet = ap (λ (s : State). s.fleet) same;
+  store = ap (λ (s : State). s.store) same;
+  records = subst (λ (s : State). GoOn mid.records s.records) (sym same) (take-length mid.records);
+}
+
+adds_front : (line : List ℕ) (left : List Record) (mid new : State) → LineIsCut line left mid new
+    → AddsRecords mid new
+adds_front line left mid new h = record {
+  fleet = ap (λ (s : State). s.fleet) h.cut.kept;
+  store = ap (λ (s : State). s.store) h.cut.kept;
+  records = subst (λ (s : State). GoOn mid.records s.records) (sym h.cut.kept)
+      (added_go_on mid.records h.cut.front);
+}
+
+adds_next : (more : List (List ℕ)) (left : List Record) (mid new : State)
+    → CutsNext more left mid new → AddsRecords mid new
+adds_next more left mid new h = adds_front h.0 left mid new h.3
+
+cut_adds : (status : Status) (more : List (List ℕ)) (mid : State) (new : Server)
+    → CutFor status more mid new → AddsRecords mid (state_of new)
+cut_adds status.JournalFault more mid new h = adds_next more (h.1 ∷ h.2) mid (state_of new) h.3
+cut_adds status.JournalFull more mid new h = adds_next more (h.0 ∷ h.1) mid (state_of new) h.2
+cut_adds status.NoMemory more mid new h = elim h.0 [
+  | inl same ↦ adds_none mid (state_of new) same
+  | inr cut ↦ adds_next more cut.0 mid (state_of new) cut.1
+]
+cut_adds _ more mid new h = adds_none mid (state_of new) h.0
 
 -- ---- where it ends
 
+-- what is said of an end beside what follows from the session
+record Facts (old new : Desk) (status : Status) : Type 0 where
+  pub taken : List ℕ
+  pub takes : Consumes old.source.left new.source.left taken
+  pub count : TakesFor status taken
+  pub lines : List (List ℕ)
+  pub more : List (List ℕ)
+  pub all_lines : lines_of (taken ++ rest_of old.source.left new.source.left) ≡ lines ++ more
+  pub replies : List Answer
+  pub mid : State
+  pub session : Session (state_of old.server) (requests_among lines) replies mid
+  pub cut : CutFor status more mid new.server
+  pub written : List ℕ
+  pub unwritten : List ℕ
+  pub appends : Appends old.sink.held new.sink.held written
+  pub all_bytes : written ++ unwritten ≡ text_of replies
+  pub quits : QuitsFor status lines unwritten
+  pub comes_to : ComesTo status new.source.left taken lines more unwritten
+  pub leaves : LeavesFor status replies unwritten
+
+serves_by : (old new : Desk) (status : Status) → Facts old new status → Serves old new status
+serves_by old new status f =
+    let start = state_of old.server in
+    let lines = requests_among f.lines in
+    let adds = cut_adds status f.more f.mid new.server f.cut in
+    record {
+      taken = f.taken;
+      rest = rest_of old.source.left new.source.left;
+      takes = f.takes;
+      whole = rest_whole old.source.left new.source.left f.taken f.takes;
+      count = f.count;
+      lines = f.lines;
+      more = f.more;
+      all_lines = f.all_lines;
+      replies = f.replies;
+      mid = f.mid;
+      session = f.session;
+      cut = f.cut;
+      complete = λ tells. all_still lines f.replies f.mid (state_of new.server) adds.store
+          (session_complete start f.mid lines f.replies f.session tells);
+      only_writes = λ name. ap (log_named name) adds.fleet
+          ∙ session_log start f.mid lines f.replies f.session name;
+      goes_on = subst (FleetGoesOn old.server.fleet) (sym adds.fleet)
+          (session_goes_on start f.mid lines f.replies f.session);
+      all_in = λ are. subst AllAreIn (sym adds.fleet)
+          (session_in start f.mid lines f.replies f.session are);
+      kept = records_go_further old.server.journal.records f.mid.records
+          new.server.journal.records
+          (session_keeps_records start f.mid lines f.replies f.session) adds.records;
+      no_volume = λ sound. no_volume start f.mid lines f.replies f.session sound;
+      written = f.written;
+      unwritten = f.unwritten;
+      appends = f.appends;
+      all_bytes = f.all_bytes;
+      quits = f.quits;
+      comes_to = f.comes_to;
+      leaves = f.leaves;
+    }
+
 -- a run came to its end
-pub record Ended (old new : World) (status : Result (Unit {0}) Stop) : Type 0 where
+pub record Ended (old new : Desk) (status : Result (Unit {0}) Stop) : Type 0 where
   pub serves : Serves old new (status_of status)
   pub ends : EndsFor old new (status_of status)
 
--- the world with its source after more was read
-abbrev pub read_on : World → SourceState → World
+-- the desk with its source after more was read
+abbrev pub read_on : Desk → SourceState → Desk
 read_on now source = record now { source = source }
 
 -- no reader could be made
-pub ended_at_once : (old : World) → Ended old old (Err NoMemory)
-ended_at_once old = record {
-  serves = record {
+pub ended_at_once : (old : Desk) → old.server.journal.failure ≡ None → Ended old old (Err NoMemory)
+ended_at_once old unfailed = record {
+  serves = serves_by old old status.NoMemory (record {
     taken = [];
-    rest = rest_of old.source.left old.source.left;
     takes = Consumes-nil old.source.left;
-    whole = rest_whole old.source.left old.source.left [] (Consumes-nil old.source.left);
     count = omega arith;
     lines = [];
     more = lines_of (rest_of old.source.left old.source.left);
     all_lines = refl;
     replies = [];
+    mid = state_of old.server;
     session = refl;
-    complete = λ tells. tt;
-    only_writes = λ name. refl;
-    goes_on = goes_on_itself old.fleet;
-    all_in = λ are. are;
-    no_volume = λ sound. λ k d within. absurd (omega arith);
+    cut = (inl refl, unfailed);
     written = [];
     unwritten = [];
     appends = Appends-nil old.sink.held;
@@ -421,35 +566,38 @@ ended_at_once old = record {
     comes_to = inl refl;
     quits = inl (λ k d within. absurd (omega arith));
     leaves = inl refl;
-  };
-  ends = record { serving = tt; reads = refl; puts = refl };
+  });
+  ends = record { serving = tt; reads = refl; puts = refl; keeps = refl };
 }
 
 -- the input was served to its end
-pub ended_whole_input : (old now : World) (source : SourceState) (reader reader_after : ReaderState) → Progress old now reader → TakesEnd now.source source reader reader_after
+pub ended_whole_input : (old now : Desk) (source : SourceState) (reader reader_after : ReaderState)
+    → Progress old now reader → TakesEnd now.source source reader reader_after
     → Ended old (read_on now source) (Ok tt)
 ended_whole_input old now source reader reader_after p t =
     let taken = p.heard.consumed ++ t.given in
     let end = (t.idle t.ended).1 in
-    let takes = Consumes-trans old.source.left now.source.left source.left p.heard.consumed t.given p.heard.consumes t.takes.whole in
     let none = rest_at_end old.source.left source.left end in
     record {
-      serves = record {
+      serves = serves_by old (read_on now source) status.Ok (record {
         taken = taken;
-        rest = rest_of old.source.left source.left;
-        takes = takes;
-        whole = rest_whole old.source.left source.left taken takes;
-        count = omega (arith, length-append p.heard.consumed t.given, p.heard.count, t.takes.count, t.fits);
+        takes = Consumes-trans old.source.left now.source.left source.left p.heard.consumed t.given
+            p.heard.consumes t.takes.whole;
+        count = omega (
+          arith,
+          length-append p.heard.consumed t.given,
+          p.heard.count,
+          t.takes.count,
+          t.fits,
+        );
         lines = p.lines;
         more = [];
-        all_lines = ap (λ l. lines_of (taken ++ l)) none ∙ ap lines_of (append-nil taken) ∙ p.heard.split t.given t.takes.none ∙ ap (λ l. p.lines ++ lines_of l) t.nothing;
+        all_lines = ap (λ l. lines_of (taken ++ l)) none ∙ ap lines_of (append-nil taken)
+            ∙ p.heard.split t.given t.takes.none ∙ ap (λ l. p.lines ++ lines_of l) t.nothing;
         replies = p.replies;
+        mid = state_of now.server;
         session = p.session;
-        complete = session_complete (state_of old) (state_of now) (requests_among p.lines) p.replies p.session;
-        only_writes = session_log (state_of old) (state_of now) (requests_among p.lines) p.replies p.session;
-        goes_on = session_goes_on (state_of old) (state_of now) (requests_among p.lines) p.replies p.session;
-        all_in = session_in (state_of old) (state_of now) (requests_among p.lines) p.replies p.session;
-        no_volume = λ sound. no_volume (state_of old) (state_of now) (requests_among p.lines) p.replies p.session sound;
+        cut = (refl, p.unfailed.failure);
         written = text_of p.replies;
         unwritten = [];
         appends = p.written;
@@ -457,8 +605,13 @@ ended_whole_input old now source reader reader_after p t =
         comes_to = inl (refl, end);
         quits = all_last p.lines p.goes_on;
         leaves = refl;
+      });
+      ends = record {
+        serving = tt;
+        reads = t.steady ∙ p.reads;
+        puts = p.puts;
+        keeps = p.unfailed.faults;
       };
-      ends = record { serving = tt; reads = t.steady ∙ p.reads; puts = p.puts };
     }
 
 all_heard : (left left_now : Option (List ℕ)) (reader : ReaderState) (lines : List (List ℕ)) → (h : Heard left left_now reader lines)
@@ -466,29 +619,29 @@ all_heard : (left left_now : Option (List ℕ)) (reader : ReaderState) (lines : 
 all_heard left left_now reader lines h = h.split (rest_of left left_now) (λ e. rest_at_end left left_now (h.idle e).1)
 
 -- a line asked to quit
-pub ended_by_quit : (old now after : World) (reader reader_after : ReaderState) (buffer : LineBuffer) → Progress old now reader → (t : TakesLine now.source after.source reader reader_after buffer)
-    → ServesLine t.text now.sink after.sink (state_of now) (state_of after) → TellsQuit true t.text → Ended old after (Ok tt)
+pub ended_by_quit : (old now after : Desk) (reader reader_after : ReaderState) (buffer : LineBuffer)
+    → Progress old now reader → (t : TakesLine now.source after.source reader reader_after buffer)
+    → ServesLine t.text now.sink after.sink now.server after.server → TellsQuit true t.text
+    → Ended old after (Ok tt)
 ended_by_quit old now after reader reader_after buffer p t serves asks =
-    let heard = heard_line old.source.left now.source after.source reader reader_after buffer p.lines p.heard t in
-    let replied = replied_line t.text serves.reply p.lines p.replies (state_of old) (state_of now) (state_of after) old.sink now.sink after.sink p.session p.written serves.answers serves.written in
+    let heard = heard_line old.source.left now.source after.source reader reader_after buffer
+    p.lines p.heard t in
+    let replied = replied_line t.text serves.reply p.lines p.replies (state_of old.server)
+    (state_of now.server) (state_of after.server) old.sink now.sink after.sink p.session p.written
+    serves.answers serves.written in
     let lines = p.lines ++ t.text ∷ [] in
     record {
-      serves = record {
+      serves = serves_by old after status.Ok (record {
         taken = heard.consumed;
-        rest = rest_of old.source.left after.source.left;
         takes = heard.consumes;
-        whole = rest_whole old.source.left after.source.left heard.consumed heard.consumes;
         count = omega (arith, heard.count, heard.fits);
         lines = lines;
         more = lines_of (reader_after.pending ++ rest_of old.source.left after.source.left);
         all_lines = all_heard old.source.left after.source.left reader_after lines heard;
         replies = replied.replies;
+        mid = state_of after.server;
         session = replied.session;
-        complete = session_complete (state_of old) (state_of after) (requests_among lines) replied.replies replied.session;
-        only_writes = session_log (state_of old) (state_of after) (requests_among lines) replied.replies replied.session;
-        goes_on = session_goes_on (state_of old) (state_of after) (requests_among lines) replied.replies replied.session;
-        all_in = session_in (state_of old) (state_of after) (requests_among lines) replied.replies replied.session;
-        no_volume = λ sound. no_volume (state_of old) (state_of after) (requests_among lines) replied.replies replied.session sound;
+        cut = (refl, serves.unfailed.failure);
         written = text_of replied.replies;
         unwritten = [];
         appends = replied.written;
@@ -496,8 +649,13 @@ ended_by_quit old now after reader reader_after buffer p t serves asks =
         comes_to = inr (p.lines, t.text, refl, asks);
         quits = last_more p.lines t.text p.goes_on;
         leaves = refl;
+      });
+      ends = record {
+        serving = tt;
+        reads = t.steady ∙ p.reads;
+        puts = serves.steady ∙ p.puts;
+        keeps = serves.unfailed.faults ∙ p.unfailed.faults;
       };
-      ends = record { serving = tt; reads = t.steady ∙ p.reads; puts = serves.steady ∙ p.puts };
     }
 
 lines_behind : (left left_now : Option (List ℕ)) (reader : ReaderState) (lines : List (List ℕ)) (given rest : List ℕ) → (h : Heard left left_now reader lines) → reader.ended ≡ false
@@ -515,100 +673,127 @@ all_ended left left_now reader lines given h running one =
     (omega (arith, lfs_append h.consumed given, h.ends running, lfs_append reader.pending given, none))
 
 -- no line came
-pub ended_without_line : (old now : World) (source : SourceState) (reader reader_after : ReaderState) (why : NoLine) → Progress old now reader → HasNoLine why now.source source reader reader_after
+pub ended_without_line : (old now : Desk) (source : SourceState) (reader reader_after : ReaderState)
+    (why : NoLine) → Progress old now reader → HasNoLine why now.source source reader reader_after
     → Ended old (read_on now source) (Err (stop_without_line why))
 ended_without_line old now source reader reader_after LineFault p f =
-    let taken = p.heard.consumed ++ f.given in
     let rest = rest_of old.source.left source.left in
-    let takes = Consumes-trans old.source.left now.source.left source.left p.heard.consumed f.given p.heard.consumes f.takes.whole in
     record {
-      serves = record {
-        taken = taken;
-        rest = rest;
-        takes = takes;
-        whole = rest_whole old.source.left source.left taken takes;
-        count = omega (arith, length-append p.heard.consumed f.given, p.heard.count, f.takes.count, f.fits);
+      serves = serves_by old (read_on now source) status.ReadFault (record {
+        taken = p.heard.consumed ++ f.given;
+        takes = Consumes-trans old.source.left now.source.left source.left p.heard.consumed f.given
+            p.heard.consumes f.takes.whole;
+        count = omega (
+          arith,
+          length-append p.heard.consumed f.given,
+          p.heard.count,
+          f.takes.count,
+          f.fits,
+        );
         lines = p.lines;
         more = lines_of (reader.pending ++ (f.given ++ rest));
-        all_lines = lines_behind old.source.left now.source.left reader p.lines f.given rest p.heard f.running;
+        all_lines = lines_behind old.source.left now.source.left reader p.lines f.given rest p.heard
+            f.running;
         replies = p.replies;
+        mid = state_of now.server;
         session = p.session;
-        complete = session_complete (state_of old) (state_of now) (requests_among p.lines) p.replies p.session;
-        only_writes = session_log (state_of old) (state_of now) (requests_among p.lines) p.replies p.session;
-        goes_on = session_goes_on (state_of old) (state_of now) (requests_among p.lines) p.replies p.session;
-        all_in = session_in (state_of old) (state_of now) (requests_among p.lines) p.replies p.session;
-        no_volume = λ sound. no_volume (state_of old) (state_of now) (requests_among p.lines) p.replies p.session sound;
+        cut = (refl, p.unfailed.failure);
         written = text_of p.replies;
         unwritten = [];
         appends = p.written;
         all_bytes = append-nil (text_of p.replies);
-        comes_to = all_ended old.source.left now.source.left reader p.lines f.given p.heard f.running f.one;
+        comes_to = all_ended old.source.left now.source.left reader p.lines f.given p.heard f.running
+            f.one;
         quits = p.goes_on;
         leaves = refl;
+      });
+      ends = record {
+        serving = tt;
+        reads = subst (λ (n : ℕ). HasRisen n source.faults) p.reads f.rises;
+        puts = p.puts;
+        keeps = p.unfailed.faults;
       };
-      ends = record { serving = tt; reads = subst (λ (n : ℕ). HasRisen n source.faults) p.reads f.rises; puts = p.puts };
     }
 ended_without_line old now source reader reader_after Limit p f =
     let read = p.heard.consumed ++ f.given in
     let given = f.given ++ f.past ∷ [] in
     let taken = p.heard.consumed ++ given in
     let rest = rest_of old.source.left source.left in
-    let takes = Consumes-trans old.source.left now.source.left source.left p.heard.consumed given p.heard.consumes f.takes.whole in
-    let long : length taken ≡ INPUT_LIMIT + 1 = omega (arith, length-append p.heard.consumed given, p.heard.count, f.takes.count, f.over) in
+    let long : length taken ≡ INPUT_LIMIT + 1 = omega (
+      arith,
+      length-append p.heard.consumed given,
+      p.heard.count,
+      f.takes.count,
+      f.over,
+    ) in
     let front : take INPUT_LIMIT taken ≡ read =
     ap (take INPUT_LIMIT) (sym (append_assoc p.heard.consumed f.given (f.past ∷ [])))
-    ∙ take_at read (f.past ∷ []) INPUT_LIMIT (omega (arith, long, length-append p.heard.consumed given, length-append f.given (f.past ∷ []), length-append p.heard.consumed f.given)) in
+    ∙ take_at read (f.past ∷ []) INPUT_LIMIT (omega (
+      arith,
+      long,
+      length-append p.heard.consumed given,
+      length-append f.given (f.past ∷ []),
+      length-append p.heard.consumed f.given,
+    )) in
     record {
-      serves = record {
+      serves = serves_by old (read_on now source) status.InputLimit (record {
         taken = taken;
-        rest = rest;
-        takes = takes;
-        whole = rest_whole old.source.left source.left taken takes;
+        takes = Consumes-trans old.source.left now.source.left source.left p.heard.consumed given
+            p.heard.consumes f.takes.whole;
         count = long;
         lines = p.lines;
         more = lines_of (reader.pending ++ (given ++ rest));
-        all_lines = lines_behind old.source.left now.source.left reader p.lines given rest p.heard f.running;
+        all_lines = lines_behind old.source.left now.source.left reader p.lines given rest p.heard
+            f.running;
         replies = p.replies;
+        mid = state_of now.server;
         session = p.session;
-        complete = session_complete (state_of old) (state_of now) (requests_among p.lines) p.replies p.session;
-        only_writes = session_log (state_of old) (state_of now) (requests_among p.lines) p.replies p.session;
-        goes_on = session_goes_on (state_of old) (state_of now) (requests_among p.lines) p.replies p.session;
-        all_in = session_in (state_of old) (state_of now) (requests_among p.lines) p.replies p.session;
-        no_volume = λ sound. no_volume (state_of old) (state_of now) (requests_among p.lines) p.replies p.session sound;
+        cut = (refl, p.unfailed.failure);
         written = text_of p.replies;
         unwritten = [];
         appends = p.written;
         all_bytes = append-nil (text_of p.replies);
-        comes_to = all_ended old.source.left now.source.left reader p.lines f.given p.heard f.running f.one ∙ ap ended_lines (sym front);
+        comes_to = all_ended old.source.left now.source.left reader p.lines f.given p.heard f.running
+            f.one ∙ ap ended_lines (sym front);
         quits = p.goes_on;
         leaves = refl;
+      });
+      ends = record {
+        serving = tt;
+        reads = f.steady ∙ p.reads;
+        puts = p.puts;
+        keeps = p.unfailed.faults;
       };
-      ends = record { serving = tt; reads = f.steady ∙ p.reads; puts = p.puts };
     }
 ended_without_line old now source reader reader_after NoLineMemory p f =
-    let taken = p.heard.consumed ++ f.given in
     let rest = rest_of old.source.left source.left in
-    let takes = Consumes-trans old.source.left now.source.left source.left p.heard.consumed f.given p.heard.consumes f.takes.whole in
     let behind = reader.pending ++ (f.given ++ rest) in
-    let some : 0 < length behind =
-    omega (arith, ap (length {A = ℕ}) (append_assoc reader.pending f.given rest), length-append (reader.pending ++ f.given) rest, f.some) in
+    let some : 0 < length behind = omega (
+      arith,
+      ap (length {A = ℕ}) (append_assoc reader.pending f.given rest),
+      length-append (reader.pending ++ f.given) rest,
+      f.some,
+    ) in
     record {
-      serves = record {
-        taken = taken;
-        rest = rest;
-        takes = takes;
-        whole = rest_whole old.source.left source.left taken takes;
-        count = omega (arith, length-append p.heard.consumed f.given, p.heard.count, f.takes.count, f.fits);
+      serves = serves_by old (read_on now source) status.NoMemory (record {
+        taken = p.heard.consumed ++ f.given;
+        takes = Consumes-trans old.source.left now.source.left source.left p.heard.consumed f.given
+            p.heard.consumes f.takes.whole;
+        count = omega (
+          arith,
+          length-append p.heard.consumed f.given,
+          p.heard.count,
+          f.takes.count,
+          f.fits,
+        );
         lines = p.lines;
         more = lines_of behind;
-        all_lines = lines_behind old.source.left now.source.left reader p.lines f.given rest p.heard f.running;
+        all_lines = lines_behind old.source.left now.source.left reader p.lines f.given rest p.heard
+            f.running;
         replies = p.replies;
+        mid = state_of now.server;
         session = p.session;
-        complete = session_complete (state_of old) (state_of now) (requests_among p.lines) p.replies p.session;
-        only_writes = session_log (state_of old) (state_of now) (requests_among p.lines) p.replies p.session;
-        goes_on = session_goes_on (state_of old) (state_of now) (requests_among p.lines) p.replies p.session;
-        all_in = session_in (state_of old) (state_of now) (requests_among p.lines) p.replies p.session;
-        no_volume = λ sound. no_volume (state_of old) (state_of now) (requests_among p.lines) p.replies p.session sound;
+        cut = (inl refl, p.unfailed.failure);
         written = text_of p.replies;
         unwritten = [];
         appends = p.written;
@@ -616,8 +801,13 @@ ended_without_line old now source reader reader_after NoLineMemory p f =
         comes_to = inr (inl (some_line behind some));
         quits = inl p.goes_on;
         leaves = inl refl;
+      });
+      ends = record {
+        serving = tt;
+        reads = f.steady ∙ p.reads;
+        puts = p.puts;
+        keeps = p.unfailed.faults;
       };
-      ends = record { serving = tt; reads = f.steady ∙ p.reads; puts = p.puts };
     }
 
 -- ---- a line that has no reply, or not a whole one
@@ -631,110 +821,255 @@ cut_bytes replies reply place =
     append_assoc (text_of replies) (take place (answer_line reply)) (drop place (answer_line reply))
     ∙ ap (λ l. text_of replies ++ l) (take-append-drop place (answer_line reply)) ∙ sym (text_more replies reply)
 
-ended_at_fault : (old now after : World) (reader reader_after : ReaderState) (buffer : LineBuffer) → Progress old now reader → (t : TakesLine now.source after.source reader reader_after buffer)
-    → FailsInReply t.text now.sink after.sink (state_of now) (state_of after) → Ended old after (Err WriteFault)
+ended_at_fault : (old now after : Desk) (reader reader_after : ReaderState) (buffer : LineBuffer)
+    → Progress old now reader → (t : TakesLine now.source after.source reader reader_after buffer)
+    → FailsInReply t.text now.sink after.sink now.server after.server
+    → Ended old after (Err WriteFault)
 ended_at_fault old now after reader reader_after buffer p t f =
-    let heard = heard_line old.source.left now.source after.source reader reader_after buffer p.lines p.heard t in
-    let session = session_reply (state_of old) (state_of now) (state_of after) p.lines p.replies t.text f.reply p.session f.answers in
+    let heard = heard_line old.source.left now.source after.source reader reader_after buffer
+    p.lines p.heard t in
     let place = f.part.0 in
     record {
-      serves = record {
+      serves = serves_by old after status.WriteFault (record {
         taken = heard.consumed;
-        rest = rest_of old.source.left after.source.left;
         takes = heard.consumes;
-        whole = rest_whole old.source.left after.source.left heard.consumed heard.consumes;
         count = omega (arith, heard.count, heard.fits);
         lines = p.lines ++ t.text ∷ [];
         more = lines_of (reader_after.pending ++ rest_of old.source.left after.source.left);
-        all_lines = all_heard old.source.left after.source.left reader_after (p.lines ++ t.text ∷ []) heard;
+        all_lines = all_heard old.source.left after.source.left reader_after
+            (p.lines ++ t.text ∷ []) heard;
         replies = p.replies ++ f.reply ∷ [];
-        session = session;
-        complete = session_complete (state_of old) (state_of after) (requests_among (p.lines ++ t.text ∷ [])) (p.replies ++ f.reply ∷ []) session;
-        only_writes = session_log (state_of old) (state_of after) (requests_among (p.lines ++ t.text ∷ [])) (p.replies ++ f.reply ∷ []) session;
-        goes_on = session_goes_on (state_of old) (state_of after) (requests_among (p.lines ++ t.text ∷ [])) (p.replies ++ f.reply ∷ []) session;
-        all_in = session_in (state_of old) (state_of after) (requests_among (p.lines ++ t.text ∷ [])) (p.replies ++ f.reply ∷ []) session;
-        no_volume = λ sound. no_volume (state_of old) (state_of after) (requests_among (p.lines ++ t.text ∷ [])) (p.replies ++ f.reply ∷ []) session sound;
+        mid = state_of after.server;
+        session = session_reply (state_of old.server) (state_of now.server) (state_of after.server)
+            p.lines p.replies t.text f.reply p.session f.answers;
+        cut = (refl, f.unfailed.failure);
         written = text_of p.replies ++ take place (answer_line f.reply);
         unwritten = drop place (answer_line f.reply);
-        appends = Appends-trans old.sink.held now.sink.held after.sink.held (text_of p.replies) (take place (answer_line f.reply)) p.written f.part.2;
+        appends = Appends-trans old.sink.held now.sink.held after.sink.held (text_of p.replies)
+            (take place (answer_line f.reply)) p.written f.part.2;
         all_bytes = cut_bytes p.replies f.reply place;
         comes_to = tt;
         quits = last_more p.lines t.text p.goes_on;
-        leaves = (place, record { before = p.replies; last = f.reply; is_last = refl; within = f.part.1; rest = refl });
+        leaves = (
+          place,
+          record {
+            before = p.replies;
+            last = f.reply;
+            is_last = refl;
+            within = f.part.1;
+            rest = refl;
+          },
+        );
+      });
+      ends = record {
+        serving = tt;
+        reads = t.steady ∙ p.reads;
+        puts = subst (λ (n : ℕ). HasRisen n after.sink.faults) p.puts f.rises;
+        keeps = f.unfailed.faults ∙ p.unfailed.faults;
       };
-      ends = record { serving = tt; reads = t.steady ∙ p.reads; puts = subst (λ (n : ℕ). HasRisen n after.sink.faults) p.puts f.rises };
     }
 
 -- memory ran out, and nothing of the line's reply was written
-ended_before_reply : (old now after : World) (reader reader_after : ReaderState) (buffer : LineBuffer) → Progress old now reader → (t : TakesLine now.source after.source reader reader_after buffer)
-    → after.sink ≡ now.sink → (state_of after ≡ state_of now) ⊎ ((reply : Answer) × HasReply t.text (Some reply) (state_of now) (state_of after)) → Ended old after (Err NoMemory)
-ended_before_reply old now after reader reader_after buffer p t sink (inl stays) =
-    let heard = heard_line old.source.left now.source after.source reader reader_after buffer p.lines p.heard t in
-    let session = subst (Session (state_of old) (requests_among p.lines) p.replies) (sym stays) p.session in
-    let behind = lines_of (reader_after.pending ++ rest_of old.source.left after.source.left) in
+ended_before_reply : (old now after : Desk) (reader reader_after : ReaderState) (buffer : LineBuffer)
+    → Progress old now reader → (t : TakesLine now.source after.source reader reader_after buffer)
+    → after.sink ≡ now.sink → LacksMemory t.text now.server after.server
+    → Ended old after (Err NoMemory)
+ended_before_reply old now after reader reader_after buffer p t sink r =
+    let heard = heard_line old.source.left now.source after.source reader reader_after buffer
+    p.lines p.heard t in
     record {
-      serves = record {
+      serves = serves_by old after status.NoMemory (record {
         taken = heard.consumed;
-        rest = rest_of old.source.left after.source.left;
         takes = heard.consumes;
-        whole = rest_whole old.source.left after.source.left heard.consumed heard.consumes;
-        count = omega (arith, heard.count, heard.fits);
-        lines = p.lines;
-        more = t.text ∷ behind;
-        all_lines = all_heard old.source.left after.source.left reader_after (p.lines ++ t.text ∷ []) heard ∙ append_assoc p.lines (t.text ∷ []) behind;
-        replies = p.replies;
-        session = session;
-        complete = session_complete (state_of old) (state_of after) (requests_among p.lines) p.replies session;
-        only_writes = session_log (state_of old) (state_of after) (requests_among p.lines) p.replies session;
-        goes_on = session_goes_on (state_of old) (state_of after) (requests_among p.lines) p.replies session;
-        all_in = session_in (state_of old) (state_of after) (requests_among p.lines) p.replies session;
-        no_volume = λ sound. no_volume (state_of old) (state_of after) (requests_among p.lines) p.replies session sound;
-        written = text_of p.replies;
-        unwritten = [];
-        appends = subst (λ (s : SinkState). Appends old.sink.held s.held (text_of p.replies)) (sym sink) p.written;
-        all_bytes = append-nil (text_of p.replies);
-        comes_to = inr (inl (omega arith));
-        quits = inl p.goes_on;
-        leaves = inl refl;
-      };
-      ends = record { serving = tt; reads = t.steady ∙ p.reads; puts = ap (λ (s : SinkState). s.faults) sink ∙ p.puts };
-    }
-ended_before_reply old now after reader reader_after buffer p t sink (inr r) =
-    let heard = heard_line old.source.left now.source after.source reader reader_after buffer p.lines p.heard t in
-    let reply = r.0 in
-    let session = session_reply (state_of old) (state_of now) (state_of after) p.lines p.replies t.text reply p.session r.1 in
-    record {
-      serves = record {
-        taken = heard.consumed;
-        rest = rest_of old.source.left after.source.left;
-        takes = heard.consumes;
-        whole = rest_whole old.source.left after.source.left heard.consumed heard.consumes;
         count = omega (arith, heard.count, heard.fits);
         lines = p.lines ++ t.text ∷ [];
         more = lines_of (reader_after.pending ++ rest_of old.source.left after.source.left);
-        all_lines = all_heard old.source.left after.source.left reader_after (p.lines ++ t.text ∷ []) heard;
-        replies = p.replies ++ reply ∷ [];
-        session = session;
-        complete = session_complete (state_of old) (state_of after) (requests_among (p.lines ++ t.text ∷ [])) (p.replies ++ reply ∷ []) session;
-        only_writes = session_log (state_of old) (state_of after) (requests_among (p.lines ++ t.text ∷ [])) (p.replies ++ reply ∷ []) session;
-        goes_on = session_goes_on (state_of old) (state_of after) (requests_among (p.lines ++ t.text ∷ [])) (p.replies ++ reply ∷ []) session;
-        all_in = session_in (state_of old) (state_of after) (requests_among (p.lines ++ t.text ∷ [])) (p.replies ++ reply ∷ []) session;
-        no_volume = λ sound. no_volume (state_of old) (state_of after) (requests_among (p.lines ++ t.text ∷ [])) (p.replies ++ reply ∷ []) session sound;
+        all_lines = all_heard old.source.left after.source.left reader_after
+            (p.lines ++ t.text ∷ []) heard;
+        replies = p.replies ++ r.reply ∷ [];
+        mid = state_of after.server;
+        session = session_reply (state_of old.server) (state_of now.server) (state_of after.server)
+            p.lines p.replies t.text r.reply p.session r.answers;
+        cut = (inl refl, r.unfailed.failure);
         written = text_of p.replies;
-        unwritten = answer_line reply;
-        appends = subst (λ (s : SinkState). Appends old.sink.held s.held (text_of p.replies)) (sym sink) p.written;
-        all_bytes = sym (text_more p.replies reply);
-        comes_to = inr (inr (reply_some reply));
-        quits = inr (last_more p.lines t.text p.goes_on, reply_some reply);
-        leaves = inr (record { before = p.replies; last = reply; is_last = refl; within = omega arith; rest = refl });
+        unwritten = answer_line r.reply;
+        appends = subst (λ (s : SinkState). Appends old.sink.held s.held (text_of p.replies))
+            (sym sink) p.written;
+        all_bytes = sym (text_more p.replies r.reply);
+        comes_to = inr (inr (reply_some r.reply));
+        quits = inr (last_more p.lines t.text p.goes_on, reply_some r.reply);
+        leaves = inr (record {
+          before = p.replies;
+          last = r.reply;
+          is_last = refl;
+          within = omega arith;
+          rest = refl;
+        });
+      });
+      ends = record {
+        serving = tt;
+        reads = t.steady ∙ p.reads;
+        puts = ap (λ (s : SinkState). s.faults) sink ∙ p.puts;
+        keeps = r.unfailed.faults ∙ p.unfailed.faults;
       };
-      ends = record { serving = tt; reads = t.steady ∙ p.reads; puts = ap (λ (s : SinkState). s.faults) sink ∙ p.puts };
     }
 
-pub ended_without_reply : (old now after : World) (reader reader_after : ReaderState) (buffer : LineBuffer) (why : NoReply) → Progress old now reader
-    → (t : TakesLine now.source after.source reader reader_after buffer) → LacksReply why t.text now.sink after.sink (state_of now) (state_of after) → Ended old after (Err (stop_without_reply why))
-ended_without_reply old now after reader reader_after buffer Fault p t f = ended_at_fault old now after reader reader_after buffer p t f
-ended_without_reply old now after reader reader_after buffer NoReplyMemory p t f = ended_before_reply old now after reader reader_after buffer p t f.0 f.1
+-- ---- a line that has no answer
+
+-- the statuses of such a line
+abbrev unkept : NotKept → Status
+unkept why = status_of (Err (stop_unkept why))
+
+for_each : (why : NotKept) (P : Status → Type 0) → P status.JournalFault → P status.JournalFull
+    → P status.NoMemory → P (unkept why)
+for_each kept.Fault P fault full memory = fault
+for_each kept.Full P fault full memory = full
+for_each kept.NoMemory P fault full memory = memory
+
+-- its line is the next of those that weren't served, and what came of its records is known
+record Unanswered (why : NotKept) (old now after : Desk) (text : List ℕ) (behind : List (List ℕ))
+    : Type 0 where
+  pub cut : CutFor (unkept why) (text ∷ behind) (state_of now.server) after.server
+  pub keeps : KeepsFor (unkept why) old.server.journal.disk.faults
+      after.server.journal.disk.faults
+
+ended_unanswered : (why : NotKept) (old now after : Desk) (reader reader_after : ReaderState)
+    (buffer : LineBuffer) → Progress old now reader
+    → (t : TakesLine now.source after.source reader reader_after buffer) → after.sink ≡ now.sink
+    → Unanswered why old now after t.text
+    (lines_of (reader_after.pending ++ rest_of old.source.left after.source.left))
+    → Ended old after (Err (stop_unkept why))
+ended_unanswered why old now after reader reader_after buffer p t sink u =
+    let heard = heard_line old.source.left now.source after.source reader reader_after buffer
+    p.lines p.heard t in
+    let behind = lines_of (reader_after.pending ++ rest_of old.source.left after.source.left) in
+    let count : length heard.consumed ≤ INPUT_LIMIT = omega (arith, heard.count, heard.fits) in
+    let some : 0 < length (t.text ∷ behind) = omega arith in
+    let reads = t.steady ∙ p.reads in
+    let puts = ap (λ (s : SinkState). s.faults) sink ∙ p.puts in
+    record {
+      serves = serves_by old after (unkept why) (record {
+        taken = heard.consumed;
+        takes = heard.consumes;
+        count = for_each why (λ s. TakesFor s heard.consumed) count count count;
+        lines = p.lines;
+        more = t.text ∷ behind;
+        all_lines = all_heard old.source.left after.source.left reader_after
+            (p.lines ++ t.text ∷ []) heard ∙ append_assoc p.lines (t.text ∷ []) behind;
+        replies = p.replies;
+        mid = state_of now.server;
+        session = p.session;
+        cut = u.cut;
+        written = text_of p.replies;
+        unwritten = [];
+        appends = subst (λ (s : SinkState). Appends old.sink.held s.held (text_of p.replies))
+            (sym sink) p.written;
+        all_bytes = append-nil (text_of p.replies);
+        comes_to = for_each why (λ s. ComesTo s after.source.left heard.consumed p.lines
+            (t.text ∷ behind) []) some some (inr (inl some));
+        quits = for_each why (λ s. QuitsFor s p.lines []) p.goes_on p.goes_on (inl p.goes_on);
+        leaves = for_each why (λ s. LeavesFor s p.replies []) refl refl (inl refl);
+      });
+      ends = record {
+        serving = for_each why IsServing tt tt tt;
+        reads = for_each why (λ s. ReadsFor s old.source.faults after.source.faults) reads reads
+            reads;
+        puts = for_each why (λ s. PutsFor s old.sink.faults after.sink.faults) puts puts puts;
+        keeps = u.keeps;
+      };
+    }
+
+-- why the first of the records that are left wasn't kept says what came of them
+cut_by : (why : NotKept) (left : List Record) (more : List (List ℕ)) (mid : State)
+    (journal : JournalState) (new : Server) → StopsAt why left journal new.journal
+    → CutsNext more left mid (state_of new) → CutFor (unkept why) more mid new
+cut_by kept.Fault [] more mid journal new stops cuts = absurd stops
+cut_by kept.Fault (r ∷ left) more mid journal new stops cuts =
+    (stops.at, r, left, cuts, stops.failure)
+cut_by kept.Full [] more mid journal new stops cuts = absurd stops
+cut_by kept.Full (r ∷ left) more mid journal new stops cuts =
+    (r, left, cuts, stops.1, (stops.0).failure)
+cut_by kept.NoMemory left more mid journal new stops cuts =
+    (inr (left, cuts), stops.failure)
+
+keeps_by : (why : NotKept) (left : List Record) (start journal after : JournalState)
+    → StopsAt why left journal after → journal.disk.faults ≡ start.disk.faults
+    → KeepsFor (unkept why) start.disk.faults after.disk.faults
+keeps_by kept.Fault [] start journal after stops same = absurd stops
+keeps_by kept.Fault (r ∷ left) start journal after stops same =
+    subst (λ (n : ℕ). HasRisen n after.disk.faults) same stops.rises
+keeps_by kept.Full [] start journal after stops same = absurd stops
+keeps_by kept.Full (r ∷ left) start journal after stops same = (stops.0).faults ∙ same
+keeps_by kept.NoMemory left start journal after stops same = stops.faults ∙ same
+
+-- a line that was stopped as its records were kept is cut short
+pub line_is_cut : (line : List ℕ) (why : NotKept) (old new : Server) → (s : LineStops line why old new)
+    → LineIsCut line s.stops.front.left (state_of old) (state_of new)
+line_is_cut line why old new s =
+    let front = s.stops.front in
+    record {
+      command = s.command;
+      asks = s.asks;
+      cut = record {
+        allowed = s.stops.allowed;
+        front = front.front;
+        split = front.split;
+        kept = ap state_of s.stops.kept
+            ∙ ap (λ (r : List Record). serving old.fleet r old.store) front.records;
+      };
+    }
+
+unanswered_by : (why : NotKept) (old now after : Desk) (reader : ReaderState) (text : List ℕ)
+    (behind : List (List ℕ)) → Progress old now reader
+    → LineStops text why now.server after.server → Unanswered why old now after text behind
+unanswered_by why old now after reader text behind p s =
+    let front = s.stops.front in
+    record {
+      cut = cut_by why front.left (text ∷ behind) (state_of now.server) now.server.journal
+          after.server front.stops
+          (text, behind, refl, line_is_cut text why now.server after.server s);
+      keeps = keeps_by why front.left old.server.journal now.server.journal after.server.journal
+          front.stops p.unfailed.faults;
+    }
+
+unanswered_at_once : (old now after : Desk) (reader : ReaderState) (text : List ℕ)
+    (behind : List (List ℕ)) → Progress old now reader → after.server ≡ now.server
+    → Unanswered kept.NoMemory old now after text behind
+unanswered_at_once old now after reader text behind p same = record {
+  cut = (
+    inl (ap state_of same),
+    ap (λ (s : Server). s.journal.failure) same ∙ p.unfailed.failure,
+  );
+  keeps = ap (λ (s : Server). s.journal.disk.faults) same ∙ p.unfailed.faults;
+}
+
+ended_unkept : (old now after : Desk) (reader reader_after : ReaderState) (buffer : LineBuffer)
+    (why : NotKept) → Progress old now reader
+    → (t : TakesLine now.source after.source reader reader_after buffer)
+    → StopsBeforeReply why t.text now.sink after.sink now.server after.server
+    → Ended old after (Err (stop_unkept why))
+ended_unkept old now after reader reader_after buffer why p t (sink, inr stops) =
+    let behind = lines_of (reader_after.pending ++ rest_of old.source.left after.source.left) in
+    ended_unanswered why old now after reader reader_after buffer p t sink
+    (unanswered_by why old now after reader t.text behind p stops)
+ended_unkept old now after reader reader_after buffer why p t (sink, inl (is, inl same)) =
+    let behind = lines_of (reader_after.pending ++ rest_of old.source.left after.source.left) in
+    subst (λ (w : NotKept). Ended old after (Err (stop_unkept w))) (sym is)
+    (ended_unanswered kept.NoMemory old now after reader reader_after buffer p t sink
+    (unanswered_at_once old now after reader t.text behind p same))
+ended_unkept old now after reader reader_after buffer why p t (sink, inl (is, inr lacks)) =
+    subst (λ (w : NotKept). Ended old after (Err (stop_unkept w))) (sym is)
+    (ended_before_reply old now after reader reader_after buffer p t sink lacks)
+
+pub ended_without_reply : (old now after : Desk) (reader reader_after : ReaderState)
+    (buffer : LineBuffer) (why : NoReply) → Progress old now reader
+    → (t : TakesLine now.source after.source reader reader_after buffer)
+    → LacksReply why t.text now.sink after.sink now.server after.server
+    → Ended old after (Err (stop_without_reply why))
+ended_without_reply old now after reader reader_after buffer Fault p t f =
+    ended_at_fault old now after reader reader_after buffer p t f
+ended_without_reply old now after reader reader_after buffer (Unkept why) p t f =
+    ended_unkept old now after reader reader_after buffer why p t f
 
 pub took_line : (A B : Type 0) (more : Bool) → more ≡ true → MatchBool more A B → A
 took_line A B true e h = h
@@ -752,10 +1087,19 @@ tells_usage (Ok v) old new bytes same whole part steady later rose = inl (subst 
 tells_usage (Err e) old new bytes same whole part steady later rose = inr (subst (AppendsPrefix old.held new.held) same part, (later, rose))
 
 -- where all machines were in before the lines that were served, they are now
-pub all_in_now : (old now : World) (reader : ReaderState) → Progress old now reader → AllAreIn old.fleet → AllAreIn now.fleet
-all_in_now old now reader p are = session_in (state_of old) (state_of now) (requests_among p.lines) p.replies p.session are
+pub all_in_now : (old now : Desk) (reader : ReaderState) → Progress old now reader
+    → AllAreIn old.server.fleet → AllAreIn now.server.fleet
+all_in_now old now reader p are = session_in (state_of old.server) (state_of now.server)
+    (requests_among p.lines) p.replies p.session are
 
 -- ---- a sound store
 
-pub serves_sound : (old new : World) (status : Status) → Serves old new status → IsTrue old.store.sound → (new.store.sound ≡ true) × (new.store.faults ≡ old.store.faults)
-serves_sound old new status s sound = session_sound (state_of old) (state_of new) (requests_among s.lines) s.replies s.session sound
+pub serves_sound : (old new : Desk) (status : Status) → Serves old new status
+    → IsTrue old.server.store.sound
+    → (new.server.store.sound ≡ true) × (new.server.store.faults ≡ old.server.store.faults)
+serves_sound old new status s sound =
+    let adds = cut_adds status s.more s.mid new.server s.cut in
+    let still = session_sound (state_of old.server) s.mid (requests_among s.lines) s.replies
+    s.session sound in
+    (ap (λ (t : StoreState). t.sound) adds.store ∙ still.0,
+    ap (λ (t : StoreState). t.faults) adds.store ∙ still.1)

@@ -14,9 +14,10 @@ use Rattle.restart.specs.Agrees.{Agree}
 use Rattle.restart.specs.Reopening.{Reopens, IsLeft, SaysWhy}
 use Rattle.restart.specs.declared.refusal.ReopenRefused.{ReopenRefused}
 use Rattle.restart.specs.declared.refusal.ReopenRefused.TheVariants.{Journal, Strange, NoMemory}
+use Rattle.fleet.specs.Sound.{IsFleet}
 use Rattle.migrate_server.specs.EndsFor.{EndsFor}
 use Rattle.migrate_server.specs.Serves.{Serves}
-use Rattle.migrate_server.specs.Serve.{AgreesWithAll}
+use Rattle.migrate_server.specs.Serve.{WouldBeTaken, AllWouldBeTaken}
 use Rattle.migrate_server.specs.World.{World, Desk, with_journal}
 use Rattle.migrate_server.specs.declared.status.Status.{Status}
 use Rattle.migrate_server.specs.declared.status.Status.TheVariants.{JournalFault, StrangeJournal, JournalFull, NoMemory as EndsNoMemory}
@@ -52,9 +53,9 @@ pub record Closes (open_desk : Desk) (new : World) (status : Status) : Type 0 wh
   pub ends : EndsFor open_desk (with_journal closed new) status
   pub disk : new.disk ≡ closed.disk
   -- whatever a crash leaves of the disk has the records that were acknowledged, and after a fault
-  -- perhaps the one whose append failed; and the fleet agrees with them
+  -- perhaps the one whose append failed; and these would be taken over the fleet
   pub leaves : LeavesOneOf (outcomes closed) new.disk
-  pub agree : AgreesWithAll new.fleet closed
+  pub taken : AllWouldBeTaken new.fleet closed
 
 -- the controller was opened, with what the records that were found come to, and lines were served
 pub record IsServed (old new : World) (status : Status) : Type 0 where
@@ -68,14 +69,14 @@ Runs old new status = IsUnopened old new status ⊎ IsServed old new status
 
 -- ---- runs one after another
 
--- whatever a crash leaves of the journal's disk has one of some lists of records, with each of
--- which the fleet agrees
+-- whatever a crash leaves of the journal's disk has one of some lists of records, each of which is
+-- taken where a controller is reopened over the fleet
 pub record HoldsTogether (world : World) : Type 0 where
   pub lists : List (List Record)
   pub leaves : LeavesOneOf lists world.disk
-  pub agree : AllByRecursion (λ records. Agree world.fleet records None) lists
+  pub taken : AllByRecursion (WouldBeTaken world.fleet) lists
 
--- a run leaves a world that holds together as it was
+-- a run leaves a world that holds together so
 abbrev pub RunsHoldTogether : Type 0
 RunsHoldTogether = (old new : World) (status : Status) → HoldsTogether old
     → Runs old new status → HoldsTogether new
@@ -89,3 +90,8 @@ CrashesHoldTogether = (old new : World) → HoldsTogether old → IsCrashOf old.
 abbrev pub NoneIsStrange : Type 0
 NoneIsStrange = (old new : World) (number : ℕ) → HoldsTogether old → IsSome old.disk.contents
     → Runs old new (StrangeJournal number) → ⊥
+
+-- and its fleet agrees with each of those lists
+abbrev pub FleetAgrees : Type 0
+FleetAgrees = (world : World) → IsFleet world.fleet → (h : HoldsTogether world)
+    → AllByRecursion (λ records. Agree world.fleet records None) h.lists

@@ -13,7 +13,9 @@ use Rattle.journal.specs.Journal.{JournalState, outcomes}
 use Rattle.record_keeping.specs.Keeping.{IsUnfailed, KeepsFront}
 use Rattle.record_keeping.specs.declared.refusal.NotKept.{NotKept}
 use Rattle.record_keeping.specs.declared.refusal.NotKept.TheVariants.{Fault as DiskFault, Full, NoMemory}
-use Rattle.restart.specs.Agrees.{Agree}
+use Rattle.record_codec.specs.declared.record.Record.{Record}
+use Rattle.ctl_state.specs.Value.{CtlValue}
+use Rattle.restart.specs.Standing.{AreTaken}
 use Rattle.migrate_server.specs.Line.{is_blank, AsksFor, AsksToQuit}
 use Rattle.migrate_server.specs.Session.{State, state_of, HasRefusal, records_of, Step, LineAnswers}
 use Rattle.migrate_server.specs.World.{Server}
@@ -28,11 +30,14 @@ use Rattle.migrate_server.specs.declared.serve.Stop.TheVariants.{ReadFault, Jour
 use Rattle.migrate_server.specs.declared.status.Status.{Status}
 use Rattle.migrate_server.specs.declared.status.Status.TheVariants.{Ok as Served, ReadFault as EndsReadFault, JournalFault as EndsJournalFault, WriteFault as EndsWriteFault, InputLimit as EndsInputLimit, JournalFull as EndsJournalFull, NoMemory as EndsNoMemory}
 
--- the fleet agrees with the journal's records, and after a fault also with those and the one whose
--- append failed: with whatever may stand on the disk
-abbrev pub AgreesWithAll : FleetState → JournalState → Type 0
-AgreesWithAll fleet journal =
-    AllByRecursion (λ records. Agree fleet records None) (outcomes journal)
+-- a controller that is reopened over the fleet takes these records
+abbrev pub WouldBeTaken : FleetState → List Record → Type 0
+WouldBeTaken fleet records = (v : CtlValue) × AreTaken fleet records v
+
+-- and whatever may stand on the journal's disk: its records, and after a fault those and the one
+-- whose append failed
+abbrev pub AllWouldBeTaken : FleetState → JournalState → Type 0
+AllWouldBeTaken fleet journal = AllByRecursion (WouldBeTaken fleet) (outcomes journal)
 
 -- the command goes by what the journal's records come to
 abbrev pub is_on_plans : Command → Bool

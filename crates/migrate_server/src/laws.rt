@@ -1,6 +1,9 @@
-//! Laws of the definitions. Each function's contract is the law, and its body does nothing.
+//! Laws of the definitions. Each function's contract is the law, and its body does nothing but to call
+//! a law below.
 ghost use Rattle.migrate_server.specs.Laws.{SameLinesSameReplies, SameInputSameOutput, StoresAnswerMovesAlone};
-ghost use Rattle.migrate_server.specs.Runs.{RunsHoldTogether, CrashesHoldTogether, NoneIsStrange};
+ghost use Rattle.migrate_server.specs.Runs.{RunsHoldTogether, CrashesHoldTogether, NoneIsStrange, FleetAgrees};
+
+use restart::{agreeing_records_are_taken, strange_at_one_record};
 
 /// The same lines have the same replies, from the same fleet and records and volumes of the same
 /// names, as long as the store fails in no command; and what they leave agrees in the same way. So
@@ -17,11 +20,16 @@ pub fn stores_answer_moves_alone()
     ensures { StoresAnswerMovesAlone }
 {}
 
-/// Where the fleet agrees with whatever a crash may leave of the journal's disk, it does so behind a
-/// run, and behind a crash; and no run over it finds the journal strange. So a chain of runs, each
-/// over what the one before left or a crash of that, never ends by a strange journal.
+/// Where each list of records that a crash may leave on the journal's disk would be taken over the
+/// fleet, this is so behind a run, and behind a crash of it; the fleet agrees with each of these
+/// lists; and no run over it finds the journal strange. So a chain of runs, each over what the one
+/// before left or a crash of that, never ends by a strange journal.
 pub fn runs_hold_together()
     ensures runs { RunsHoldTogether }
     ensures crashes { CrashesHoldTogether }
     ensures none { NoneIsStrange }
-{}
+    ensures agree { FleetAgrees }
+{
+    strange_at_one_record();
+    agreeing_records_are_taken();
+}

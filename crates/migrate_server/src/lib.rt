@@ -5,7 +5,7 @@ ghost use Rattle.std.specs.Prelude.{◌≡◌, ◌<◌, ◌↔◌, length, IsTru
 ghost use Rattle.fleet.specs.Sound.{AllAreIn, IsFleet};
 ghost use Rattle.record_keeping.specs.Keeping.{keeping, IsReady};
 ghost use Rattle.migrate_server.specs.World.{world_of, desk_of, server_of};
-ghost use Rattle.migrate_server.specs.Serve.{status_of, AgreesWithAll};
+ghost use Rattle.migrate_server.specs.Serve.{status_of, AllWouldBeTaken};
 ghost use Rattle.migrate_server.specs.EndsFor.{TellsUsage};
 ghost use Rattle.migrate_server.specs.Runs.{Runs, Closes, status_unopened};
 
@@ -27,7 +27,7 @@ use edge_traits::{Disk, Sink, Source};
 pub use fleet::Fleet;
 use journal::JournalRefused;
 pub use laws::{runs_hold_together, sessions_agree, stores_answer_moves_alone};
-use restart::{ReopenRefused, agreeing_records_are_taken, reopen};
+use restart::{ReopenRefused, reopen};
 pub use status::Status;
 use std::alloc::Global;
 use target_volume::VolumeStore;
@@ -136,8 +136,6 @@ fn run<S: Source, K: Sink, D: Disk, T: VolumeStore>(
         (D.state result.disk) (T.state result.volumes) result.fleet) result.status }
 {
     let mut fleet = fleet;
-    fleet_is_sound(&fleet);
-    agreeing_records_are_taken();
     match reopen(alloc, disk, volumes, &mut fleet) {
         Ok(controller) => serve_over(alloc, input, out, controller, fleet),
         Err((disk, volumes, why)) => Outcome {
@@ -166,7 +164,7 @@ fn serve_over<S: Source, K: Sink, D: Disk, T: VolumeStore>(
 ) -> Outcome<D, T>
     requires all_in { AllAreIn fleet }
     requires ready { IsReady (keeping controller.state controller.journal) }
-    requires agree { AgreesWithAll fleet controller.journal }
+    requires taken { AllWouldBeTaken fleet controller.journal }
     ensures closes { Closes
         (desk_of (S.state input.old) (K.state out.old)
         (server_of fleet controller.journal (T.state controller.store)))

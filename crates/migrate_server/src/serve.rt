@@ -11,7 +11,7 @@ ghost use Rattle.target_volume.specs.VolumeStore.{StoreState};
 ghost use Rattle.migrate_server.specs.LineBuffer.{Holds};
 ghost use Rattle.migrate_server.specs.Line.{AsksInRange};
 ghost use Rattle.migrate_server.specs.Session.{serving, state_of, power_deed, Answers};
-ghost use Rattle.migrate_server.specs.Serve.{is_on_plans, AgreesWithAll, IsAnswered, IsUnanswered, IsStopped, TellsQuit, ServesLine, LacksReply, LacksBytes, status_of};
+ghost use Rattle.migrate_server.specs.Serve.{is_on_plans, AllWouldBeTaken, IsAnswered, IsUnanswered, IsStopped, TellsQuit, ServesLine, LacksReply, LacksBytes, status_of};
 ghost use Rattle.migrate_server.specs.World.{desk_of, server_of};
 ghost use Rattle.migrate_server.specs.Serves.{Serves};
 ghost use Rattle.migrate_server.specs.EndsFor.{EndsFor};
@@ -126,7 +126,7 @@ pub(crate) fn serve<S: Source, K: Sink, D: Disk, T: VolumeStore>(
 ) -> Result<(), Stop>
     requires all_in { AllAreIn fleet.old }
     requires ready { IsReady (keeping controller.old.state controller.old.journal) }
-    requires agree { AgreesWithAll fleet.old controller.old.journal }
+    requires taken { AllWouldBeTaken fleet.old controller.old.journal }
     ensures served { Serves
         (desk_of (S.state input.old) (K.state out.old)
         (server_of fleet.old controller.old.journal (T.state controller.old.store)))
@@ -139,7 +139,7 @@ pub(crate) fn serve<S: Source, K: Sink, D: Disk, T: VolumeStore>(
         (desk_of (S.state input.new) (K.state out.new)
         (server_of fleet.new controller.new.journal (T.state controller.new.store)))
         (status_of result) }
-    ensures agree { AgreesWithAll fleet.new controller.new.journal }
+    ensures taken { AllWouldBeTaken fleet.new controller.new.journal }
 {
     let Ok(mut reader) = LineReader::new(alloc) else {
         return Err(Stop::NoMemory);
@@ -167,14 +167,14 @@ fn serve_line<K: Sink, D: Disk, T: VolumeStore>(
 ) -> Result<bool, NoReply>
     requires all_in { AllAreIn fleet.old }
     requires ready { IsReady (keeping controller.old.state controller.old.journal) }
-    requires agree { AgreesWithAll fleet.old controller.old.journal }
+    requires taken { AllWouldBeTaken fleet.old controller.old.journal }
     ensures served { OnOk result ((text : List ℕ) → Holds line.now text
         → ServesLine text (K.state out.old) (K.state out.new)
         (server_of fleet.old controller.old.journal (T.state controller.old.store))
         (server_of fleet.new controller.new.journal (T.state controller.new.store))) }
     ensures quits { IfOk result (λ quits. (text : List ℕ) → Holds line.now text
         → TellsQuit quits text) }
-    ensures agree { AgreesWithAll fleet.new controller.new.journal }
+    ensures taken { AllWouldBeTaken fleet.new controller.new.journal }
     ensures ready { OnOk result
         (IsReady (keeping controller.new.state controller.new.journal)) }
     ensures lacks { IfErr result (λ why. (text : List ℕ) → Holds line.now text
@@ -216,7 +216,7 @@ fn answer_to<D: Disk, T: VolumeStore>(
     requires known { AsksInRange what }
     requires all_in { AllAreIn fleet.old }
     requires ready { IsReady (keeping controller.old.state controller.old.journal) }
-    requires agree { AgreesWithAll fleet.old controller.old.journal }
+    requires taken { AllWouldBeTaken fleet.old controller.old.journal }
     ensures answer { IfOk result (λ answer. IsAnswered what answer
         (serving fleet.old controller.old.journal.records (T.state controller.old.store))
         (serving fleet.new controller.new.journal.records (T.state controller.new.store))) }
@@ -224,7 +224,7 @@ fn answer_to<D: Disk, T: VolumeStore>(
         (IsReady (keeping controller.new.state controller.new.journal)) }
     ensures unfailed { OnOk result
         (IsUnfailed controller.old.journal controller.new.journal) }
-    ensures agree { AgreesWithAll fleet.new controller.new.journal }
+    ensures taken { AllWouldBeTaken fleet.new controller.new.journal }
     ensures stopped { IfErr result (λ why. IsStopped what why
         (server_of fleet.old controller.old.journal (T.state controller.old.store))
         (server_of fleet.new controller.new.journal (T.state controller.new.store))) }
@@ -247,7 +247,7 @@ fn run<D: Disk, T: VolumeStore>(
     requires known { IsAskable command }
     requires all_in { AllAreIn fleet.old }
     requires ready { IsReady (keeping controller.old.state controller.old.journal) }
-    requires agree { AgreesWithAll fleet.old controller.old.journal }
+    requires taken { AllWouldBeTaken fleet.old controller.old.journal }
     ensures answer { IfOk result (λ answer. Answers command answer
         (serving fleet.old controller.old.journal.records (T.state controller.old.store))
         (serving fleet.new controller.new.journal.records (T.state controller.new.store))) }
@@ -255,7 +255,7 @@ fn run<D: Disk, T: VolumeStore>(
         (IsReady (keeping controller.new.state controller.new.journal)) }
     ensures unfailed { OnOk result
         (IsUnfailed controller.old.journal controller.new.journal) }
-    ensures agree { AgreesWithAll fleet.new controller.new.journal }
+    ensures taken { AllWouldBeTaken fleet.new controller.new.journal }
     ensures unanswered { IfErr result (λ why. IsUnanswered command why
         (server_of fleet.old controller.old.journal (T.state controller.old.store))
         (server_of fleet.new controller.new.journal (T.state controller.new.store))) }

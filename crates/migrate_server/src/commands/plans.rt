@@ -7,7 +7,7 @@ ghost use Rattle.cmd_json.specs.Range.{IsWithin};
 ghost use Rattle.cmd_json.specs.declared.command.Command.TheVariants.{Plan, Start, Cutover};
 ghost use Rattle.fleet.specs.Sound.{AllAreIn};
 ghost use Rattle.record_keeping.specs.Keeping.{keeping, IsReady, IsUnfailed};
-ghost use Rattle.migrate_server.specs.Serve.{AgreesWithAll, IsUnanswered};
+ghost use Rattle.migrate_server.specs.Serve.{AllWouldBeTaken, IsUnanswered};
 ghost use Rattle.migrate_server.specs.Session.{serving, Answers};
 ghost use Rattle.migrate_server.specs.World.{server_of};
 
@@ -57,7 +57,7 @@ pub(crate) fn run_start<D: Disk, T: VolumeStore>(
     plan: &Name,
 ) -> Result<Answer, NotKept>
     requires ready { IsReady (keeping controller.old.state controller.old.journal) }
-    requires agree { AgreesWithAll fleet.old controller.old.journal }
+    requires taken { AllWouldBeTaken fleet.old controller.old.journal }
     ensures answer { IfOk result (λ answer. Answers (Start plan.now) answer
         (serving fleet.old controller.old.journal.records (T.state controller.old.store))
         (serving fleet.new controller.new.journal.records (T.state controller.new.store))) }
