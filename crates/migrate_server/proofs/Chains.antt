@@ -100,11 +100,11 @@ module _ (not_strange : TakenAreNotStrange) where
   none_unopened old new number h tells (Journal NotAJournal) is images cause =
       told old.disk.contents (λ c. ⊥) ⊥ tells
       ((never_strange h.lists old.disk new.disk 0 h.leaves).0
-      (record { cause = cause; images = images })) (λ c no. no)
+      (record { cause = cause; images = images })) (λ c isnt. isnt)
   none_unopened old new number h tells (Journal (BadRecord at)) is images cause =
       told old.disk.contents (λ c. ⊥) ⊥ tells
       ((never_strange h.lists old.disk new.disk at h.leaves).1
-      (record { cause = cause; images = images })) (λ c no. no)
+      (record { cause = cause; images = images })) (λ c isnt. isnt)
   none_unopened old new number h tells (Journal (Full len)) is images cause = absurd cause
   none_unopened old new number h tells (Journal Wanting) is images cause = absurd cause
   none_unopened old new number h tells (Strange at) is images cause =

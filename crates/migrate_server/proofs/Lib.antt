@@ -16,3 +16,4 @@ pub mod Serving
 pub mod Chains
 pub mod Growing
 pub mod Owning
+pub mod Adding
