@@ -45,8 +45,11 @@ step_grows v mig r =
 grows : (v : CtlValue) (r : Record) → size_of (after_record v r) ≤ size_of v + spelled_size r
 grows v (PlanMade plan name interval vms) =
     let p = plan_of plan name interval vms in
-    omega (arith, length-append v.plans (p ∷ []),
-    sum_by_push (λ (q : Plan). length q.vms) v.plans p)
+    omega (
+      arith,
+      length-append v.plans (p ∷ []),
+      sum_by_push (λ (q : Plan). length q.vms) v.plans p,
+    )
 grows v (MigrationStarted mig plan vm disks) =
     omega (arith, length-append v.migrations (new_migration mig plan vm disks ∷ []))
 grows v (CutoverSet plan has at) = omega arith

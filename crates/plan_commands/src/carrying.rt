@@ -17,9 +17,7 @@ ghost use Rattle.plan_commands.specs.commands.Start.{start_refusal, start_record
 ghost use Rattle.plan_commands.specs.commands.Cutover.{cutover_refusal, cutover_records, cutover_reply};
 
 use crate::machines::fleet_is_sound;
-use crate::{
-    Asked, ask_cutover, ask_plan, ask_start, numbers_suffice, what_is_asked_may_be_kept,
-};
+use crate::{Asked, ask_cutover, ask_plan, ask_start, numbers_suffice, what_is_asked_may_be_kept};
 use answers::Answer;
 use basics::Name;
 use ctl_state::Controller;

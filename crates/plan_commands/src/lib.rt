@@ -13,11 +13,13 @@ mod machines;
 mod plan;
 mod start;
 mod status;
+#[cfg(test)]
+mod tests;
 
 pub use asked::Asked;
 pub use carrying::{carry_out_cutover, carry_out_plan, carry_out_start};
 pub use cutover::ask_cutover;
-pub use laws::{numbers_suffice, what_is_asked_may_be_kept};
+pub use laws::{numbers_suffice, plans_list_tracked_machines, what_is_asked_may_be_kept};
 pub use plan::{DEFAULT_INTERVAL, ask_plan};
 pub use start::{ask_start, has_numbers_for};
 pub use status::status_of;
