@@ -1,9 +1,9 @@
 -- The migrations of a plan's waiting machines may begin one after another, in the plan's order.
-use Rattle.std.proofs.Common.{◌≡◌, ℕ, zero, suc, ◌+◌, ◌-◌, ◌<◌, ◌≤◌, ◌^◌, ◌==◌, ◌&&◌, Bool, true, false, cond, List, [], ◌∷◌, ◌++◌, length, map, drop, Option, Some, None, option_map, All, refl, ap, ◌∙◌, sym, subst, slice_get, append_assoc, add-one, arith}
+use Rattle.std.proofs.Common.{◌≡◌, ℕ, zero, suc, ◌+◌, ◌-◌, ◌≤◌, ◌==◌, ◌&&◌, Bool, true, false, List, [], ◌∷◌, ◌++◌, length, map, drop, Option, Some, None, option_map, All, refl, ap, ◌∙◌, sym, subst, slice_get, append_assoc, add-one, arith}
 use Rattle.std.specs.Prelude.{nat_le, nat_lt, IsSome, if◌then◌else◌}
-use Rattle.std.specs.List.{AllByRecursion, find, zip, range_with_len}
+use Rattle.std.specs.List.{AllByRecursion, zip, range_with_len}
 use Rattle.std.specs.Option.{option_map_or}
-use Rattle.std.proofs.lemmas.Bool.{and_parts, eqb-true, eq-eqb, leb-true, le-leb, ltb-true, lt-ltb, false≢true}
+use Rattle.std.proofs.lemmas.Bool.{and_parts, eq-eqb, leb-true, le-leb, lt-ltb, false≢true}
 use Rattle.std.proofs.lemmas.List.{append-nil, length-append}
 use Rattle.std.proofs.lemmas.List.Elements.{All-drop, All-from_recursion, recursion_from_All}
 use Rattle.std.proofs.lemmas.Option.{none-some, slice_get_within, get_or_from_slice_get}
@@ -22,7 +22,7 @@ use Rattle.ctl_state.specs.declared.plans.PlanCourse.{PlanCourse}
 use Rattle.ctl_state.specs.Fold.{IsStateOf, after_record, with_started}
 use Rattle.ctl_state.specs.MayStand.{is_next, record_may_stand}
 use Rattle.ctl_state.specs.Steps.{new_migration}
-use Rattle.ctl_state.specs.Value.{CtlValue, numbered, plan_in, course_in, plan_named, waiting}
+use Rattle.ctl_state.specs.Value.{CtlValue, plan_in, course_in, plan_named, waiting}
 use Rattle.ctl_state.proofs.FoldFacts.{goes_on}
 use Rattle.ctl_state.proofs.ListFacts.{numbered_at, numbered-changed}
 use Rattle.record_keeping.specs.Keeping.{MayBeKept}

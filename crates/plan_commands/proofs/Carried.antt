@@ -1,5 +1,5 @@
 -- A command that is carried out, by what it asked for.
-use Rattle.std.proofs.Common.{◌≡◌, List, [], ◌++◌, Option, Some, None, Result, Ok, Err, refl, sym, ap, subst, ◌∙◌}
+use Rattle.std.proofs.Common.{List, [], Option, Some, None, Result, Ok, refl, sym, subst}
 use Rattle.std.proofs.lemmas.List.{append-nil}
 use Rattle.answers.specs.Answer.{Answer}
 use Rattle.answers.specs.declared.refusal.Refusal.{Refusal}

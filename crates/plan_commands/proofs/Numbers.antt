@@ -1,13 +1,13 @@
 -- What the records of a journal come to is no larger than the journal's file, so numbers of 32 bits
 -- don't run out.
-use Rattle.std.proofs.Common.{◌≡◌, ℕ, ◌+◌, ◌-◌, ◌==◌, ◌<◌, ◌≤◌, ◌^◌, Bool, true, false, cond, List, [], ◌∷◌, ◌++◌, length, drop, get_or, Option, Some, None, Result, Ok, Err, refl, ap, sym, subst, ◌∙◌, arith, length-append, length-drop}
+use Rattle.std.proofs.Common.{◌≡◌, ℕ, ◌+◌, ◌-◌, ◌==◌, ◌<◌, ◌≤◌, ◌^◌, Bool, true, false, cond, List, [], ◌∷◌, length, get_or, Option, Some, None, Ok, Err, refl, ap, subst, arith, length-append, length-drop}
 use Rattle.std.specs.List.{sum_by, flat_map}
 use Rattle.std.specs.Option.{option_map_or}
-use Rattle.std.specs.Prelude.{nat_lt, slice_get}
+use Rattle.std.specs.Prelude.{nat_lt}
 use Rattle.std.proofs.lemmas.Bool.{lt-ltb}
 use Rattle.std.proofs.lemmas.List.Sums.{get_or-le-sum_by, sum_by-cons, sum_by_push}
 use Rattle.std.proofs.lemmas.Option.{slice_get_within, get_or_from_slice_get}
-use Rattle.journal.specs.Format.{front, open_cell}
+use Rattle.journal.specs.Format.{open_cell}
 use Rattle.journal.specs.declared.format.TheConstants.{MAGIC, MAX_BYTES}
 use Rattle.journal.specs.Journal.{JournalState, IsKept}
 use Rattle.plan_model.specs.declared.plan.Plan.{Plan}
@@ -72,18 +72,19 @@ grows v (CancelAsked mig) = step_grows v mig (CancelAsked mig)
 all_grow : (before : ℕ) (v next : CtlValue) (records : List Record)
     → after_from before v records ≡ Ok next → size_of next ≤ size_of v + sum_by spelled_size records
 all_grow before v next [] h =
-    let same : v ≡ next = same_ok v next h in
+    let same : v ≡ next = cc in
     subst (λ (n : CtlValue). size_of n ≤ size_of v + 0) same (omega arith)
-all_grow before v next (r ∷ records) h = by (record_may_stand v r) h
+all_grow before v next (r ∷ records) h =
+    by (record_may_stand v r) h (λ good. all_grow (before + 1) (after_record v r) next records good)
   where
     by : (b : Bool) → cond b (after_from (before + 1) (after_record v r) records)
         (Err (before + 1)) ≡ Ok next
+        → (after_from (before + 1) (after_record v r) records ≡ Ok next
+        → size_of next ≤ size_of (after_record v r) + sum_by spelled_size records)
         → size_of next ≤ size_of v + sum_by spelled_size (r ∷ records)
-    by false bad = absurd (cc)
-    by true good =
-        let rest = all_grow (before + 1) (after_record v r) next records good in
-        let one = grows v r in
-        omega (arith, rest, one, sum_by-cons spelled_size r records)
+    by false bad rest = absurd (cc)
+    by true good rest =
+        omega (arith, rest good, grows v r, sum_by-cons spelled_size r records)
 
 -- ---- a file has room for the spellings of its records
 
