@@ -163,9 +163,11 @@ pub stores_answer_moves_alone : (one other one_after other_after : State)
     (lines : List (List ℕ)) (answers others : List Answer) → AreAlikeInside one other
     → Session one lines answers one_after → Session other lines others other_after
     → AllAlike lines answers others × AreAlikeInside one_after other_after
-stores_answer_moves_alone one other one_after other_after [] [] [] same h k =
-    (tt, alike_then one other one_after other_after same (alike_inside one one_after h)
-    (alike_inside other other_after k))
+stores_answer_moves_alone one other one_after other_after [] [] [] same h k = (
+  tt,
+  alike_then one other one_after other_after same (alike_inside one one_after h)
+      (alike_inside other other_after k),
+)
 stores_answer_moves_alone one other one_after other_after [] [] (b ∷ others) same h k = absurd k
 stores_answer_moves_alone one other one_after other_after [] (a ∷ answers) others same h k =
     absurd h

@@ -89,8 +89,8 @@ module _ (not_strange : TakenAreNotStrange) where
       (λ c. IsOneOf found.records h.lists) ⊥ tells
       (reads_one_of h.lists old.disk new.disk found.records h.leaves found.reads)
       (λ c its.
-          let taken = taken_with_one old.fleet found.records h.lists h.taken its in
-          not_strange old.fleet found.records taken.0 number taken.1 found.strange)
+      let taken = taken_with_one old.fleet found.records h.lists h.taken its in
+      not_strange old.fleet found.records taken.0 number taken.1 found.strange)
 
   none_unopened : (old new : World) (number : ℕ) → HoldsTogether old → IsSome old.disk.contents
       → (why : ReopenRefused) → StrangeJournal number ≡ status_unopened why

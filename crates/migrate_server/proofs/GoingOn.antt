@@ -107,7 +107,7 @@ acts_go_on vm act fleet = by (machine_named vm fleet) refl
 
 -- ---- commands
 
-goes_then : (command : Command) (s : State) → FleetGoesOn s.fleet (state_after command s).fleet
+pub goes_then : (command : Command) (s : State) → FleetGoesOn s.fleet (state_after command s).fleet
 goes_then (Host host limit) s = hosts_go_on host (unwrap_or limit DEFAULT_HOST_LIMIT) s.fleet
 goes_then (Vm vm host disks) s = vms_go_on vm host disks s.fleet
 goes_then (Enable vm) s = acts_go_on vm (λ log. act_of deed.Enable) s.fleet

@@ -141,10 +141,10 @@ stage_later capacity disk (Some from) at written log more within h =
     elim h [
       | inl is ↦ inl (is ∙ sym same)
       | inr all ↦ inr (
-          reset_later from disk log more all.0,
-          all.1,
-          subst (λ (n : ℕ). written ≤ capacity + n) (sym same) all.2,
-        )
+        reset_later from disk log more all.0,
+        all.1,
+        subst (λ (n : ℕ). written ≤ capacity + n) (sym same) all.2,
+      )
     ]
 
 -- ---- one migration

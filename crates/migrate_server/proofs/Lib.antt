@@ -17,3 +17,5 @@ pub mod Chains
 pub mod Growing
 pub mod Owning
 pub mod Adding
+pub mod Carrying
+pub mod Taking

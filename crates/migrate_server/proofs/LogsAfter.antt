@@ -105,7 +105,7 @@ vms_stay_in (Some place) vm disks fleet h =
     All-append (λ (v : VmState). v.out ≡ false) fleet.vms (new ∷ []) h
     (All-cons (λ (v : VmState). v.out ≡ false) new [] refl none)
 
-in_then : (command : Command) (s : State) → AllAreIn s.fleet
+pub in_then : (command : Command) (s : State) → AllAreIn s.fleet
     → AllAreIn (state_after command s).fleet
 in_then (Host host limit) s h = h
 in_then (Vm vm host disks) s h = vms_stay_in (host_place host s.fleet) vm disks s.fleet h

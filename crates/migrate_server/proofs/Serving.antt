@@ -1100,6 +1100,7 @@ pub serves_sound : (old new : Desk) (status : Status) → Serves old new status
 serves_sound old new status s sound =
     let adds = cut_adds status s.more s.mid new.server s.cut in
     let still = session_sound (state_of old.server) s.mid (requests_among s.lines) s.replies
-    s.session sound in
-    (ap (λ (t : StoreState). t.sound) adds.store ∙ still.0,
-    ap (λ (t : StoreState). t.faults) adds.store ∙ still.1)
+    s.session sound in (
+      ap (λ (t : StoreState). t.sound) adds.store ∙ still.0,
+      ap (λ (t : StoreState). t.faults) adds.store ∙ still.1,
+    )

@@ -62,8 +62,8 @@ abbrev pub with_fleet : FleetState → State → State
 with_fleet fleet s = record s { fleet = fleet }
 
 -- the state with records added
-abbrev pub keeping : List Record → State → State
-keeping added s = record s { records = s.records ++ added }
+abbrev pub with_added : List Record → State → State
+with_added added s = record s { records = s.records ++ added }
 
 -- what `power` asks for
 abbrev pub power_deed : Bool → Deed
@@ -216,10 +216,10 @@ state_after (Power vm on) s = with_fleet (after_deed vm (power_deed on) s.fleet)
 state_after (Reset vm disk) s = with_fleet (after_deed vm (deed.Reset disk) s.fleet) s
 state_after Inventory s = s
 state_after (Plan name vms interval) s =
-    keeping (records_of (Plan name vms interval) s) s
-state_after (Start plan) s = keeping (records_of (Start plan) s) s
+    with_added (records_of (Plan name vms interval) s) s
+state_after (Start plan) s = with_added (records_of (Start plan) s) s
 state_after (Run at workers guests disturb) s = never_left s
-state_after (Cutover plan at) s = keeping (records_of (Cutover plan at) s) s
+state_after (Cutover plan at) s = with_added (records_of (Cutover plan at) s) s
 state_after (Cancel vm) s = never_left s
 state_after Status s = s
 state_after (Target volume first count) s = never_left s
@@ -286,7 +286,7 @@ pub record IsCut (command : Command) (left : List Record) (old new : State) : Ty
   pub allowed : HasRefusal command None old
   pub front : List Record
   pub split : records_of command old ≡ front ++ left
-  pub kept : new ≡ keeping front old
+  pub kept : new ≡ with_added front old
 
 pub record LineIsCut (line : List ℕ) (left : List Record) (old new : State) : Type 0 where
   pub command : Command

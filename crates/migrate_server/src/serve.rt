@@ -18,6 +18,7 @@ ghost use Rattle.migrate_server.specs.EndsFor.{EndsFor};
 
 use crate::commands::moves::run_move;
 use crate::commands::plans::{run_cutover, run_plan, run_start};
+use crate::fleet_is_sound;
 use crate::line::{Line, meaning_of};
 use crate::line_buffer::LineBuffer;
 use crate::reader::{LineReader, NoLine};
@@ -260,6 +261,7 @@ fn run<D: Disk, T: VolumeStore>(
         (server_of fleet.old controller.old.journal (T.state controller.old.store))
         (server_of fleet.new controller.new.journal (T.state controller.new.store))) }
 {
+    fleet_is_sound(fleet);
     match command {
         Command::Plan {
             name,

@@ -2,6 +2,7 @@ ghost use Rattle.std.specs.Prelude.{IfOk};
 ghost use Rattle.fleet.specs.Sound.{AllAreIn};
 
 mod machines;
+mod plans;
 
 use crate::{Devices, Fleet, Gate, Outcome, Status, migrate};
 use basics::NoMemory;
@@ -20,6 +21,9 @@ const LONG: &str = "{\"error\":\"long\",\"ok\":false}\n";
 const LOG_FULL: &str = "{\"error\":\"log-full\",\"ok\":false}\n";
 
 const FAILED: &str = "{\"error\":\"volume\",\"ok\":false}\n";
+
+/// Room for a journal of some records.
+const DISK_ROOM: usize = 1 << 12;
 
 struct Open;
 
@@ -41,12 +45,14 @@ const SOUND: Setting<'static> = Setting {
     failing_calls: &[],
 };
 
-/// How a run ended, what is left of the input, what was written, the store and the fleet.
+/// How a run ended, what is left of the input, what was written, the journal's disk, the store and
+/// the fleet.
 #[derive(Drop)]
 struct EndedRun {
     status: Status,
     source: MemSource,
     sink: MemSink,
+    disk: MemDisk,
     volumes: MemVolumes,
     fleet: Fleet,
 }
@@ -73,12 +79,28 @@ fn served_over(
     requires { AllAreIn fleet }
     ensures { IfOk result (λ run. AllAreIn run.fleet) }
 {
+    let disk = MemDisk::new(rt.alloc(), &[], DISK_ROOM, &[])?;
+    served_on(rt, setting, words, lines, disk, fleet)
+}
+
+/// The same, over the disk of a journal, too.
+fn served_on(
+    rt: &HostRuntime,
+    setting: &Setting,
+    words: &[String],
+    lines: &[u8],
+    disk: MemDisk,
+    fleet: Fleet,
+) -> Result<EndedRun, Fail>
+    requires { AllAreIn fleet }
+    ensures { IfOk result (λ run. AllAreIn run.fleet) }
+{
     let alloc = rt.alloc();
     let piece = setting.piece.max(1);
     let mut source = MemSource::new(alloc, lines, piece, setting.failing_reads)?;
     let mut sink = MemSink::new(alloc, 1 << 12, setting.failing_puts)?;
     let devices = Devices {
-        disk: MemDisk::new(alloc, &[], 0, &[])?,
+        disk,
         volumes: MemVolumes::new(alloc, 90, setting.failing_calls)?,
     };
     let outcome = migrate(
@@ -93,14 +115,15 @@ fn served_over(
     );
     let Outcome {
         status,
+        disk,
         volumes,
         fleet,
-        ..
     } = outcome;
     Ok(EndedRun {
         status,
         source,
         sink,
+        disk,
         volumes,
         fleet,
     })

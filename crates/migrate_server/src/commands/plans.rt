@@ -11,86 +11,103 @@ ghost use Rattle.migrate_server.specs.Serve.{AllWouldBeTaken, IsUnanswered};
 ghost use Rattle.migrate_server.specs.Session.{serving, Answers};
 ghost use Rattle.migrate_server.specs.World.{server_of};
 
+use crate::fleet_is_sound;
 use answers::Answer;
 use basics::Name;
 use ctl_state::Controller;
 use edge_traits::Disk;
 use fleet::Fleet;
+use plan_commands::{
+    carry_out_cutover, carry_out_plan, carry_out_start, plans_list_tracked_machines,
+    what_is_asked_may_be_kept,
+};
 use plan_model::Moment;
 use record_keeping::NotKept;
+use restart::agreeing_records_are_taken;
 use std::alloc::Global;
 use target_volume::VolumeStore;
 
-/// Makes a plan and keeps it, as [`plan_commands::carry_out_plan`] says it.
+/// Makes a plan and keeps it, as [`carry_out_plan`] says.
 pub(crate) fn run_plan<D: Disk, T: VolumeStore>(
     alloc: Global,
-    fleet: &mut Fleet,
+    fleet: &Fleet,
     controller: &mut Controller<D, T>,
     name: &Name,
     vms: &[Name],
     interval: Option<u32>,
 ) -> Result<Answer, NotKept>
-    requires all_in { AllAreIn fleet.old }
+    requires all_in { AllAreIn fleet.now }
     requires named { IsName name.now }
     requires limited { IfSome interval (IsWithin 1 MAX_INTERVAL) }
     requires ready { IsReady (keeping controller.old.state controller.old.journal) }
+    requires taken { AllWouldBeTaken fleet.now controller.old.journal }
     ensures answer { IfOk result (λ answer. Answers (Plan name.now vms.now interval) answer
-        (serving fleet.old controller.old.journal.records (T.state controller.old.store))
-        (serving fleet.new controller.new.journal.records (T.state controller.new.store))) }
+        (serving fleet.now controller.old.journal.records (T.state controller.old.store))
+        (serving fleet.now controller.new.journal.records (T.state controller.new.store))) }
     ensures ready { OnOk result
         (IsReady (keeping controller.new.state controller.new.journal)) }
     ensures unfailed { OnOk result
         (IsUnfailed controller.old.journal controller.new.journal) }
-    ensures unanswered { IfErr result (λ why.
-        IsUnanswered (Plan name.now vms.now interval) why
-        (server_of fleet.old controller.old.journal (T.state controller.old.store))
-        (server_of fleet.new controller.new.journal (T.state controller.new.store))) }
+    ensures taken { AllWouldBeTaken fleet.now controller.new.journal }
+    ensures unanswered { IfErr result (λ why. IsUnanswered (Plan name.now vms.now interval) why
+        (server_of fleet.now controller.old.journal (T.state controller.old.store))
+        (server_of fleet.now controller.new.journal (T.state controller.new.store))) }
 {
-    Err(NotKept::NoMemory)
+    fleet_is_sound(fleet);
+    what_is_asked_may_be_kept();
+    plans_list_tracked_machines();
+    carry_out_plan(alloc, controller, fleet, name, vms, interval)
 }
 
-/// Starts a plan and keeps that, as [`plan_commands::carry_out_start`] says it.
+/// Starts a plan and keeps that, as [`carry_out_start`] says.
 pub(crate) fn run_start<D: Disk, T: VolumeStore>(
     alloc: Global,
-    fleet: &mut Fleet,
+    fleet: &Fleet,
     controller: &mut Controller<D, T>,
     plan: &Name,
 ) -> Result<Answer, NotKept>
     requires ready { IsReady (keeping controller.old.state controller.old.journal) }
-    requires taken { AllWouldBeTaken fleet.old controller.old.journal }
+    requires taken { AllWouldBeTaken fleet.now controller.old.journal }
     ensures answer { IfOk result (λ answer. Answers (Start plan.now) answer
-        (serving fleet.old controller.old.journal.records (T.state controller.old.store))
-        (serving fleet.new controller.new.journal.records (T.state controller.new.store))) }
+        (serving fleet.now controller.old.journal.records (T.state controller.old.store))
+        (serving fleet.now controller.new.journal.records (T.state controller.new.store))) }
     ensures ready { OnOk result
         (IsReady (keeping controller.new.state controller.new.journal)) }
     ensures unfailed { OnOk result
         (IsUnfailed controller.old.journal controller.new.journal) }
+    ensures taken { AllWouldBeTaken fleet.now controller.new.journal }
     ensures unanswered { IfErr result (λ why. IsUnanswered (Start plan.now) why
-        (server_of fleet.old controller.old.journal (T.state controller.old.store))
-        (server_of fleet.new controller.new.journal (T.state controller.new.store))) }
+        (server_of fleet.now controller.old.journal (T.state controller.old.store))
+        (server_of fleet.now controller.new.journal (T.state controller.new.store))) }
 {
-    Err(NotKept::NoMemory)
+    fleet_is_sound(fleet);
+    what_is_asked_may_be_kept();
+    agreeing_records_are_taken();
+    carry_out_start(alloc, controller, fleet, plan)
 }
 
-/// Sets the cutover of a plan and keeps that, as [`plan_commands::carry_out_cutover`] says it.
+/// Sets the cutover of a plan and keeps that, as [`carry_out_cutover`] says.
 pub(crate) fn run_cutover<D: Disk, T: VolumeStore>(
     alloc: Global,
-    fleet: &mut Fleet,
+    fleet: &Fleet,
     controller: &mut Controller<D, T>,
     plan: &Name,
     at: Option<Moment>,
 ) -> Result<Answer, NotKept>
     requires ready { IsReady (keeping controller.old.state controller.old.journal) }
+    requires taken { AllWouldBeTaken fleet.now controller.old.journal }
     ensures answer { IfOk result (λ answer. Answers (Cutover plan.now at) answer
-        (serving fleet.old controller.old.journal.records (T.state controller.old.store))
-        (serving fleet.new controller.new.journal.records (T.state controller.new.store))) }
+        (serving fleet.now controller.old.journal.records (T.state controller.old.store))
+        (serving fleet.now controller.new.journal.records (T.state controller.new.store))) }
     ensures ready { OnOk result
         (IsReady (keeping controller.new.state controller.new.journal)) }
     ensures unfailed { OnOk result
         (IsUnfailed controller.old.journal controller.new.journal) }
+    ensures taken { AllWouldBeTaken fleet.now controller.new.journal }
     ensures unanswered { IfErr result (λ why. IsUnanswered (Cutover plan.now at) why
-        (server_of fleet.old controller.old.journal (T.state controller.old.store))
-        (server_of fleet.new controller.new.journal (T.state controller.new.store))) }
+        (server_of fleet.now controller.old.journal (T.state controller.old.store))
+        (server_of fleet.now controller.new.journal (T.state controller.new.store))) }
 {
-    Err(NotKept::NoMemory)
+    what_is_asked_may_be_kept();
+    carry_out_cutover(alloc, controller, plan, at)
 }

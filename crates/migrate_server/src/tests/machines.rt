@@ -6,17 +6,17 @@ use std::alloc::Global;
 use std::test::Fail;
 
 /// A line of an input, and the line that answers it.
-type Exchange = (&'static str, &'static str);
+pub(crate) type Exchange = (&'static str, &'static str);
 
-const HOST: Exchange = (r#"{"cmd":"host","name":"h"}"#, r#"{"ok":true}"#);
+pub(crate) const HOST: Exchange = (r#"{"cmd":"host","name":"h"}"#, r#"{"ok":true}"#);
 
-const SMALL: Exchange = (
+pub(crate) const SMALL: Exchange = (
     r#"{"cmd":"vm","name":"a","host":"h","disks":[256]}"#,
     r#"{"number":1,"ok":true}"#,
 );
 
 /// The lines of an input.
-fn lines_of(alloc: Global, exchanges: &[Exchange]) -> Result<String, NoMemory> {
+pub(crate) fn lines_of(alloc: Global, exchanges: &[Exchange]) -> Result<String, NoMemory> {
     let mut lines = String::new(alloc);
     for (line, _) in exchanges {
         lines.push_str(line)?;
@@ -26,7 +26,7 @@ fn lines_of(alloc: Global, exchanges: &[Exchange]) -> Result<String, NoMemory> {
 }
 
 /// Their replies.
-fn replies_of(alloc: Global, exchanges: &[Exchange]) -> Result<String, NoMemory> {
+pub(crate) fn replies_of(alloc: Global, exchanges: &[Exchange]) -> Result<String, NoMemory> {
     let mut replies = String::new(alloc);
     for (_, reply) in exchanges {
         replies.push_str(reply)?;

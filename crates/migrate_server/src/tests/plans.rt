@@ -1,0 +1,111 @@
+//! The commands on plans, and the journal that they keep, over `migrate`.
+use super::machines::{Exchange, HOST, SMALL, lines_of, replies_of};
+use super::{DISK_ROOM, SOUND, held, served, served_on};
+use crate::{Fleet, Status};
+use edge_traits::{Disk, MemDisk, Pick};
+use std::test::Fail;
+
+const OK: &str = r#"{"ok":true}"#;
+
+const ENABLE: Exchange = (r#"{"cmd":"enable","vm":"a"}"#, OK);
+
+const SNAPSHOT: Exchange = (
+    r#"{"cmd":"snapshot","vm":"a"}"#,
+    r#"{"ids":["00000001-0000-0000-0000-000000000000/1"],"ok":true,"snapshot":1}"#,
+);
+
+const PLAN: &str = r#"{"cmd":"plan","name":"p","vms":["a"]}"#;
+
+const UNTRACKED: &str = r#"{"error":"no-tracking","ok":false,"vm":"a"}"#;
+
+const START: Exchange = (
+    r#"{"cmd":"start","plan":"p"}"#,
+    r#"{"migrations":[1],"ok":true}"#,
+);
+
+/// A machine that is tracked, and a plan of it.
+const PLANNED: [Exchange; 5] = [HOST, SMALL, ENABLE, SNAPSHOT, (PLAN, OK)];
+
+#[test]
+fn a_plan_takes_machines_that_are_tracked_and_in_no_other(rt: HostRuntime) -> Result<(), Fail> {
+    let exchanges = [
+        HOST,
+        SMALL,
+        (PLAN, UNTRACKED),
+        ENABLE,
+        (PLAN, UNTRACKED),
+        SNAPSHOT,
+        (PLAN, OK),
+        (PLAN, r#"{"error":"name-taken","ok":false}"#),
+        (
+            r#"{"cmd":"plan","name":"q","vms":["a"]}"#,
+            r#"{"error":"in-plan","ok":false,"vm":"a"}"#,
+        ),
+    ];
+    let run = served(&rt, lines_of(rt.alloc(), &exchanges)?.as_str())?;
+    assert_eq!(rt; held(&run), replies_of(rt.alloc(), &exchanges)?.as_bytes());
+    Ok(())
+}
+
+/// What is asked of a plan once it was made.
+const STARTED: [Exchange; 3] = [
+    START,
+    (r#"{"cmd":"cutover","plan":"p"}"#, OK),
+    (
+        r#"{"cmd":"status"}"#,
+        concat!(
+            r#"{"migrations":[{"cause":null,"checkpoints":[],"dv":"Pending","marks":[],"mig":1,"#,
+            r#""phase":"Started","place":null,"plan":"p","state":"ready","vm":"a","#,
+            r#""writes":null,"written":[]}],"ok":true}"#
+        ),
+    ),
+];
+
+#[test]
+fn a_second_call_goes_on_with_what_the_journal_has(rt: HostRuntime) -> Result<(), Fail> {
+    let alloc = rt.alloc();
+    let first = served(&rt, lines_of(alloc, &PLANNED)?.as_str())?;
+    assert_eq!(rt; held(&first), replies_of(alloc, &PLANNED)?.as_bytes());
+    let disk = first.disk.image(Pick::Old)?;
+    let lines = lines_of(alloc, &STARTED)?;
+    let second = served_on(&rt, &SOUND, &[], lines.as_bytes(), disk, first.fleet)?;
+    assert_eq!(rt; held(&second), replies_of(alloc, &STARTED)?.as_bytes());
+    assert_eq!(rt; second.status, Status::Ok);
+    Ok(())
+}
+
+/// The opening of an empty journal has six calls that may fail, and an append begins with a write.
+#[test]
+fn a_line_whose_record_is_not_kept_has_no_reply(rt: HostRuntime) -> Result<(), Fail> {
+    let alloc = rt.alloc();
+    let disk = MemDisk::new(alloc, &[], DISK_ROOM, &[7])?;
+    let lines = lines_of(alloc, &PLANNED)?;
+    let fleet = Fleet::empty(alloc);
+    let run = served_on(&rt, &SOUND, &[], lines.as_bytes(), disk, fleet)?;
+    assert_eq!(rt; held(&run), replies_of(alloc, &PLANNED[..4])?.as_bytes());
+    assert_eq!(rt; run.status, Status::JournalFault);
+    Ok(())
+}
+
+#[test]
+fn a_file_that_is_no_journal_is_left(rt: HostRuntime) -> Result<(), Fail> {
+    let alloc = rt.alloc();
+    let disk = MemDisk::new(alloc, b"0123456789", DISK_ROOM, &[])?;
+    let run = served_on(&rt, &SOUND, &[], b"x\n", disk, Fleet::empty(alloc))?;
+    assert_eq!(rt; run.status, Status::StrangeJournal(0));
+    assert_eq!(rt; held(&run), b"".as_slice());
+    let mut disk = run.disk;
+    assert_eq!(rt; disk.length(), Ok(10));
+    Ok(())
+}
+
+#[test]
+fn a_file_of_few_bytes_becomes_a_journal(rt: HostRuntime) -> Result<(), Fail> {
+    let alloc = rt.alloc();
+    let disk = MemDisk::new(alloc, b"012345678", DISK_ROOM, &[])?;
+    let run = served_on(&rt, &SOUND, &[], b"x\n", disk, Fleet::empty(alloc))?;
+    assert_eq!(rt; run.status, Status::Ok);
+    let mut disk = run.disk;
+    assert_eq!(rt; disk.length(), Ok(9));
+    Ok(())
+}
