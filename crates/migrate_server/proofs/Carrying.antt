@@ -2,7 +2,7 @@
 -- session; and that the records on the journal's disk would be taken then.
 use Rattle.std.proofs.Common.{◌≡◌, ℕ, ◌+◌, ◌-◌, ◌<◌, ◌==◌, Bool, true, false, cond, List, [], ◌∷◌, ◌++◌, length, Option, Some, None, Result, Ok, Err, All, inl, inr, refl, sym, ap, subst, ◌∙◌, append_assoc, arith, get_or}
 use Rattle.std.specs.Prelude.{MatchOption, IfOk, IfErr, OnOk, IsSome, slice_get}
-use Rattle.core.specs.Result.{result_unwrap_or}
+use Rattle.std.specs.Result.{result_unwrap_or}
 use Rattle.std.specs.List.{AllByRecursion, list_all}
 use Rattle.std.specs.Option.{option_map_or}
 use Rattle.std.proofs.lemmas.Bool.{and_parts, eqb-true, false≢true}
@@ -26,6 +26,8 @@ use Rattle.record_keeping.specs.declared.refusal.NotKept.{NotKept}
 use Rattle.record_keeping.specs.declared.refusal.NotKept.TheVariants.{Fault, Full, NoMemory}
 use Rattle.plan_commands.specs.Carrying.{CarriesOut}
 use Rattle.plan_commands.specs.Machines.{HaveMachines}
+use Rattle.plan_commands.specs.commands.Plan.{plan_records, plan_refusal, plan_reply}
+use Rattle.cmd_json.specs.declared.command.Command.TheVariants.{Plan as PlanAsked}
 use Rattle.restart.specs.Agrees.{PlansAsk}
 use Rattle.restart.specs.Laws.{TakenAgree}
 use Rattle.restart.specs.Machines.{has_tracking, is_tracked}
@@ -130,6 +132,27 @@ unanswered command old new (Some first) added reply v w (Err why) adds asks kept
   kept ∙ ap (λ (k : Keeping). record old { journal = k.journal }) h.1,
 )
 
+-- a plan does
+pub plan_adds : (name : List ℕ) (vms : List (List ℕ)) (interval : Option ℕ)
+    → AddsAlone (PlanAsked name vms interval)
+plan_adds name vms interval = record {
+  late = λ s. refl;
+  replies = λ reply s is. is;
+  after = λ s. refl;
+}
+
+pub plan_asks : (name : List ℕ) (vms : List (List ℕ)) (interval : Option ℕ) (server : Server)
+    (v : CtlValue) → IsStateOf v server.journal.records
+    → AsksFor (PlanAsked name vms interval) (state_of server) (plan_refusal name vms server.fleet v)
+    (plan_records name vms interval server.fleet v) plan_reply
+plan_asks name vms interval server v come =
+    let is = value_is v server.journal.records come in
+    record {
+      refusal_is = ap (plan_refusal name vms server.fleet) is;
+      records_are = ap (plan_records name vms interval server.fleet) is;
+      reply_is = refl;
+    }
+
 -- ---- what would be taken then
 
 -- the records that are added are new, and come to something behind those that are there
@@ -163,9 +186,11 @@ with_failure : (fleet : FleetState) (records : List Record) (failure : Option Fa
 with_failure fleet records None f is taken more = absurd (none-some f is)
 with_failure fleet records (Some g) f is taken more = (
   taken,
-  subst (λ (x : Failure). WouldBeTaken fleet (records ++ x.refused ∷ []))
-      (sym (same_Some g f is)) more,
-  tt,
+  (
+    subst (λ (x : Failure). WouldBeTaken fleet (records ++ x.refused ∷ []))
+        (sym (same_Some g f is)) more,
+    tt,
+  ),
 )
 
 front_taken : (fleet : FleetState) (why : NotKept) (added front left : List Record)

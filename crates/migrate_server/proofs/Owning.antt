@@ -75,6 +75,32 @@ same_vm fleet number vm later there now snap mig own =
     subst (λ (v : VmState). owner_of snap v.log ≡ Some (OfMigration mig))
     (same_Some vm later (sym there ∙ now)) own
 
+-- where one machine's log has one entry more
+entry_owned : (m : MachineState) (act : Act) (v : VmState) (fleet : FleetState)
+    → vm_of m.number fleet ≡ Some v → m.log ≡ v.log → Leaves m.log act
+    → OwnedStay fleet (with_log m.number (m.log ++ entry_of act ∷ []) fleet)
+entry_owned m act v fleet here log_is leaves number vm later there now snap mig own =
+    at (number == m.number) refl
+  where
+    log : List Entry
+    log = m.log ++ entry_of act ∷ []
+
+    at : (b : Bool) → (number == m.number) ≡ b → owner_of snap later.log ≡ Some (OfMigration mig)
+    at false e = same_vm fleet number vm later there
+        (sym (others_stay m.number number log fleet
+        (λ same. false≢true (sym e ∙ eq-eqb number m.number same))) ∙ now) snap mig own
+    at true e =
+        let same : number ≡ m.number = eqb-true number m.number e in
+        let vm_is : v ≡ vm = same_Some v vm
+        (sym here ∙ ap (λ (n : ℕ). vm_of n fleet) (sym same) ∙ there) in
+        let later_is : record v { log = log } ≡ later = same_Some (record v { log = log }) later
+        (sym (ap (option_map {T = VmState} (λ x. record x { log = log })) here)
+        ∙ sym (log_is_found m.number log fleet)
+        ∙ ap (λ (n : ℕ). vm_of n (with_log m.number log fleet)) (sym same) ∙ now) in
+        let owned = ap (owner_of snap) (log_is ∙ ap (λ (x : VmState). x.log) vm_is) ∙ own in
+        ap (λ (x : VmState). owner_of snap x.log) (sym later_is)
+        ∙ owner_of-last snap m.log (entry_of act) ∙ leaves snap mig owned
+
 act_owned : (vm : List ℕ) (act : List Entry → Act) (fleet : FleetState)
     → ((m : MachineState) → machine_named vm fleet ≡ Some m → Leaves m.log (act m.log))
     → OwnedStay fleet (after_act vm act fleet)
@@ -83,33 +109,10 @@ act_owned vm act fleet leaves = by (machine_named vm fleet) refl
     by : (o : Option MachineState) → machine_named vm fleet ≡ o → OwnedStay fleet
         (option_map_or (λ m. with_log m.number (m.log ++ entry_of (act m.log) ∷ []) fleet) o fleet)
     by None is = same_vm fleet
-    by (Some m) is number v later there now snap mig own = at (number == m.number) refl
-      where
-        log : List Entry
-        log = m.log ++ entry_of (act m.log) ∷ []
-
-        at : (b : Bool) → (number == m.number) ≡ b
-            → owner_of snap later.log ≡ Some (OfMigration mig)
-        at false e = same_vm fleet number v later there
-            (sym (others_stay m.number number log fleet
-            (λ same. false≢true (sym e ∙ eq-eqb number m.number same))) ∙ now) snap mig own
-        at true e =
-            let here = vm_here vm m fleet is in
-            let same : number ≡ m.number = eqb-true number m.number e in
-            let vm_is : here.0 ≡ v = same_Some here.0 v
-            (sym here.1.there ∙ ap (λ (n : ℕ). vm_of n fleet) (sym same) ∙ there) in
-            let log_is : m.log ≡ v.log = ap (λ (x : MachineState). x.log) here.1.same
-            ∙ ap (λ (x : VmState). x.log) vm_is in
-            let later_is : record v { log = log } ≡ later = same_Some (record v { log = log }) later
-            (sym (ap (option_map {T = VmState} (λ x. record x { log = log })) there)
-            ∙ sym (ap (λ (n : ℕ). option_map {T = VmState} (λ x. record x { log = log })
-            (vm_of n fleet)) (sym same))
-            ∙ sym (log_is_found m.number log fleet)
-            ∙ ap (λ (n : ℕ). vm_of n (with_log m.number log fleet)) (sym same) ∙ now) in
-            let owned = ap (owner_of snap) log_is ∙ own in
-            ap (λ (x : VmState). owner_of snap x.log) (sym later_is)
-            ∙ owner_of-last snap m.log (entry_of (act m.log))
-            ∙ leaves m is snap mig owned
+    by (Some m) is =
+        let here = vm_here vm m fleet is in
+        entry_owned m (act m.log) here.0 fleet here.1.there
+        (ap (λ (x : MachineState). x.log) here.1.same) (leaves m is)
 
 added_owned : (added : VmState) (fleet : FleetState)
     → OwnedStay fleet (record fleet { vms = fleet.vms ++ added ∷ [] })

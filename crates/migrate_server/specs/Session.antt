@@ -5,7 +5,7 @@
 -- that isn't built is refused, whatever it asks for. The last line of a run may be cut short, where
 -- the journal doesn't take its records: it has no answer then.
 use Rattle.std.specs.Prelude.{◌≡◌, ◌⊎◌, ℕ, List, [], ◌∷◌, ◌++◌, Bool, true, false, Option, Some, None, Ok, Err, MatchOption}
-use Rattle.core.specs.Result.{result_unwrap_or}
+use Rattle.std.specs.Result.{result_unwrap_or}
 use Rattle.cmd_json.specs.declared.command.Command.{Command}
 use Rattle.cmd_json.specs.declared.command.Command.TheVariants.{Move, Host, Vm, Enable, Write, Snapshot, Remove, Query, Read, Power, Reset, Inventory, Plan, Start, Run, Cutover, Cancel, Status, Target, Digest, Restart, Quit}
 use Rattle.fleet.specs.Fleet.{FleetState}
