@@ -1,7 +1,7 @@
 -- Runs one after another: what a crash may leave of the journal's disk behind a run is what the next
 -- run may find.
-use Rattle.std.proofs.Common.{◌≡◌, ℕ, List, [], ◌∷◌, Option, Some, None, inl, inr, refl, sym, ap, subst, ◌∙◌}
-use Rattle.std.specs.Prelude.{IfSome, IsSome}
+use Rattle.std.proofs.Common.{◌≡◌, ℕ, true, List, [], ◌∷◌, Option, Some, None, inl, inr, refl, sym, ap, subst, ◌∙◌}
+use Rattle.std.specs.Prelude.{IfSome, IsSome, IsTrue}
 use Rattle.std.specs.List.{AllByRecursion}
 use Rattle.std.proofs.lemmas.Bool.{false≢true}
 use Rattle.edge_traits.specs.Disk.{DiskContents, DiskState, WhereTold}
@@ -20,9 +20,10 @@ use Rattle.restart.specs.declared.refusal.ReopenRefused.{ReopenRefused}
 use Rattle.restart.specs.declared.refusal.ReopenRefused.TheVariants.{Journal, Strange, NoMemory}
 use Rattle.migrate_server.specs.Runs.{HoldsTogether, IsUnopened, Runs, RunsHoldTogether, CrashesHoldTogether, NoneIsStrange, FleetAgrees, status_unopened}
 use Rattle.migrate_server.specs.Serve.{WouldBeTaken}
-use Rattle.migrate_server.specs.World.{World}
+use Rattle.migrate_server.specs.World.{World, with_journal}
 use Rattle.migrate_server.specs.declared.status.Status.{Status}
 use Rattle.migrate_server.specs.declared.status.Status.TheVariants.{StrangeJournal}
+use Rattle.migrate_server.proofs.Serving.{serves_sound}
 
 -- ---- what is left of a disk whose controller wasn't opened
 
@@ -128,3 +129,16 @@ all_agree agree fleet (records ∷ lists) is all = (
 
 pub fleet_agrees : TakenAgree → FleetAgrees
 fleet_agrees agree world is h = all_agree agree world.fleet h.lists is h.taken
+
+-- ---- a sound store
+
+pub runs_sound : (old new : World) (status : Status) → Runs old new status
+    → IsTrue old.store.sound
+    → (new.store.sound ≡ true) × (new.store.faults ≡ old.store.faults)
+runs_sound old new status (inl u) sound = (
+  ap (λ (w : World). w.store.sound) u.kept ∙ sound,
+  ap (λ (w : World). w.store.faults) u.kept,
+)
+runs_sound old new status (inr s) sound =
+    let desk = with_journal s.opened old in
+    serves_sound desk (with_journal s.closes.closed new) status s.closes.serves sound

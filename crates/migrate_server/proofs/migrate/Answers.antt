@@ -1,11 +1,13 @@
-use Rattle.std.proofs.Common.{refl}
-use Rattle.migrate_server.proofs.Serving.{serves_sound}
+use Rattle.migrate_server.specs.World.{world_of}
+use Rattle.migrate_server.proofs.Chains.{runs_sound}
 use Rattle.migrate_server.proofs.migrate.Goals as goal
-use Rattle.migrate_server.proofs.migrate.Goals.{then-is_empty, else-is_empty}
 
 pub returns-clause-sound : goal.returns-clause-sound
-returns-clause-sound g c = λ sound.
-    elim c.if-is_empty.branch [
-      | then-is_empty w ↦ rw w.devices-is (serves_sound _ _ _ w.serve.ensures.served sound)
-      | else-is_empty w ↦ rw w.devices-is (sound, refl)
-    ]
+returns-clause-sound g c =
+    let old = world_of (g.S.Source.state c.args.input.now) (g.K.Sink.state c.args.out.now)
+    (g.D.Disk.state c.args.devices.disk) (g.T.VolumeStore.state c.args.devices.volumes)
+    c.args.fleet in
+    let new = world_of (g.S.Source.state c.run.new.input) (g.K.Sink.state c.run.new.out)
+    (g.D.Disk.state c.run.result.disk) (g.T.VolumeStore.state c.run.result.volumes)
+    c.run.result.fleet in
+    runs_sound old new c.run.result.status c.run.ensures.runs
