@@ -1,6 +1,6 @@
 -- What the records of a journal come to is no larger than the journal's file, so numbers of 32 bits
 -- don't run out.
-use Rattle.std.proofs.Common.{◌≡◌, ℕ, ◌+◌, ◌-◌, ◌==◌, ◌<◌, ◌≤◌, ◌^◌, Bool, true, false, cond, List, [], ◌∷◌, length, get_or, Option, Some, None, Ok, Err, refl, ap, subst, arith, length-append, length-drop}
+use Rattle.std.proofs.Common.{◌≡◌, ℕ, ◌+◌, ◌-◌, ◌<◌, ◌≤◌, ◌^◌, Bool, true, false, cond, List, [], ◌∷◌, length, get_or, Option, Some, None, Ok, Err, refl, ap, subst, arith, length-append, length-drop}
 use Rattle.std.specs.List.{sum_by, flat_map}
 use Rattle.std.specs.Option.{option_map_or}
 use Rattle.std.specs.Prelude.{nat_lt}
@@ -17,10 +17,11 @@ use Rattle.record_codec.specs.Record.{word_bytes, spelling, spelled_size}
 use Rattle.record_codec.proofs.Sizes.{spellings_have_their_size}
 use Rattle.ctl_state.specs.Fold.{after_record, after_from, after_step_in, plan_of, IsStateOf}
 use Rattle.ctl_state.specs.MayStand.{record_may_stand}
-use Rattle.ctl_state.specs.Migration.{change_at}
 use Rattle.ctl_state.specs.Steps.{new_migration, after_step}
 use Rattle.ctl_state.specs.Value.{CtlValue, no_records, change_numbered, plan_in, course_in, plan_named, waiting}
+use Rattle.ctl_state.specs.declared.migration.Migration.{Migration}
 use Rattle.ctl_state.specs.declared.plans.PlanCourse.{PlanCourse}
+use Rattle.ctl_state.proofs.KeptFacts.{by_number}
 use Rattle.ctl_state.proofs.ListFacts.{length-change_at, numbered_at}
 use Rattle.plan_commands.specs.Laws.{PlansFindNumbers, StartsFindNumbers}
 use Rattle.plan_commands.specs.commands.Start.{waiting_in}
@@ -31,16 +32,14 @@ use Rattle.plan_commands.specs.commands.Start.{waiting_in}
 abbrev size_of : CtlValue → ℕ
 size_of v = length v.plans + length v.migrations + sum_by (λ (p : Plan). length p.vms) v.plans
 
-length-changed : {X : Type 0} (xs : List X) (number : ℕ) (f : X → X)
-    → length (change_numbered xs number f) ≡ length xs
-length-changed xs number f = elim (number == 0) as
-    (λ b. length (cond b xs (change_at xs (number - 1) f)) ≡ length xs)
-    [ true ↦ refl | false ↦ length-change_at xs (number - 1) f ]
-
 step_grows : (v : CtlValue) (mig : ℕ) (r : Record)
     → size_of (after_step_in v mig r) ≤ size_of v + spelled_size r
 step_grows v mig r =
-    let same = length-changed v.migrations mig (λ m. after_step m r) in omega (arith, same)
+    let change : Migration → Migration = λ m. after_step m r in
+    let same : length (change_numbered v.migrations mig change) ≡ length v.migrations =
+    by_number (λ (ms : List Migration). length ms ≡ length v.migrations) v.migrations mig change
+    refl (length-change_at v.migrations (mig - 1) change) in
+    omega (arith, same)
 
 grows : (v : CtlValue) (r : Record) → size_of (after_record v r) ≤ size_of v + spelled_size r
 grows v (PlanMade plan name interval vms) =

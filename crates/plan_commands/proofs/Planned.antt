@@ -3,8 +3,7 @@ use Rattle.std.proofs.Common.{◌≡◌, ℕ, ◌+◌, ◌<◌, ◌≤◌, ◌==
 use Rattle.std.specs.Prelude.{option_and_then, unwrap_or, IfSome, IsSomeAnd, if◌then◌else◌}
 use Rattle.std.specs.List.{AllByRecursion, IsDistinct, find, list_any}
 use Rattle.std.specs.Option.{option_or}
-use Rattle.std.proofs.lemmas.Bool.{eqb-true, eq-eqb, false≢true}
-use Rattle.std.proofs.lemmas.Bool.Decides.{nat_tests}
+use Rattle.std.proofs.lemmas.Bool.{eqb-true, eqb-false, eq-eqb, ne_eqb, false≢true}
 use Rattle.std.proofs.lemmas.List.{length-map}
 use Rattle.std.proofs.lemmas.List.Elements.{All-from_recursion, recursion_from_All}
 use Rattle.std.proofs.lemmas.Map.Steps.{length-le_from_distinct_below}
@@ -100,14 +99,12 @@ listed_within fleet v (other ∷ vms) vm idle h =
 
 -- ---- they differ
 
-differs : (vm other : ℕ) → (vm == other) ≡ false → (other == vm) ≡ false
-differs vm other h = grind (arith, nat_tests)
-
 unlisted : (vm : ℕ) (vms : List ℕ) → AllByRecursion (λ other. (vm == other) ≡ false) vms
     → is_listed vms vm ≡ false
 unlisted vm [] h = refl
 unlisted vm (other ∷ vms) h =
-    ap (λ b. b || is_listed vms vm) (differs vm other h.0) ∙ unlisted vm vms h.1
+    ap (λ b. b || is_listed vms vm) (ne_eqb other vm (λ same. eqb-false vm other h.0 (sym same)))
+    ∙ unlisted vm vms h.1
 
 none_doubled : (vms : List ℕ) → IsDistinct ◌==◌ vms → has_double vms ≡ false
 unfolding IsDistinct
