@@ -35,11 +35,7 @@ pub(crate) fn fold_records(
 }
 
 /// Whether each migration that is live has its current snapshot.
-fn have_snapshots(
-    logs: &mut ReadLogs,
-    fleet: &Fleet,
-    state: &CtlState,
-) -> Result<bool, NoMemory>
+fn have_snapshots(logs: &mut ReadLogs, fleet: &Fleet, state: &CtlState) -> Result<bool, NoMemory>
     requires { AreOf fleet.now logs.old.facts }
     ensures { IfOk result (λ said.
         MatchBool said (HaveSnapshots fleet.now state.now) (LackASnapshot fleet.now state.now)) }
