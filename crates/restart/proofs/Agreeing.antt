@@ -112,8 +112,9 @@ logged : (fleet : FleetState) (records : List Record)
     → IsInLog fleet m r
 logged fleet records told agree front rest r v m split come before =
     option_and_then_some (migration_in v) (migration_of r) m before (λ mig of there.
-    let on = (values_go_on front (r ∷ rest) v agree.value come
-    (sym (ap after split) ∙ agree.come_to)).migrations mig m there in
+    let goes = values_go_on front (r ∷ rest) v agree.value come
+    (sym (ap after split) ∙ agree.come_to) in
+    let on = goes.migrations mig m there in
     let asks = agree.migrations mig on.now on.there in
     by mig of there on.now on.same.vm (facts_at on.now.vm fleet) refl asks)
   where
@@ -161,9 +162,9 @@ last_not fleet records told number agree last =
     let value = one_value records last.value agree.value last.stand.come_to agree.come_to in
     let there : migration_in agree.value lack.mig ≡ Some m =
     ap (λ (v : CtlValue). migration_in v lack.mig) (sym value) ∙ lack.known in
-    let number_is = ((values_are_sound records last.value last.stand.come_to)
-    .migrations lack.mig m lack.known).numbered in
-    lack.lacks (has lack.mig m (agree.migrations lack.mig m there) number_is)
+    let sound = values_are_sound records last.value last.stand.come_to in
+    let member = sound.migrations lack.mig m lack.known in
+    lack.lacks (has lack.mig m (agree.migrations lack.mig m there) member.numbered)
   where
     has : (mig : ℕ) (m : Migration) → MigrationAsks fleet records told mig m → m.number ≡ mig
         → HasItsSnapshot fleet m

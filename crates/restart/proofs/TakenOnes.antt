@@ -131,14 +131,17 @@ Front fleet front w = IsStateOf w front × (AreBorneOut fleet front → AreThere
 one_front : (fleet : FleetState) (front : List Record) (w : CtlValue) (r : Record)
     → Front fleet front w → record_may_stand w r ≡ true
     → Front fleet (front ++ r ∷ []) (after_record w r)
-one_front fleet front w r old may = (goes_on w front r old.0 may, λ borne.
-    let before = old.1 (front_borne fleet front (r ∷ []) borne) in
-    let one = last_borne fleet front r w borne old.0 in
-    record {
-      plans = plans_ask fleet w r before.plans one.named;
-      migrations = λ mig n there. migration_asks fleet w r mig n before.migrations one.named
-          (came w r mig n may there);
-    })
+one_front fleet front w r old may = (
+  goes_on w front r old.0 may,
+  λ borne.
+      let before = old.1 (front_borne fleet front (r ∷ []) borne) in
+      let one = last_borne fleet front r w borne old.0 in
+      record {
+        plans = plans_ask fleet w r before.plans one.named;
+        migrations = λ mig n there. migration_asks fleet w r mig n before.migrations one.named
+            (came w r mig n may there);
+      },
+)
 
 all_there : (fleet : FleetState) (records : List Record) (v : CtlValue) → StandIn fleet records v
     → AreThere fleet v
@@ -228,8 +231,8 @@ log_asks : (fleet : FleetState) (records : List Record) (v : CtlValue) (mig : �
     (at : MachineFacts) → StandIn fleet records v → migration_in v mig ≡ Some m
     → facts_at m.vm fleet ≡ Some at → RecordsAsk mig at records
 log_asks fleet records v mig m at stand there found front rest r w earlier split of come known =
-    let on = (values_go_on front (r ∷ rest) w v come (sym (ap after split) ∙ stand.come_to))
-    .migrations mig earlier known in
+    let goes = values_go_on front (r ∷ rest) w v come (sym (ap after split) ∙ stand.come_to) in
+    let on = goes.migrations mig earlier known in
     let now : on.now ≡ m = same_Some on.now m (sym on.there ∙ there) in
     let vm : m.vm ≡ earlier.vm = ap (λ (x : Migration). x.vm) (sym now) ∙ on.same.vm in
     let borne = (stand.borne_out front rest r w split come).logged earlier
