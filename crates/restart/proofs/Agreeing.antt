@@ -149,8 +149,8 @@ first_not fleet records told number agree first = by first.rejected
         first.before.come_to (sym (ap after first.split) ∙ agree.come_to)
 
     by : IsRejected fleet first.value first.strange → ⊥
-    by (inl no) = false≢true (sym no ∙ may)
-    by (inr no) = no (borne fleet records told agree first.front first.rest first.strange
+    by (inl not_may) = false≢true (sym not_may ∙ may)
+    by (inr unborne) = unborne (borne fleet records told agree first.front first.rest first.strange
         first.value first.split first.before.come_to may)
 
 last_not : (fleet : FleetState) (records : List Record)

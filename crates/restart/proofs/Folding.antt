@@ -1,8 +1,8 @@
 -- Records that stand, one more of them at a time, and the migrations that have their snapshots, one
 -- more at a time.
 use Rattle.std.proofs.Common.{◌≡◌, ℕ, ◌+◌, ◌-◌, ◌==◌, ◌<◌, ◌≤◌, Bool, true, false, cond, List, [], ◌∷◌, ◌++◌, length, take, drop, get_or, Option, Some, None, Result, Ok, Err, refl, ap, subst, sym, ◌∙◌, arith, below_more}
-use Rattle.std.specs.Prelude.{slice_get}
-use Rattle.std.proofs.lemmas.Bool.{eqb-true}
+use Rattle.std.specs.Prelude.{slice_get, IsTrue, MatchBool, ◌↔◌}
+use Rattle.std.proofs.lemmas.Bool.{eqb-true, false≢true}
 use Rattle.std.proofs.lemmas.List.{take_more, take_all, length-take-le}
 use Rattle.std.proofs.lemmas.Option.{same_Some, slice_get_within, slice_get_read}
 use Rattle.fleet.specs.Fleet.{FleetState}
@@ -81,7 +81,7 @@ pub strange_at : (fleet : FleetState) (records : List Record) (place : ℕ) (v :
     (r : Record) → place < length records → r ≡ get_or records place r
     → StandTo fleet records place v → IsRejected fleet v r
     → IsFirstStrange fleet records (place + 1)
-strange_at fleet records place v r within is to no =
+strange_at fleet records place v r within is to denied =
     let long : length (take place records) ≡ place =
     length-take-le place records (omega (arith, within)) in
     record {
@@ -92,7 +92,7 @@ strange_at fleet records place v r within is to no =
       split = split_at records place r within is;
       counted = ap (λ n. n + 1) (sym long);
       before = to.stand;
-      rejected = no;
+      rejected = denied;
     }
 
 -- ---- snapshots
@@ -110,11 +110,14 @@ have_more fleet migrations place m within is to has =
     place to (λ n at. subst (HasItsSnapshot fleet) (same_Some m n
     (sym (slice_get_read migrations (length migrations) place m refl within is) ∙ at)) has)
 
-pub have_all : (fleet : FleetState) (v : CtlValue) (place : ℕ) → length v.migrations ≤ place
-    → HaveTo fleet place v.migrations → HaveSnapshots fleet v
-have_all fleet v place end to mig m there =
-    let at = (numbered_at v.migrations mig m there).1 in
-    let within = slice_get_within v.migrations (mig - 1) m at in
+pub have_all : (fleet : FleetState) (v : CtlValue) (migrations : List Migration) (place : ℕ)
+    → migrations ≡ v.migrations → length migrations ≤ place → HaveTo fleet place migrations
+    → HaveSnapshots fleet v
+have_all fleet v migrations place all end to mig m there =
+    let at : slice_get migrations (mig - 1) ≡ Some m =
+    ap (λ (xs : List Migration). slice_get xs (mig - 1)) all
+    ∙ (numbered_at v.migrations mig m there).1 in
+    let within = slice_get_within migrations (mig - 1) m at in
     to (mig - 1) (omega (arith, within, end)) m at
 
 numbered_next : {X : Type 0} (xs : List X) (place : ℕ)
@@ -126,13 +129,27 @@ numbered_next {X} xs place = test (place + 1 == 0) refl
     test true e = absurd (omega (arith, eqb-true (place + 1) 0 e))
     test false e = let back : place + 1 - 1 ≡ place = omega arith in ap (slice_get xs) back
 
-pub one_lacks : (fleet : FleetState) (v : CtlValue) (place : ℕ) (m : Migration)
-    → place < length v.migrations → m ≡ get_or v.migrations place m
-    → ¬ HasItsSnapshot fleet m → LackASnapshot fleet v
-one_lacks fleet v place m within is no = record {
+pub one_lacks : (fleet : FleetState) (v : CtlValue) (migrations : List Migration) (place : ℕ)
+    (m : Migration) → migrations ≡ v.migrations → place < length migrations
+    → m ≡ get_or migrations place m → ¬ HasItsSnapshot fleet m → LackASnapshot fleet v
+one_lacks fleet v migrations place m all within is lacking = record {
   mig = place + 1;
   migration = m;
   known = numbered_next v.migrations place
-      ∙ slice_get_read v.migrations (length v.migrations) place m refl within is;
-  lacks = no;
+      ∙ ap (λ (xs : List Migration). slice_get xs place) (sym all)
+      ∙ slice_get_read migrations (length migrations) place m refl within is;
+  lacks = lacking;
 }
+
+-- ---- what a test told
+
+pub told_false : {P : Type 0} (said : Bool) → (IsTrue said ↔ P) → said ≡ false → ¬ P
+told_false said tells is holds = false≢true (sym is ∙ tells.1 holds)
+
+pub at_false : (P Q : Type 0) (said : Bool) → said ≡ false → MatchBool said P Q → Q
+at_false P Q true is h = absurd (false≢true (sym is))
+at_false P Q false is h = h
+
+pub at_true : (P Q : Type 0) (said : Bool) → said ≡ true → MatchBool said P Q → P
+at_true P Q true is h = h
+at_true P Q false is h = absurd (false≢true is)

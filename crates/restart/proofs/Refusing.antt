@@ -20,21 +20,21 @@ use Rattle.restart.specs.declared.refusal.ReopenRefused.TheVariants.{Journal, St
 
 pub journal_says : (fleet : FleetState) (why : JournalRefused) (old new : DiskState)
     → Refuses why old new → SaysWhy fleet (told_of why) old new
-journal_says fleet (DiskFault at) old new no = no.cause
-journal_says fleet NotAJournal old new no = no.cause
-journal_says fleet (BadRecord number) old new no = no.cause
-journal_says fleet (Full len) old new no = absurd no.cause
-journal_says fleet Wanting old new no = no.cause
+journal_says fleet (DiskFault at) old new refused = refused.cause
+journal_says fleet NotAJournal old new refused = refused.cause
+journal_says fleet (BadRecord number) old new refused = refused.cause
+journal_says fleet (Full len) old new refused = absurd refused.cause
+journal_says fleet Wanting old new refused = refused.cause
 
 pub unread : (fleet : FleetState) (why : JournalRefused) (old new : DiskState)
     → Refuses why old new → IsSyncedOrNot old new → IsLeft fleet old new
-unread fleet why old new no synced = record { images = no.images; file = inl synced }
+unread fleet why old new refused synced = record { images = refused.images; file = inl synced }
 
 pub unrepaired : (fleet : FleetState) (why : JournalRefused) (records : List Record)
     (v : CtlValue) (old between new : DiskState) → Refuses why old new → Reads old records between
     → AreTaken fleet records v → IsLeft fleet old new
-unrepaired fleet why records v old between new no reads taken = record {
-  images = no.images;
+unrepaired fleet why records v old between new refused reads taken = record {
+  images = refused.images;
   file = inr (record { records = records; value = v; told = reads.told; taken = taken });
 }
 

@@ -37,12 +37,12 @@ next_may front rest r v w come good = by (record_may_stand v r) refl
 pub not_rejected : (fleet : FleetState) (records front rest : List Record) (r : Record)
     (v w : CtlValue) → StandIn fleet records w → records ≡ front ++ r ∷ rest → IsStateOf v front
     → IsRejected fleet v r → ⊥
-not_rejected fleet records front rest r v w stand split come (inl no) =
+not_rejected fleet records front rest r v w stand split come (inl not_may) =
     let yes = next_may front rest r v w come (sym (ap after split) ∙ stand.come_to) in
-    let e : ◌≡◌ {A = Bool} true false = sym yes ∙ no in
+    let e : ◌≡◌ {A = Bool} true false = sym yes ∙ not_may in
     cc
-not_rejected fleet records front rest r v w stand split come (inr no) =
-    no (stand.borne_out front rest r v split come)
+not_rejected fleet records front rest r v w stand split come (inr unborne) =
+    unborne (stand.borne_out front rest r v split come)
 
 first_not : (fleet : FleetState) (records : List Record) (w : CtlValue) (number : ℕ)
     → StandIn fleet records w → IsFirstStrange fleet records number → ⊥

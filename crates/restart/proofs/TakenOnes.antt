@@ -220,7 +220,7 @@ told_some (Some y) P x h e = subst P (same_Some y x e) h
 
 pub some_told : {X : Type 0} (o : Option X) (P : X → Type 0) (x : X) → o ≡ Some x → P x
     → IsSomeAnd o P
-some_told o P x e p = subst (λ (q : Option X). IsSomeAnd q P) (sym e) p
+some_told {X} o P x e p = subst (λ (q : Option X). IsSomeAnd q P) (sym e) p
 
 -- the migration of a record, as it was before it
 pub before_is : (v : CtlValue) (r : Record) (mig : ℕ) (m : Migration) → migration_of r ≡ Some mig
