@@ -1,0 +1,4 @@
+pub mod PlaceLemmas
+pub mod DiskLemmas
+pub mod SnapshotLemmas
+pub mod StageLemmas
