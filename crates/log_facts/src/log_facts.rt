@@ -1,5 +1,5 @@
 //! The log of a machine, read once, and whether it bears out what a migration's records say.
-ghost use Rattle.std.specs.Prelude.{◌≡◌, ◌↔◌, IfOk, IfSome, IsTrue, Some, drop};
+ghost use Rattle.std.specs.Prelude.{◌≡◌, ◌↔◌, IfOk, IfSome, IsTrue, Some};
 ghost use Rattle.std.specs.List.{list_any};
 ghost use Rattle.log_model.specs.declared.entry.Owner.{Owner};
 ghost use Rattle.log_model.specs.declared.entry.Act.{Act};
@@ -9,7 +9,7 @@ ghost use Rattle.log_model.specs.Link.{is_active, Owns};
 ghost use Rattle.log_model.specs.Marks.{tracking, id_at};
 ghost use Rattle.log_model.specs.Frozen.{off_place};
 ghost use Rattle.ctl_state.specs.Migration.{same_phase};
-ghost use Rattle.ctl_state.specs.Asks.{IsItsSnapshot, AreIdsAt, HasStageWritten, WasResetFrom, RecordAsks, SnapshotAsks, is_removed, is_removing, meets_volumes};
+ghost use Rattle.ctl_state.specs.Asks.{IsItsSnapshot, AreIdsAt, HasStageWritten, WasResetFrom, RecordAsks, SnapshotAsks, is_removed, is_removing, meets_volumes, may_lack};
 ghost use Rattle.log_facts.specs.LogFacts.{facts_of};
 
 use crate::disks::{DiskFacts, disks_of};
@@ -19,7 +19,7 @@ use crate::stages::changed_sectors;
 use basics::NoMemory;
 use change_id::ChangeId;
 use ctl_state::Migration;
-use log_model::{Act, Entry, Owner, in_force, through};
+use log_model::{Act, Entry, Owner, between, in_force, through};
 use phase_table::Phase;
 use record_codec::Record;
 use source_vm::Machine;
@@ -126,16 +126,17 @@ impl LogFacts {
     pub fn has_its_snapshot(&self, m: &Migration) -> bool
         ensures { IsTrue result ↔ SnapshotAsks m.now.number self.now.log m.now }
     {
-        if !m.is_live() {
-            return true;
+        match m.snap {
+            Some(snap) if m.is_live() => self.may_lack(snap, m) || self.is_owned(m.number, snap),
+            _ => true,
         }
-        let Some(snap) = m.snap else {
-            return false;
-        };
-        is_removing(m)
-            || m.cancel
-            || (meets_volumes(m) && self.was_removed(snap))
-            || self.is_owned(m.number, snap)
+    }
+
+    /// Whether the snapshot may be gone.
+    fn may_lack(&self, snap: u32, m: &Migration) -> bool
+        ensures { result ≡ may_lack snap self.now.log m.now }
+    {
+        is_removing(m) || m.cancel || (meets_volumes(m) && self.was_removed(snap))
     }
 
     /// Whether a removal of the snapshot stands in the log.
@@ -225,7 +226,8 @@ impl LogFacts {
     {
         let index = (snap as usize).checked_sub(1)?;
         let facts = self.disks.get(disk as usize)?;
-        facts.ids.get(index).copied()
+        let id = facts.ids.get(index)?;
+        Some(*id)
     }
 
     /// Whether a stage of the disk that is done, on the snapshot of this mark, has written so many
@@ -263,17 +265,19 @@ impl LogFacts {
     {
         match self.disks.get(disk as usize) {
             Some(facts) => facts.was_reset_from(place),
-            None => has_reset(machine.log(), disk, place),
+            None => {
+                let log = machine.log();
+                has_reset(between(log, place as usize, log.len()), disk)
+            }
         }
     }
 }
 
-/// Whether the log has a reset of the disk from the place on.
-fn has_reset(log: &[Entry], disk: u32, place: u64) -> bool
-    ensures { result ≡ list_any (λ e. resets disk e.act) (drop place log.now) }
+/// Whether one of the entries resets the disk.
+fn has_reset(entries: &[Entry], disk: u32) -> bool
+    ensures { result ≡ list_any (λ e. resets disk e.act) entries.now }
 {
-    let from = log.len().min(place as usize);
-    log[from..].iter().any(|entry| entry.act.resets(disk))
+    entries.iter().any(|entry| entry.act.resets(disk))
 }
 
 /// Whether the entry takes the snapshot for the migration.
