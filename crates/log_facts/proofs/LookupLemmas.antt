@@ -1,6 +1,7 @@
 -- What a legal log says of a snapshot, as it stands at the snapshot's place or number.
-use Rattle.std.proofs.Common.{◌≡◌, ℕ, ◌+◌, ◌-◌, ◌<◌, ◌≤◌, List, [], ◌∷◌, ◌++◌, length, take, Bool, true, false, ◌||◌, Option, Some, None, IsSomeAnd, subst, sym, ap, refl, ◌∙◌, arith, inl, inr, ◌⊎◌}
+use Rattle.std.proofs.Common.{◌≡◌, ℕ, ◌+◌, ◌-◌, ◌<◌, ◌≤◌, List, [], ◌∷◌, ◌++◌, length, take, Bool, true, false, eqb, ◌||◌, Option, Some, None, IsSomeAnd, subst, sym, ap, refl, ◌∙◌, arith, inl, inr, ◌⊎◌}
 use Rattle.std.specs.List.{slice_get, list_any}
+use Rattle.std.specs.Option.{option_eq}
 use Rattle.std.proofs.Math.Bool.{or-false}
 use Rattle.std.proofs.lemmas.Bool.{eq-eqb, eqb-true, false≢true, false_from_ne_true, or_cases}
 use Rattle.std.proofs.lemmas.Option.{slice_get_within, same_Some, none-some}
@@ -88,3 +89,13 @@ pub taken_within : (mig snap place : ℕ) (log : List Entry) → IsItsSnapshot m
 taken_within mig snap place log its =
     let there = taken_there mig snap place log (slice_get log place) refl its.taken in
     slice_get_within log place there.0 there.1
+
+-- ---- a place is the one that was asked for
+
+pub is_that : (found : Option ℕ) (place : ℕ) → option_eq eqb found (Some place) ≡ true → found ≡ Some place
+is_that None place is = absurd (false≢true is)
+is_that (Some n) place is = ap Some (eqb-true n place is)
+
+pub are_same : (found : Option ℕ) (place : ℕ) → found ≡ Some place → option_eq eqb found (Some place) ≡ true
+are_same None place is = absurd (none-some place is)
+are_same (Some n) place is = eq-eqb n place (same_Some n place is)
