@@ -8,17 +8,16 @@ use Rattle.std.proofs.lemmas.List.{length_push, length-take-le, take-append-le, 
 use Rattle.std.proofs.lemmas.List.Folds.{list_any-append}
 use Rattle.std.proofs.lemmas.List.Sums.{sum_by-append}
 use Rattle.basics.proofs.ItemAt.{slice_get-front, slice_get-last}
-use Rattle.change_id.specs.declared.ChangeId.{ChangeId}
 use Rattle.change_id.proofs.Ends.{read-front, read-last}
 use Rattle.change_id.proofs.Counts.{counted-last}
 use Rattle.log_model.specs.declared.entry.Entry.{Entry}
 use Rattle.log_model.specs.Entry.{is_snap, is_enable, resets}
 use Rattle.log_model.specs.Legal.{taken}
-use Rattle.log_model.specs.Marks.{reading_of, epoch, counted, counted_after, in_force}
+use Rattle.log_model.specs.Marks.{reading_of, epoch, counted, counted_after}
 use Rattle.log_model.proofs.OwnedLaws.{taken-append}
 use Rattle.log_facts.specs.declared.disks.IdCount.{IdCount}
 use Rattle.log_facts.specs.declared.disks.DiskFacts.{DiskFacts}
-use Rattle.log_facts.specs.Disks.{count_after, count_of, id_of, AreIds, IsLastReset, IsDisk, AreDisks}
+use Rattle.log_facts.specs.Disks.{count_after, count_of, AreCounts, IsLastReset, IsDisk, AreDisks}
 use Rattle.log_facts.proofs.PlaceLemmas.{taken_more}
 
 -- ---- how far the numbers have come
@@ -41,19 +40,19 @@ pub count_more : (d : ℕ) (log : List Entry) (i : ℕ) (count : IdCount) (e : E
 count_more d log i count e less is at =
     ap (λ (x : IdCount). count_after d x e) at ∙ count_last d (take i log) e ∙ ap (count_of d) (sym (taken_more log i e less is))
 
--- ---- the identifiers
+-- ---- at each snapshot
 
 snaps_here : (b : Bool) (e : Entry) → is_snap e.act ≡ b → taken (e ∷ []) ≡ cond b 1 0
 snaps_here b e is = omega (arith, ap (λ (x : Bool). cond {A = ℕ} x 1 0) is)
 
--- the identifiers of the snapshots before the last entry
-ids_front : (machine d : ℕ) (log : List Entry) (e : Entry) (ids : List (Option ChangeId)) → AreIds machine d log ids → (place : ℕ) (x : Entry) → place < length log
+-- those of the snapshots before the last entry
+counts_front : (d : ℕ) (log : List Entry) (e : Entry) (counts : List IdCount) → AreCounts d log counts → (place : ℕ) (x : Entry) → place < length log
     → slice_get (log ++ e ∷ []) place ≡ Some x → is_snap x.act ≡ true
-    → slice_get ids (taken (take place (log ++ e ∷ []))) ≡ Some (in_force machine d (take (place + 1) (log ++ e ∷ [])))
-ids_front machine d log e ids are place x less at snaps =
-    ap (λ (l : List Entry). slice_get ids (taken l)) (take-append-le place log (e ∷ []) (omega (arith, less)))
+    → slice_get counts (taken (take place (log ++ e ∷ []))) ≡ Some (count_of d (take (place + 1) (log ++ e ∷ [])))
+counts_front d log e counts are place x less at snaps =
+    ap (λ (l : List Entry). slice_get counts (taken l)) (take-append-le place log (e ∷ []) (omega (arith, less)))
     ∙ are.each place x (read-front log (e ∷ []) place x less at) snaps
-    ∙ ap (λ (l : List Entry). Some (in_force machine d l)) (sym (take-append-le (place + 1) log (e ∷ []) (omega (arith, less))))
+    ∙ ap (λ (l : List Entry). Some (count_of d l)) (sym (take-append-le (place + 1) log (e ∷ []) (omega (arith, less))))
 
 at_end : (log : List Entry) (e x : Entry) (place : ℕ) → length log ≤ place → slice_get (log ++ e ∷ []) place ≡ Some x → place ≡ length log
 at_end log e x place past at = omega (arith, past, slice_get_within (log ++ e ∷ []) place x at, length_push log e)
@@ -61,29 +60,29 @@ at_end log e x place past at = omega (arith, past, slice_get_within (log ++ e �
 is_last : (log : List Entry) (e x : Entry) (place : ℕ) → length log ≤ place → slice_get (log ++ e ∷ []) place ≡ Some x → e ≡ x
 is_last log e x place past at = read-last log e x (ap (slice_get (log ++ e ∷ [])) (sym (at_end log e x place past at)) ∙ at)
 
-pub ids_pushed : (machine d : ℕ) (log : List Entry) (e : Entry) (ids : List (Option ChangeId)) (id : Option ChangeId) → is_snap e.act ≡ true
-    → id ≡ in_force machine d (log ++ e ∷ []) → AreIds machine d log ids → AreIds machine d (log ++ e ∷ []) (ids ++ id ∷ [])
-ids_pushed machine d log e ids id snap is are = record {
-  one_each = omega (arith, length_push ids id, are.one_each, taken-append log (e ∷ []), snaps_here true e snap);
+pub counts_pushed : (d : ℕ) (log : List Entry) (e : Entry) (counts : List IdCount) (count : IdCount) → is_snap e.act ≡ true
+    → count ≡ count_of d (log ++ e ∷ []) → AreCounts d log counts → AreCounts d (log ++ e ∷ []) (counts ++ count ∷ [])
+counts_pushed d log e counts count snap is are = record {
+  one_each = omega (arith, length_push counts count, are.one_each, taken-append log (e ∷ []), snaps_here true e snap);
   each = λ place x at snaps. elim (cases_lt place (length log)) [
     | inl less ↦
-        let was = ids_front machine d log e ids are place x less at snaps in
-        slice_get-front ids (id ∷ []) (taken (take place (log ++ e ∷ []))) (slice_get_within ids _ _ was) ∙ was
+        let was = counts_front d log e counts are place x less at snaps in
+        slice_get-front counts (count ∷ []) (taken (take place (log ++ e ∷ []))) (slice_get_within counts _ _ was) ∙ was
     | inr past ↦
         let here : place ≡ length log = at_end log e x place past at in
         let front : take place (log ++ e ∷ []) ≡ log = take-append-le place log (e ∷ []) (omega (arith, here)) ∙ take_all place log (omega (arith, here)) in
         let whole : take (place + 1) (log ++ e ∷ []) ≡ log ++ e ∷ [] = take_all (place + 1) (log ++ e ∷ []) (omega (arith, length_push log e, here)) in
-        ap (λ (l : List Entry). slice_get (ids ++ id ∷ []) (taken l)) front ∙ ap (slice_get (ids ++ id ∷ [])) (sym are.one_each) ∙ slice_get-last ids id
-        ∙ ap Some is ∙ ap (λ (l : List Entry). Some (in_force machine d l)) (sym whole)
+        ap (λ (l : List Entry). slice_get (counts ++ count ∷ []) (taken l)) front ∙ ap (slice_get (counts ++ count ∷ [])) (sym are.one_each) ∙ slice_get-last counts count
+        ∙ ap Some is ∙ ap (λ (l : List Entry). Some (count_of d l)) (sym whole)
   ];
 }
 
-pub ids_same : (machine d : ℕ) (log : List Entry) (e : Entry) (ids : List (Option ChangeId)) → is_snap e.act ≡ false
-    → AreIds machine d log ids → AreIds machine d (log ++ e ∷ []) ids
-ids_same machine d log e ids none are = record {
+pub counts_same : (d : ℕ) (log : List Entry) (e : Entry) (counts : List IdCount) → is_snap e.act ≡ false
+    → AreCounts d log counts → AreCounts d (log ++ e ∷ []) counts
+counts_same d log e counts none are = record {
   one_each = omega (arith, are.one_each, taken-append log (e ∷ []), snaps_here false e none);
   each = λ place x at snaps. elim (cases_lt place (length log)) [
-    | inl less ↦ ids_front machine d log e ids are place x less at snaps
+    | inl less ↦ counts_front d log e counts are place x less at snaps
     | inr past ↦ absurd (false≢true (sym none ∙ ap (λ (y : Entry). is_snap y.act) (is_last log e x place past at) ∙ snaps))
   ];
 }
@@ -116,16 +115,16 @@ reset_before d log e last none was = λ place. elim (cases_lt (length log) place
 
 -- ---- one disk more
 
-pub disk_more : (machine disks : ℕ) (log : List Entry) (facts : List DiskFacts) (fact : DiskFacts) → AreDisks machine disks log facts → IsDisk machine disks log fact
-    → AreDisks machine (disks + 1) log (facts ++ fact ∷ [])
-disk_more machine disks log facts fact are is = record {
+pub disk_more : (disks : ℕ) (log : List Entry) (facts : List DiskFacts) (fact : DiskFacts) → AreDisks disks log facts → IsDisk disks log fact
+    → AreDisks (disks + 1) log (facts ++ fact ∷ [])
+disk_more disks log facts fact are is = record {
   count = omega (arith, length_push facts fact, are.count);
   each = λ disk x at. elim (cases_lt disk (length facts)) [
     | inl less ↦ are.each disk x (read-front facts (fact ∷ []) disk x less at)
     | inr past ↦
         let here : disk ≡ length facts = omega (arith, past, slice_get_within (facts ++ fact ∷ []) disk x at, length_push facts fact) in
         let same : fact ≡ x = read-last facts fact x (ap (slice_get (facts ++ fact ∷ [])) (sym here) ∙ at) in
-        subst (λ (f : DiskFacts). IsDisk machine disk log f) same (subst (λ d. IsDisk machine d log fact) (sym (here ∙ are.count)) is)
+        subst (λ (f : DiskFacts). IsDisk disk log f) same (subst (λ d. IsDisk d log fact) (sym (here ∙ are.count)) is)
   ];
 }
 

@@ -6,7 +6,6 @@ use Rattle.std.proofs.Math.Bool.{or-false}
 use Rattle.std.proofs.lemmas.Bool.{eq-eqb, eqb-true, false≢true, false_from_ne_true, or_cases}
 use Rattle.std.proofs.lemmas.Option.{slice_get_within, same_Some, none-some}
 use Rattle.std.proofs.lemmas.List.Folds.{list_any-append}
-use Rattle.change_id.specs.declared.ChangeId.{ChangeId}
 use Rattle.change_id.proofs.Ends.{by_last, at_place}
 use Rattle.change_id.proofs.IdMarks.{takes-at_mark}
 use Rattle.log_model.specs.declared.entry.Owner.{Owner}
@@ -16,25 +15,26 @@ use Rattle.log_model.specs.declared.entry.Act.TheVariants.{Write, Snap, Remove, 
 use Rattle.log_model.specs.declared.entry.Entry.{Entry}
 use Rattle.log_model.specs.Entry.{takes, removes}
 use Rattle.log_model.specs.Legal.{Disks, Legal, ActMayStand, OwnerLets, taken, owner_of}
-use Rattle.log_model.specs.Marks.{takes_in, mark, id_at}
+use Rattle.log_model.specs.Marks.{takes_in, mark, through}
 use Rattle.log_model.specs.Frozen.{last_off, off_place}
 use Rattle.log_model.proofs.LegalLogs.{legal_front, legal_last}
 use Rattle.log_model.proofs.OwnedLaws.{owned_taken, taken-append}
 use Rattle.log_model.proofs.Readings.{snap-takes}
 use Rattle.log_model.proofs.SnapMarks.{snaps_have_their_marks, each_was_taken}
 use Rattle.ctl_state.specs.Asks.{IsItsSnapshot, is_removed}
-use Rattle.log_facts.specs.Disks.{AreIds}
+use Rattle.log_facts.specs.declared.disks.IdCount.{IdCount}
+use Rattle.log_facts.specs.Disks.{AreCounts, count_of}
 
--- the identifier that stands at a snapshot's number
-pub id_is : (disks : Disks) (machine d snap : ℕ) (log : List Entry) (ids : List (Option ChangeId)) (id : Option ChangeId) → Legal disks log → AreIds machine d log ids
-    → 1 ≤ snap → slice_get ids (snap - 1) ≡ Some id → id ≡ id_at machine d snap log
-id_is disks machine d snap log ids id legal are from at =
-    let upto : snap ≤ taken log = omega (arith, from, slice_get_within ids (snap - 1) id at, are.one_each) in
+-- what stands at a snapshot's number
+pub count_is : (disks : Disks) (d snap : ℕ) (log : List Entry) (counts : List IdCount) (count : IdCount) → Legal disks log → AreCounts d log counts
+    → 1 ≤ snap → slice_get counts (snap - 1) ≡ Some count → count ≡ count_of d (through snap log)
+count_is disks d snap log counts count legal are from at =
+    let upto : snap ≤ taken log = omega (arith, from, slice_get_within counts (snap - 1) count at, are.one_each) in
     let here = at_place log (mark snap log) (each_was_taken disks log snap legal from upto) in
     let takes_it : takes snap here.0.act ≡ true = takes-at_mark takes_in snap log here.0 here.1 in
     let its = snaps_have_their_marks disks log snap (mark snap log) here.0 legal here.1 takes_it in
     let number : snap - 1 ≡ taken (take (mark snap log) log) = omega (arith, its.next) in
-    same_Some id (id_at machine d snap log) (sym at ∙ ap (slice_get ids) number ∙ are.each (mark snap log) here.0 here.1 (snap-takes snap here.0.act takes_it))
+    same_Some count (count_of d (through snap log)) (sym at ∙ ap (slice_get counts) number ∙ are.each (mark snap log) here.0 here.1 (snap-takes snap here.0.act takes_it))
 
 -- the power-off place of a snapshot is that of the entries before its mark
 taken_there : (mig snap place : ℕ) (log : List Entry) (o : Option Entry) → slice_get log place ≡ o → IsSomeAnd o (λ e. e.act ≡ Snap snap (OfMigration mig))

@@ -1,5 +1,5 @@
--- What a log says of the tracking of each disk: its identifier at each snapshot, and the place of
--- its last reset. An identifier follows from how far its two numbers have come.
+-- What a log says of the tracking of each disk: how far the two numbers had come at each snapshot
+-- from which its identifier there follows, and the place of its last reset.
 use Rattle.std.specs.Prelude.{◌≡◌, ℕ, ◌+◌, ◌<◌, ◌==◌, nat_le, List, length, take, drop, slice_get, Bool, true, false, Option, Some, None, unwrap_or, if◌then◌else◌}
 use Rattle.std.specs.List.{list_any}
 use Rattle.change_id.specs.ChangeId.{packed}
@@ -7,12 +7,9 @@ use Rattle.change_id.specs.declared.ChangeId.{ChangeId}
 use Rattle.log_model.specs.declared.entry.Entry.{Entry}
 use Rattle.log_model.specs.Entry.{is_snap, resets}
 use Rattle.log_model.specs.Legal.{taken}
-use Rattle.log_model.specs.Marks.{epoch, counted, counted_after, in_force}
+use Rattle.log_model.specs.Marks.{epoch, counted, counted_after}
 use Rattle.log_facts.specs.declared.disks.IdCount.{IdCount}
 use Rattle.log_facts.specs.declared.disks.DiskFacts.{DiskFacts}
-
-abbrev pub count_start : IdCount
-count_start = record { resets = 0; counted = None }
 
 -- behind one entry more
 abbrev pub count_after : (disk : ℕ) → IdCount → Entry → IdCount
@@ -32,13 +29,11 @@ id_of machine disk count =
     then None
     else Some (record { uuid = packed machine disk count.resets; seq = unwrap_or count.counted 0 })
 
--- the snapshots in their order have these identifiers of the disk
-pub record AreIds (machine disk : ℕ) (log : List Entry) (ids : List (Option ChangeId))
-    : Type 0 where
-  pub one_each : length ids ≡ taken log
+-- they had come so far at the snapshots, in their order
+pub record AreCounts (disk : ℕ) (log : List Entry) (counts : List IdCount) : Type 0 where
+  pub one_each : length counts ≡ taken log
   pub each : (place : ℕ) (e : Entry) → slice_get log place ≡ Some e → is_snap e.act ≡ true
-      → slice_get ids (taken (take place log))
-      ≡ Some (in_force machine disk (take (place + 1) log))
+      → slice_get counts (taken (take place log)) ≡ Some (count_of disk (take (place + 1) log))
 
 -- the last place is that one or a later one
 abbrev pub reaches : (place : ℕ) → (last : Option ℕ) → Bool
@@ -50,13 +45,12 @@ abbrev pub IsLastReset : (disk : ℕ) → List Entry → (last : Option ℕ) →
 IsLastReset disk log last = (place : ℕ)
     → list_any (λ e. resets disk e.act) (drop place log) ≡ reaches place last
 
-pub record IsDisk (machine disk : ℕ) (log : List Entry) (facts : DiskFacts) : Type 0 where
-  pub ids : AreIds machine disk log facts.ids.items
+pub record IsDisk (disk : ℕ) (log : List Entry) (facts : DiskFacts) : Type 0 where
+  pub counts : AreCounts disk log facts.counts.items
   pub reset : IsLastReset disk log facts.last_reset
 
 -- so many disks, each at its number
-pub record AreDisks (machine disks : ℕ) (log : List Entry) (facts : List DiskFacts)
-    : Type 0 where
+pub record AreDisks (disks : ℕ) (log : List Entry) (facts : List DiskFacts) : Type 0 where
   pub count : length facts ≡ disks
   pub each : (disk : ℕ) (fact : DiskFacts) → slice_get facts disk ≡ Some fact
-      → IsDisk machine disk log fact
+      → IsDisk disk log fact

@@ -24,4 +24,4 @@ pub record AreRead (at : MachineFacts) (active : Bool) (places : List PlaceFacts
   pub tracked : active ≡ is_active (tracking at.log)
   pub by_place : ArePlaces at.log places
   pub by_number : AreSnapshots at.log snapshots
-  pub by_disk : AreDisks at.number (length at.capacities) at.log disks
+  pub by_disk : AreDisks (length at.capacities) at.log disks

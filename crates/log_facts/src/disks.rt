@@ -1,17 +1,18 @@
 //! What a log says of the tracking of each disk.
-ghost use Rattle.std.specs.Prelude.{◌≡◌, ◌+◌, ◌<◌, ◌≤◌, ◌^◌, ℕ, length, unwrap_or, slice_get, IfOk, Some};
-ghost use Rattle.log_facts.specs.Disks.{count_start, count_after, id_of, reaches, IsDisk, AreDisks};
+ghost use Rattle.std.specs.Prelude.{◌≡◌, ◌+◌, ◌<◌, ◌≤◌, ◌^◌, length, unwrap_or, IfOk};
+ghost use Rattle.log_facts.specs.Disks.{count_after, id_of, reaches, IsDisk, AreDisks};
 
 use basics::NoMemory;
 use change_id::{ChangeId, pack};
-use log_model::Entry;
+use log_model::{Entry, MAX_LOG_ENTRIES};
 use std::alloc::Global;
 
 /// What a log says of the tracking of a disk.
 #[derive(Debug, Drop)]
 pub(crate) struct DiskFacts {
-    /// Its identifier at each snapshot, in the order in which they were taken.
-    pub ids: Vec<Option<ChangeId>>,
+    /// How far the numbers of its identifiers had come at each snapshot, with it, in the order in
+    /// which they were taken.
+    pub counts: Vec<IdCount>,
     /// The place of its last reset.
     pub last_reset: Option<u64>,
 }
@@ -32,10 +33,10 @@ impl DiskFacts {
 #[derive(Clone, Copy, Debug)]
 pub(crate) struct IdCount {
     /// How often the disk was reset.
-    pub resets: u64,
+    pub resets: u32,
     /// How many snapshots were taken since tracking was enabled and last reset. None before it was
     /// enabled.
-    pub counted: Option<u64>,
+    pub counted: Option<u32>,
 }
 
 impl IdCount {
@@ -47,8 +48,8 @@ impl IdCount {
 
     /// Behind one entry more.
     fn after(self, entry: &Entry, disk: u32) -> IdCount
-        requires resets { self.resets + 1 < 2 ^ 64 }
-        requires counted { unwrap_or self.counted 0 + 1 < 2 ^ 64 }
+        requires resets { self.resets + 1 < 2 ^ 32 }
+        requires counted { unwrap_or self.counted 0 + 1 < 2 ^ 32 }
         ensures { result ≡ count_after disk self entry.now }
     {
         let resets = entry.act.resets(disk);
@@ -65,14 +66,14 @@ impl IdCount {
     }
 
     /// The identifier that is in force.
-    fn id(self, machine: u32, disk: u32) -> Option<ChangeId>
+    pub fn id(self, machine: u32, disk: u32) -> Option<ChangeId>
         ensures { result ≡ id_of machine disk self }
     {
-        let seq = self.counted.unwrap_or(0);
+        let seq = u64::from(self.counted.unwrap_or(0));
         if seq == 0 {
             return None;
         }
-        let uuid = pack(machine, disk, self.resets);
+        let uuid = pack(machine, disk, u64::from(self.resets));
         Some(ChangeId { uuid, seq })
     }
 }
@@ -80,34 +81,35 @@ impl IdCount {
 /// Those of the first so many disks of a machine. It answers only want of memory.
 pub(crate) fn disks_of(
     alloc: Global,
-    machine: u32,
     disks: u32,
     log: &[Entry],
 ) -> Result<Vec<DiskFacts>, NoMemory>
-    ensures { IfOk result (λ facts. AreDisks machine disks log.now facts.items) }
+    requires { length log.now ≤ MAX_LOG_ENTRIES }
+    ensures { IfOk result (λ facts. AreDisks disks log.now facts.items) }
 {
     let mut facts = Vec::new(alloc);
     for disk in 0..disks {
-        facts.push(disk_of(alloc, machine, disk, log)?)?;
+        facts.push(disk_of(alloc, disk, log)?)?;
     }
     Ok(facts)
 }
 
 /// Those of one disk. It answers only want of memory.
-fn disk_of(alloc: Global, machine: u32, disk: u32, log: &[Entry]) -> Result<DiskFacts, NoMemory>
-    ensures { IfOk result (λ facts. IsDisk machine disk log.now facts) }
+fn disk_of(alloc: Global, disk: u32, log: &[Entry]) -> Result<DiskFacts, NoMemory>
+    requires { length log.now ≤ MAX_LOG_ENTRIES }
+    ensures { IfOk result (λ facts. IsDisk disk log.now facts) }
 {
-    let mut ids = Vec::new(alloc);
+    let mut counts = Vec::new(alloc);
     let mut last_reset = None;
     let mut count = IdCount::START;
     for (place, entry) in log.iter().enumerate() {
         count = count.after(entry, disk);
         if entry.act.is_snap() {
-            ids.push(count.id(machine, disk))?;
+            counts.push(count)?;
         }
         if entry.act.resets(disk) {
             last_reset = Some(place as u64);
         }
     }
-    Ok(DiskFacts { ids, last_reset })
+    Ok(DiskFacts { counts, last_reset })
 }

@@ -6,13 +6,14 @@ ghost use Rattle.log_model.specs.declared.entry.Act.{Act};
 ghost use Rattle.log_model.specs.Entry.{resets};
 ghost use Rattle.log_model.specs.Legal.{capacity_of};
 ghost use Rattle.log_model.specs.Link.{is_active, Owns};
-ghost use Rattle.log_model.specs.Marks.{tracking, id_at};
+ghost use Rattle.log_model.specs.Marks.{tracking, through, id_at};
 ghost use Rattle.log_model.specs.Frozen.{off_place};
 ghost use Rattle.ctl_state.specs.Migration.{same_phase};
 ghost use Rattle.ctl_state.specs.Asks.{IsItsSnapshot, AreIdsAt, HasStageWritten, WasResetFrom, RecordAsks, SnapshotAsks, is_removed, is_removing, meets_volumes, may_lack};
+ghost use Rattle.log_facts.specs.Disks.{count_of};
 ghost use Rattle.log_facts.specs.LogFacts.{facts_of};
 
-use crate::disks::{DiskFacts, disks_of};
+use crate::disks::{DiskFacts, IdCount, disks_of};
 use crate::places::{PlaceFacts, places_of};
 use crate::snapshots::{SnapshotFacts, snapshots_of};
 use crate::stages::changed_sectors;
@@ -65,7 +66,7 @@ impl LogFacts {
             active: machine.look().tracking,
             places: places_of(alloc, log)?,
             snapshots: snapshots_of(alloc, log)?,
-            disks: disks_of(alloc, machine.number(), machine.disks(), log)?,
+            disks: disks_of(alloc, machine.disks(), log)?,
         })
     }
 
@@ -214,20 +215,20 @@ impl LogFacts {
         requires { self.now ≡ facts_of machine.now }
         ensures { result ≡ id_at self.now.number disk snap self.now.log }
     {
-        match self.stored_id(disk, snap) {
-            Some(id) => id,
+        match self.count_at(disk, snap) {
+            Some(count) => count.id(machine.number(), disk),
             None => in_force(machine.number(), through(machine.log(), snap), disk),
         }
     }
 
-    /// The identifier of a disk at a snapshot, if there are both.
-    fn stored_id(&self, disk: u32, snap: u32) -> Option<Option<ChangeId>>
-        ensures { IfSome result (λ id. id ≡ id_at self.now.number disk snap self.now.log) }
+    /// How far the numbers of the disk's identifiers had come at a snapshot, if there are both.
+    fn count_at(&self, disk: u32, snap: u32) -> Option<IdCount>
+        ensures { IfSome result (λ count. count ≡ count_of disk (through snap self.now.log)) }
     {
         let index = (snap as usize).checked_sub(1)?;
         let facts = self.disks.get(disk as usize)?;
-        let id = facts.ids.get(index)?;
-        Some(*id)
+        let count = facts.counts.get(index)?;
+        Some(*count)
     }
 
     /// Whether a stage of the disk that is done, on the snapshot of this mark, has written so many

@@ -1,12 +1,11 @@
 -- An entry more: its snapshot has its identifier, and its reset is the last one.
 use Rattle.std.proofs.Common.{◌≡◌, ℕ, ◌+◌, ◌≤◌, List, [], ◌∷◌, ◌++◌, length, take, Option, Vec, Global, subst, sym, ap, ◌∙◌, arith, refl}
 use Rattle.std.proofs.lemmas.List.{length-take-le}
-use Rattle.change_id.specs.declared.ChangeId.{ChangeId}
+use Rattle.log_facts.specs.declared.disks.IdCount.{IdCount}
 use Rattle.log_model.specs.declared.entry.Entry.{Entry}
-use Rattle.log_model.specs.Marks.{in_force}
-use Rattle.log_facts.specs.Disks.{AreIds, IsLastReset, count_of, id_of}
+use Rattle.log_facts.specs.Disks.{AreCounts, IsLastReset, count_of}
 use Rattle.log_facts.proofs.PlaceLemmas.{taken_more}
-use Rattle.log_facts.proofs.DiskLemmas.{count_more, few_more, ids_pushed, ids_same, reset_here, reset_before}
+use Rattle.log_facts.proofs.DiskLemmas.{count_more, few_more, counts_pushed, counts_same, reset_here, reset_before}
 use Rattle.log_facts.proofs.disks.disk_of.Goals as goal
 use Rattle.log_facts.proofs.disks.disk_of.Goals.{then-is_snap+in_ok-push, else-is_snap, then-resets, else-resets}
 
@@ -19,21 +18,21 @@ loop-place-preserved c =
     let counts = c.after-count.ensures ∙ count_more c.args.disk log i c.loop-place.count e c.loop-place-test.true c.index-log-place.is c.loop-place.invariant.counts in
     let few = few_more c.args.disk i c.loop-place.count c.after-count.result e c.loop-place.invariant.few_resets c.loop-place.invariant.few_counted c.after-count.ensures in
     let long : length (take i log) ≡ i = length-take-le i log (omega (arith, c.loop-place-test.true)) in
-    let force = ap (id_of c.args.machine c.args.disk) counts ∙ ap (in_force c.args.machine c.args.disk) more in
+    let here = counts ∙ ap (count_of c.args.disk) more in
     record {
       counts = counts;
       few_resets = few.0;
       few_counted = few.1;
-      are = subst (λ (l : List Entry). AreIds c.args.machine c.args.disk l c.if-is_snap.ids.items) (sym more)
+      are = subst (λ (l : List Entry). AreCounts c.args.disk l c.if-is_snap.counts.items) (sym more)
           (elim c.if-is_snap.branch [
             | then-is_snap+in_ok-push w ↦
-                subst (λ (ids : List (Option ChangeId)). AreIds c.args.machine c.args.disk (take i log ++ e ∷ []) ids)
-                (sym (ap (λ (v : Vec (Option ChangeId) Global). v.items) w.ids-is ∙ w.in_ok-push.ensures.items))
-                (ids_pushed c.args.machine c.args.disk (take i log) e c.loop-place.ids.items w.id.result (sym c.is_snap.ensures ∙ w.if-is_snap.true) (w.id.ensures ∙ force) c.loop-place.invariant.are)
+                subst (λ (counts : List IdCount). AreCounts c.args.disk (take i log ++ e ∷ []) counts)
+                (sym (ap (λ (v : Vec IdCount Global). v.items) w.counts-is ∙ w.in_ok-push.ensures.items))
+                (counts_pushed c.args.disk (take i log) e c.loop-place.counts.items c.after-count.result (sym c.is_snap.ensures ∙ w.if-is_snap.true) here c.loop-place.invariant.are)
             | else-is_snap w ↦
-                subst (λ (ids : List (Option ChangeId)). AreIds c.args.machine c.args.disk (take i log ++ e ∷ []) ids)
-                (sym (ap (λ (v : Vec (Option ChangeId) Global). v.items) w.ids-is))
-                (ids_same c.args.machine c.args.disk (take i log) e c.loop-place.ids.items (sym c.is_snap.ensures ∙ w.if-is_snap.false) c.loop-place.invariant.are)
+                subst (λ (counts : List IdCount). AreCounts c.args.disk (take i log ++ e ∷ []) counts)
+                (sym (ap (λ (v : Vec IdCount Global). v.items) w.counts-is))
+                (counts_same c.args.disk (take i log) e c.loop-place.counts.items (sym c.is_snap.ensures ∙ w.if-is_snap.false) c.loop-place.invariant.are)
           ]);
       reset = subst (λ (l : List Entry). IsLastReset c.args.disk l c.if-resets.last_reset) (sym more)
           (elim c.if-resets.branch [

@@ -5,6 +5,6 @@ use Rattle.log_facts.proofs.disks.disks_of.Given as goal
 
 abbrev pub invariant-loop-disk : goal.invariant-loop-disk
 invariant-loop-disk l = record {
-  are : AreDisks l.machine l.disk l.log l.facts.items;
+  are : AreDisks l.disk l.log l.facts.items;
   within : l.disk ≤ l.disks;
 }
