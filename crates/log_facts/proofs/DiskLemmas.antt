@@ -1,10 +1,10 @@
 -- What a log says of the tracking of a disk, one entry after another.
-use Rattle.std.proofs.Common.{◌≡◌, ℕ, ◌+◌, ◌<◌, ◌≤◌, List, [], ◌∷◌, ◌++◌, length, take, drop, get_or, Bool, true, false, cond, ◌||◌, leb, Option, Some, None, unwrap_or, subst, sym, ap, refl, ◌∙◌, arith, inl, inr}
+use Rattle.std.proofs.Common.{◌≡◌, ℕ, ◌+◌, ◌<◌, ◌≤◌, List, [], ◌∷◌, ◌++◌, length, take, drop, get_or, Bool, true, false, cond, ◌||◌, Option, Some, None, unwrap_or, subst, sym, ap, refl, ◌∙◌, arith, inl, inr}
 use Rattle.std.specs.List.{slice_get, list_any}
 use Rattle.std.proofs.Math.Bool.{or-false, or-true}
-use Rattle.std.proofs.lemmas.Bool.{cases_eq, cases_lt, le-leb, lt-leb, false≢true}
+use Rattle.std.proofs.lemmas.Bool.{cases_lt, le-leb, lt-leb, false≢true}
 use Rattle.std.proofs.lemmas.Option.{slice_get_within}
-use Rattle.std.proofs.lemmas.List.{length_push, length-take-le, take-append-le, drop-append-le, drop_all, take_all}
+use Rattle.std.proofs.lemmas.List.{length_push, take-append-le, drop-append-le, drop_all, take_all}
 use Rattle.std.proofs.lemmas.List.Folds.{list_any-append}
 use Rattle.std.proofs.lemmas.List.Sums.{sum_by-append}
 use Rattle.basics.proofs.ItemAt.{slice_get-front, slice_get-last}
@@ -13,7 +13,7 @@ use Rattle.change_id.proofs.Counts.{counted-last}
 use Rattle.log_model.specs.declared.entry.Entry.{Entry}
 use Rattle.log_model.specs.Entry.{is_snap, is_enable, resets}
 use Rattle.log_model.specs.Legal.{taken}
-use Rattle.log_model.specs.Marks.{reading_of, epoch, counted, counted_after}
+use Rattle.log_model.specs.Marks.{reading_of, epoch, counted_after}
 use Rattle.log_model.proofs.OwnedLaws.{taken-append}
 use Rattle.log_facts.specs.declared.disks.IdCount.{IdCount}
 use Rattle.log_facts.specs.declared.disks.DiskFacts.{DiskFacts}

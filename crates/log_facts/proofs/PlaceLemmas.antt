@@ -6,7 +6,7 @@ use Rattle.std.proofs.lemmas.List.{take_more, length_push, length-take-le}
 use Rattle.basics.proofs.ItemAt.{slice_get-front, slice_get-last}
 use Rattle.log_model.specs.declared.entry.Entry.{Entry}
 use Rattle.log_model.specs.Entry.{is_enable}
-use Rattle.log_model.specs.Legal.{is_enabled, enabled_after}
+use Rattle.log_model.specs.Legal.{is_enabled}
 use Rattle.log_model.specs.Frozen.{last_off, off_after}
 use Rattle.log_model.proofs.IdsExist.{enabled-last}
 use Rattle.log_model.proofs.OffLaws.{last_off-last}

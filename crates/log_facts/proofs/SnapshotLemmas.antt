@@ -1,12 +1,11 @@
 -- What a log says of a snapshot, one entry after another.
-use Rattle.std.proofs.Common.{◌≡◌, ℕ, ◌+◌, ◌<◌, ◌≤◌, List, [], ◌∷◌, ◌++◌, length, take, get_or, Bool, true, false, cond, eqb, ◌||◌, ◌⊎◌, Option, Some, None, option_map, sym, ap, refl, ◌∙◌, arith, inl, inr}
-use Rattle.std.specs.List.{list_any, slice_get}
+use Rattle.std.proofs.Common.{◌≡◌, ℕ, ◌+◌, ◌<◌, List, [], ◌∷◌, ◌++◌, length, take, get_or, Bool, true, false, cond, eqb, ◌||◌, ◌⊎◌, Option, Some, None, option_map, sym, ap, refl, ◌∙◌, inl, inr}
+use Rattle.std.specs.List.{slice_get}
 use Rattle.std.specs.Option.{option_map_or}
 use Rattle.std.proofs.Math.ListN.{set}
 use Rattle.std.proofs.Math.Bool.{or-false}
 use Rattle.std.proofs.lemmas.Bool.{cases_eq, eq-eqb, ne_eqb}
 use Rattle.std.proofs.lemmas.Option.{slice_get_within}
-use Rattle.std.proofs.lemmas.List.{length-set}
 use Rattle.std.proofs.lemmas.List.Folds.{list_any-append}
 use Rattle.snapshot_chain.proofs.Masks.{set_same, set_other}
 use Rattle.log_model.specs.declared.entry.Owner.{Owner}
@@ -16,7 +15,6 @@ use Rattle.log_model.specs.declared.entry.Entry.{Entry}
 use Rattle.log_model.specs.Entry.{removes}
 use Rattle.log_model.specs.Legal.{owner_of, owner_after, owner_after_act}
 use Rattle.log_model.proofs.OwnedLaws.{owner_of-last}
-use Rattle.ctl_state.specs.Migration.{change_at}
 use Rattle.ctl_state.specs.Asks.{is_removed}
 use Rattle.ctl_state.proofs.ListFacts.{length-change_at}
 use Rattle.log_facts.specs.declared.snapshots.SnapshotFacts.{SnapshotFacts}

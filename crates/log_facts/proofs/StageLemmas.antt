@@ -1,5 +1,5 @@
 -- The blocks that entries touch, one entry after another, and their areas.
-use Rattle.std.proofs.Common.{◌≡◌, ℕ, ◌+◌, ◌-◌, ◌*◌, ◌/◌, ◌<◌, ◌≤◌, min, max, List, [], ◌∷◌, ◌++◌, length, take, get_or, Bool, true, false, ◌||◌, ◌&&◌, ltb, leb, nat_eq, nat_cmp, Option, Some, None, sym, ap, refl, ◌∙◌, arith}
+use Rattle.std.proofs.Common.{◌≡◌, ℕ, ◌+◌, ◌*◌, ◌/◌, ◌<◌, ◌≤◌, min, max, List, [], ◌∷◌, ◌++◌, length, take, get_or, Bool, true, false, ◌||◌, ◌&&◌, ltb, leb, nat_cmp, Option, Some, None, sym, ap, refl, ◌∙◌, arith}
 use Rattle.std.specs.List.{list_any, cons_option, All}
 use Rattle.std.specs.Int.{div_ceil}
 use Rattle.std.specs.Option.{option_map_or}
@@ -33,34 +33,34 @@ pub met_between : (c first count block low end : ℕ) → 0 < count → low ≡ 
     → (leb low block && ltb block (div_ceil end BLOCK_SECTORS)) ≡ (ltb block (block_count c) && meets block first count)
 met_between c first count block low end some low_is end_is = same_when _ _
     (λ h.
-      let parts = and_parts (leb low block) (ltb block (div_ceil end BLOCK_SECTORS)) h in
-      let from : low ≤ block = leb-true low block parts.0 in
-      let below : block < div_ceil end BLOCK_SECTORS = ltb-true block (div_ceil end BLOCK_SECTORS) parts.1 in
-      let ends : BLOCK_SECTORS * block < end = omega (arith, below) in
-      let known : block < block_count c = omega (arith, ends, end_is) in
-      let met : max (BLOCK_SECTORS * block) first < min (BLOCK_SECTORS * block + BLOCK_SECTORS) (first + count) = omega (arith, ends, end_is, from, low_is, some) in
-      and_from (ltb block (block_count c)) (meets block first count) (lt-ltb block (block_count c) known) (lt-ltb (max (BLOCK_SECTORS * block) first) (min (BLOCK_SECTORS * block + BLOCK_SECTORS) (first + count)) met))
+    let parts = and_parts (leb low block) (ltb block (div_ceil end BLOCK_SECTORS)) h in
+    let from : low ≤ block = leb-true low block parts.0 in
+    let below : block < div_ceil end BLOCK_SECTORS = ltb-true block (div_ceil end BLOCK_SECTORS) parts.1 in
+    let ends : BLOCK_SECTORS * block < end = omega (arith, below) in
+    let known : block < block_count c = omega (arith, ends, end_is) in
+    let met : max (BLOCK_SECTORS * block) first < min (BLOCK_SECTORS * block + BLOCK_SECTORS) (first + count) = omega (arith, ends, end_is, from, low_is, some) in
+    and_from (ltb block (block_count c)) (meets block first count) (lt-ltb block (block_count c) known) (lt-ltb (max (BLOCK_SECTORS * block) first) (min (BLOCK_SECTORS * block + BLOCK_SECTORS) (first + count)) met))
     (λ h.
-      let parts = and_parts (ltb block (block_count c)) (meets block first count) h in
-      let known : block < block_count c = ltb-true block (block_count c) parts.0 in
-      let met : max (BLOCK_SECTORS * block) first < min (BLOCK_SECTORS * block + BLOCK_SECTORS) (first + count) = ltb-true (max (BLOCK_SECTORS * block) first) (min (BLOCK_SECTORS * block + BLOCK_SECTORS) (first + count)) parts.1 in
-      let from : low ≤ block = omega (arith, met, low_is) in
-      let ends : BLOCK_SECTORS * block < end = omega (arith, known, met, end_is) in
-      let below : block < div_ceil end BLOCK_SECTORS = omega (arith, ends) in
-      and_from (leb low block) (ltb block (div_ceil end BLOCK_SECTORS)) (le-leb low block from) (lt-ltb block (div_ceil end BLOCK_SECTORS) below))
+    let parts = and_parts (ltb block (block_count c)) (meets block first count) h in
+    let known : block < block_count c = ltb-true block (block_count c) parts.0 in
+    let met : max (BLOCK_SECTORS * block) first < min (BLOCK_SECTORS * block + BLOCK_SECTORS) (first + count) = ltb-true (max (BLOCK_SECTORS * block) first) (min (BLOCK_SECTORS * block + BLOCK_SECTORS) (first + count)) parts.1 in
+    let from : low ≤ block = omega (arith, met, low_is) in
+    let ends : BLOCK_SECTORS * block < end = omega (arith, known, met, end_is) in
+    let below : block < div_ceil end BLOCK_SECTORS = omega (arith, ends) in
+    and_from (leb low block) (ltb block (div_ceil end BLOCK_SECTORS)) (le-leb low block from) (lt-ltb block (div_ceil end BLOCK_SECTORS) below))
 
 -- a loop that goes on to the end has passed all of them
 pub below_end : (low block at end : ℕ) → end ≤ at → at ≤ max low end → (leb low block && ltb block at) ≡ (leb low block && ltb block end)
 below_end low block at end passed most = same_when _ _
     (λ h.
-      let parts = and_parts (leb low block) (ltb block at) h in
-      let from : low ≤ block = leb-true low block parts.0 in
-      let below : block < at = ltb-true block at parts.1 in
-      and_from (leb low block) (ltb block end) parts.0 (lt-ltb block end (omega (arith, from, below, most))))
+    let parts = and_parts (leb low block) (ltb block at) h in
+    let from : low ≤ block = leb-true low block parts.0 in
+    let below : block < at = ltb-true block at parts.1 in
+    and_from (leb low block) (ltb block end) parts.0 (lt-ltb block end (omega (arith, from, below, most))))
     (λ h.
-      let parts = and_parts (leb low block) (ltb block end) h in
-      let below : block < end = ltb-true block end parts.1 in
-      and_from (leb low block) (ltb block at) parts.0 (lt-ltb block at (omega (arith, below, passed))))
+    let parts = and_parts (leb low block) (ltb block end) h in
+    let below : block < end = ltb-true block end parts.1 in
+    and_from (leb low block) (ltb block at) parts.0 (lt-ltb block at (omega (arith, below, passed))))
 
 -- ---- the blocks that entries touch
 
@@ -98,7 +98,7 @@ pub areas_are : (c : ℕ) (blocks : BTreeSet ℕ) (ws : List Replacement) → ((
     → areas_of c blocks.keys ≡ areas_of c (touched_blocks c ws)
 areas_are c blocks ws are = runs_of-same (in_blocks blocks.keys) (in_blocks (touched_blocks c ws)) c
     (λ s less.
-      let b : ℕ = s / BLOCK_SECTORS in
-      let inside : b < block_count c = omega (arith, less) in
-      in_set blocks.keys b ∙ are b ∙ ap (λ x. x && list_any (touches b) ws) (lt-ltb b (block_count c) inside)
-      ∙ sym (in_touched c s ws ∙ ap (λ x. list_any (touches b) ws && x) (any_below b 0 (block_count c) (omega arith) (omega (arith, inside))) ∙ and-true (list_any (touches b) ws)))
+    let b : ℕ = s / BLOCK_SECTORS in
+    let inside : b < block_count c = omega (arith, less) in
+    in_set blocks.keys b ∙ are b ∙ ap (λ x. x && list_any (touches b) ws) (lt-ltb b (block_count c) inside)
+    ∙ sym (in_touched c s ws ∙ ap (λ x. list_any (touches b) ws && x) (any_below b 0 (block_count c) (omega arith) (omega (arith, inside))) ∙ and-true (list_any (touches b) ws)))

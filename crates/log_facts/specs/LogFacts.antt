@@ -1,6 +1,6 @@
 -- What is kept of the log of a machine that was read: it says what the log says, place by place,
 -- snapshot by snapshot and disk by disk.
-use Rattle.std.specs.Prelude.{◌≡◌, ℕ, List, length, Bool}
+use Rattle.std.specs.Prelude.{◌≡◌, List, length, Bool}
 use Rattle.log_model.specs.Legal.{Legal, all_of}
 use Rattle.log_model.specs.Link.{is_active}
 use Rattle.log_model.specs.Marks.{tracking}

@@ -79,11 +79,7 @@ impl IdCount {
 }
 
 /// Those of the first so many disks of a machine. It answers only want of memory.
-pub(crate) fn disks_of(
-    alloc: Global,
-    disks: u32,
-    log: &[Entry],
-) -> Result<Vec<DiskFacts>, NoMemory>
+pub(crate) fn disks_of(alloc: Global, disks: u32, log: &[Entry]) -> Result<Vec<DiskFacts>, NoMemory>
     requires { length log.now ≤ MAX_LOG_ENTRIES }
     ensures { IfOk result (λ facts. AreDisks disks log.now facts.items) }
 {

@@ -7,5 +7,7 @@ mod log_facts;
 mod places;
 mod snapshots;
 mod stages;
+#[cfg(test)]
+mod tests;
 
 pub use log_facts::LogFacts;

@@ -79,12 +79,7 @@ impl LogFacts {
 
     /// Whether the log of the machine, which was read, bears out what a record says of a migration
     /// that was so before it. It answers only want of memory.
-    pub fn bears_out(
-        &self,
-        machine: &Machine,
-        m: &Migration,
-        r: &Record,
-    ) -> Result<bool, NoMemory>
+    pub fn bears_out(&self, machine: &Machine, m: &Migration, r: &Record) -> Result<bool, NoMemory>
         requires { self.now ≡ facts_of machine.now }
         ensures { IfOk result (λ said. IsTrue said ↔ RecordAsks self.now m.now r.now) }
     {
@@ -172,14 +167,7 @@ impl LogFacts {
     }
 
     /// Whether it was taken so, after the machine was powered off at that place.
-    fn is_its_final(
-        &self,
-        machine: &Machine,
-        mig: u32,
-        snap: u32,
-        mark: u64,
-        place: u64,
-    ) -> bool
+    fn is_its_final(&self, machine: &Machine, mig: u32, snap: u32, mark: u64, place: u64) -> bool
         requires { self.now ≡ facts_of machine.now }
         ensures { IsTrue result
             ↔ (IsItsSnapshot mig snap mark self.now.log
@@ -253,9 +241,11 @@ impl LogFacts {
         if written == changed {
             return Ok(true);
         }
-        Ok(self.was_reset_from(machine, disk, from)
-            && capacity <= written
-            && written - capacity <= changed)
+        Ok(
+            self.was_reset_from(machine, disk, from)
+                && capacity <= written
+                && written - capacity <= changed,
+        )
     }
 
     /// Whether the disk was reset from the place on. Resets of a disk that there isn't are looked
@@ -318,9 +308,7 @@ fn is_removing(m: &Migration) -> bool
 fn meets_volumes(m: &Migration) -> bool
     ensures { result ≡ meets_volumes m.now }
 {
-    is_in(m, Phase::CreateVolumes)
-        || is_in(m, Phase::CopyDisks)
-        || is_in(m, Phase::CopyFinal)
+    is_in(m, Phase::CreateVolumes) || is_in(m, Phase::CopyDisks) || is_in(m, Phase::CopyFinal)
 }
 
 /// Whether it is in that phase.

@@ -1,5 +1,5 @@
 -- An entry more: its snapshot has its identifier, and its reset is the last one.
-use Rattle.std.proofs.Common.{◌≡◌, ℕ, ◌+◌, ◌≤◌, List, [], ◌∷◌, ◌++◌, length, take, Option, Vec, Global, subst, sym, ap, ◌∙◌, arith, refl}
+use Rattle.std.proofs.Common.{◌≡◌, ℕ, List, [], ◌∷◌, ◌++◌, length, take, Option, Vec, Global, subst, sym, ap, ◌∙◌, arith}
 use Rattle.std.proofs.lemmas.List.{length-take-le}
 use Rattle.log_facts.specs.declared.disks.IdCount.{IdCount}
 use Rattle.log_model.specs.declared.entry.Entry.{Entry}

@@ -1,10 +1,10 @@
 -- An entry more.
-use Rattle.std.proofs.Common.{◌≡◌, ℕ, ◌+◌, ◌<◌, Some, List, length, take, sym, ap, ◌∙◌, arith}
+use Rattle.std.proofs.Common.{◌≡◌, List, length, ap, ◌∙◌, arith}
 use Rattle.std.specs.List.{slice_get}
 use Rattle.std.specs.Vec.{with_items}
 use Rattle.std.proofs.lemmas.List.{with_items_is}
 use Rattle.log_facts.specs.declared.snapshots.SnapshotFacts.{SnapshotFacts}
-use Rattle.log_facts.specs.Snapshots.{facts_after, snapshot_fact}
+use Rattle.log_facts.specs.Snapshots.{facts_after}
 use Rattle.log_facts.proofs.SnapshotLemmas.{as_long, fact_more}
 use Rattle.log_facts.proofs.snapshots.snapshots_of.Goals as goal
 
@@ -19,6 +19,6 @@ loop-entry-preserved c =
     record {
       long = still ∙ c.loop-entry.invariant.long;
       each = λ s less.
-        ap (λ (l : List SnapshotFacts). slice_get l s) same
-        ∙ fact_more s c.args.log.now c.loop-entry.entry-index e old.items c.loop-entry-test.true c.entry-item.is (c.loop-entry.invariant.each s (omega (arith, less, still)));
+          ap (λ (l : List SnapshotFacts). slice_get l s) same
+          ∙ fact_more s c.args.log.now c.loop-entry.entry-index e old.items c.loop-entry-test.true c.entry-item.is (c.loop-entry.invariant.each s (omega (arith, less, still)));
     }

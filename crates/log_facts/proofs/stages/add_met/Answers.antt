@@ -1,5 +1,5 @@
 -- The blocks from that of the first sector on, up to the last that begins before the end.
-use Rattle.std.proofs.Common.{◌||◌, ◌≡◌, ◌≤◌, ◌<◌, ◌/◌, ◌+◌, arith, min, ap, sym, ◌∙◌, nat_cmp, ltb, leb, ◌&&◌, refl}
+use Rattle.std.proofs.Common.{◌||◌, ◌≡◌, ◌/◌, ◌+◌, arith, min, ap, ◌∙◌, nat_cmp, ltb, leb, ◌&&◌, refl}
 use Rattle.std.specs.BTreeSet.{contains}
 use Rattle.log_facts.proofs.StageLemmas.{met_between, below_end}
 use Rattle.log_facts.proofs.stages.add_met.Goals as goal

@@ -1,5 +1,5 @@
 -- The blocks so far, from that of the first sector on.
-use Rattle.std.proofs.Common.{◌≡◌, ◌≤◌, ℕ, ◌||◌, ◌&&◌, ◌/◌, nat_cmp, nat_lt, nat_le, max}
+use Rattle.std.proofs.Common.{◌≡◌, ◌≤◌, ℕ, ◌||◌, ◌&&◌, nat_cmp, nat_lt, nat_le, max}
 use Rattle.std.specs.BTreeSet.{contains}
 use Rattle.log_facts.proofs.stages.add_met.Given as goal
 

@@ -1,10 +1,8 @@
 -- The set of the blocks, its list, and the areas of that.
-use Rattle.std.proofs.Common.{◌≡◌, ◌*◌, ◌<◌, List, length, take, sym, ap, subst, ◌∙◌}
-use Rattle.std.specs.List.{All, list_any}
+use Rattle.std.proofs.Common.{List, take, ap, ◌∙◌}
+use Rattle.std.specs.List.{list_any}
 use Rattle.std.proofs.lemmas.List.{take_all}
 use Rattle.std.proofs.lemmas.Map.Keys.{IsStrictlyIncreasing-from_sorted}
-use Rattle.std.specs.List.Sorted.{IsStrictlyIncreasing}
-use Rattle.sector_model.specs.declared.run.TheConstants.{BLOCK_SECTORS}
 use Rattle.sector_model.specs.Run.{touches, touched_blocks, areas_of}
 use Rattle.log_model.specs.Entry.{writes_of}
 use Rattle.log_facts.proofs.StageLemmas.{touched_more, begin_below, areas_are}

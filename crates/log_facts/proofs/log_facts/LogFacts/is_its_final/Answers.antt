@@ -1,5 +1,5 @@
 -- The place of its Snap entry is the snapshot's mark.
-use Rattle.std.proofs.Common.{◌≡◌, ◌<◌, ℕ, Some, None, Option, List, length, take, sym, ap, subst, ◌∙◌, arith, refl}
+use Rattle.std.proofs.Common.{◌≡◌, ◌<◌, Some, List, length, take, sym, ap, subst, ◌∙◌, arith, refl}
 use Rattle.std.specs.List.{slice_get}
 use Rattle.std.proofs.lemmas.Option.{slice_get_read, slice_get_within, same_Some}
 use Rattle.log_model.specs.Legal.{all_of}
@@ -18,11 +18,10 @@ returns-in-Some c =
     let within : c.args.mark < length at.log = taken_within c.args.mig c.args.snap c.args.mark at.log its in
     let read : slice_get c.deref.result.now c.args.mark ≡ Some c.in-Some.before.now = slice_get_read c.deref.result.now (length c.deref.result.now) c.args.mark c.in-Some.before.now refl c.in-Some.ensures.lookup.3.0 c.in-Some.ensures.lookup.1 in
     let there : c.in-Some.before.now ≡ place_facts (take c.args.mark at.log) =
-      same_Some c.in-Some.before.now (place_facts (take c.args.mark at.log)) (sym read ∙ ap (λ (l : List PlaceFacts). slice_get l c.args.mark) c.deref.ensures.value ∙ c.self.invariant.by_place c.args.mark within) in
+    same_Some c.in-Some.before.now (place_facts (take c.args.mark at.log)) (sym read ∙ ap (λ (l : List PlaceFacts). slice_get l c.args.mark) c.deref.ensures.value ∙ c.self.invariant.by_place c.args.mark within) in
     let off : off_place c.args.snap c.args.self.now.log ≡ c.in-Some.before.now.last_off =
-      ap (λ (a : MachineFacts). off_place c.args.snap a.log) (sym c.self.view_is) ∙ off_place_is (all_of at.capacities) c.args.mig c.args.snap c.args.mark at.log c.self.invariant.legal its
-      ∙ sym (ap (λ (p : PlaceFacts). p.last_off) there) in
-    (
+    ap (λ (a : MachineFacts). off_place c.args.snap a.log) (sym c.self.view_is) ∙ off_place_is (all_of at.capacities) c.args.mig c.args.snap c.args.mark at.log c.self.invariant.legal its
+    ∙ sym (ap (λ (p : PlaceFacts). p.last_off) there) in (
       λ is. (c.is_its_snapshot.ensures.0 c.if-is_its_snapshot.true, off ∙ is_that c.in-Some.before.now.last_off c.args.place (sym c.eq.ensures ∙ is)),
       λ both. c.eq.ensures ∙ are_same c.in-Some.before.now.last_off c.args.place (sym off ∙ both.1),
     )

@@ -1,5 +1,5 @@
 -- A snapshot that has no place wasn't taken.
-use Rattle.std.proofs.Common.{◌≡◌, ◌+◌, ◌<◌, length, sym, ap, ◌∙◌, arith}
+use Rattle.std.proofs.Common.{◌<◌, length, sym, ap, ◌∙◌, arith}
 use Rattle.log_model.specs.Legal.{all_of, taken}
 use Rattle.ctl_state.specs.Asks.{MachineFacts, is_removed}
 use Rattle.log_facts.specs.LogFacts.{facts_of}
