@@ -33,7 +33,7 @@ use Rattle.restart.specs.Laws.{AgreeingAreNotStrange}
 use Rattle.restart.proofs.Folding.{one_value}
 use Rattle.restart.proofs.StrangeNumbers.{next_may}
 use Rattle.restart.proofs.Staying.{GoesOn, values_go_on}
-use Rattle.restart.proofs.TakenOnes.{told_some, some_told}
+use Rattle.restart.proofs.There.{some_told}
 
 -- ---- the machines that a record names
 

@@ -1,8 +1,8 @@
-pub mod Splits
+mod Splits
+mod There
 pub mod Folding
 pub mod StrangeNumbers
 pub mod Staying
-pub mod Agreeing
 pub mod TakenOnes
-pub mod LogReading
-pub mod Refusing
+pub mod Agreeing
+mod LogReading

@@ -12,25 +12,9 @@ use Rattle.log_facts.specs.LogFacts.{facts_of}
 use Rattle.ctl_state.specs.Asks.{MachineFacts}
 use Rattle.restart.specs.Machines.{facts_at}
 use Rattle.restart.specs.ReadLogs.{FactsByVm, AreOf, GainsOnly}
+use Rattle.restart.proofs.There.{is_in}
 
 -- ---- logs of a fleet
-
-pub numbered_so : (fleet : FleetState) (vm : ℕ) (machine : MachineState)
-    → machine_of vm fleet ≡ Some machine → machine.number ≡ vm
-numbered_so fleet vm machine found = by (vm_of vm fleet) found
-  where
-    by : (o : Option VmState) → option_map {T = VmState} {U = MachineState}
-        (λ v. record { number = vm; capacities = v.capacities; log = v.log })
-        (option_and_then (λ v. cond v.out None (Some v)) o) ≡ Some machine
-        → machine.number ≡ vm
-    by None e = absurd (none-some machine e)
-    by (Some v) e = by_out v.out e
-      where
-        by_out : (out : Bool) → option_map {T = VmState} {U = MachineState}
-            (λ x. record { number = vm; capacities = x.capacities; log = x.log })
-            (cond out None (Some v)) ≡ Some machine → machine.number ≡ vm
-        by_out true f = absurd (none-some machine f)
-        by_out false f = ap (λ (m : MachineState). m.number) (sym (same_Some _ machine f))
 
 pub facts_there : (fleet : FleetState) (vm : ℕ) (machine : MachineState)
     → machine_of vm fleet ≡ Some machine → facts_at vm fleet ≡ Some (facts_of machine)
@@ -42,7 +26,8 @@ pub still_of : (fleet : FleetState) (vm : ℕ) (machine : MachineState) (old new
 still_of fleet vm machine old new found of gains k at here = elim (gains k at here) [
   | inl before ↦ of k at before
   | inr now ↦ (
-      let same : k ≡ vm = now.0 ∙ numbered_so fleet vm machine found in
+      let same : k ≡ vm = now.0
+      ∙ ap (λ (m : MachineState). m.number) (is_in fleet vm machine found).is in
       ap (λ (n : ℕ). facts_at n fleet) same ∙ facts_there fleet vm machine found
       ∙ ap (λ (x : MachineFacts). Some x) (sym now.1))
 ]

@@ -36,7 +36,7 @@ use Rattle.restart.specs.BorneOut.{names_machines, migration_before, IsInLog, Is
 use Rattle.restart.specs.Standing.{AreBorneOut, StandIn, AreTaken}
 use Rattle.restart.specs.Agrees.{PlansAsk, MigrationAsks, Agree}
 use Rattle.restart.specs.Laws.{TakenAgree}
-use Rattle.restart.proofs.Folding.{one_value}
+use Rattle.restart.proofs.There.{is_in, told_some, some_told}
 use Rattle.restart.proofs.Staying.{SameMachine, step_same, values_go_on}
 
 -- ---- the machines that records named
@@ -150,31 +150,6 @@ all_there fleet records v stand = (fronts (Front fleet) (one_front fleet)
 
 -- ---- what a machine of a fleet tells
 
--- the machine is one that isn't out
-record IsIn (fleet : FleetState) (number : ℕ) (m : MachineState) : Type 0 where
-  vm : VmState
-  there : vm_of number fleet ≡ Some vm
-  is : m ≡ record { number = number; capacities = vm.capacities; log = vm.log }
-
-is_in : (fleet : FleetState) (number : ℕ) (m : MachineState) → machine_of number fleet ≡ Some m
-    → IsIn fleet number m
-is_in fleet number m h = by (vm_of number fleet) refl h
-  where
-    by : (o : Option VmState) → vm_of number fleet ≡ o
-        → option_map {T = VmState} {U = MachineState}
-        (λ vm. record { number = number; capacities = vm.capacities; log = vm.log })
-        (option_and_then (λ vm. cond vm.out None (Some vm)) o) ≡ Some m
-        → IsIn fleet number m
-    by None is e = absurd (none-some m e)
-    by (Some vm) is e = in_or_out vm.out e
-      where
-        in_or_out : (out : Bool) → option_map {T = VmState} {U = MachineState}
-            (λ v. record { number = number; capacities = v.capacities; log = v.log })
-            (cond out None (Some vm)) ≡ Some m
-            → IsIn fleet number m
-        in_or_out true f = absurd (none-some m f)
-        in_or_out false f = record { vm = vm; there = is; is = sym (same_Some _ m f) }
-
 -- what is known of a machine that is tracked and has so many disks
 pub record IsTrackedAt (fleet : FleetState) (vm disks : ℕ) : Type 0 where
   pub at : MachineFacts
@@ -211,16 +186,6 @@ tracked_at fleet vm disks is h = by (machine_of vm fleet) refl h
     by (Some m) found e = of_machine fleet vm disks m is found e
 
 -- ---- what a migration's records ask
-
--- of what is found, what was known of what may be there
-pub told_some : {X : Type 0} (o : Option X) (P : X → Type 0) (x : X) → IsSomeAnd o P
-    → o ≡ Some x → P x
-told_some None P x h e = absurd h
-told_some (Some y) P x h e = subst P (same_Some y x e) h
-
-pub some_told : {X : Type 0} (o : Option X) (P : X → Type 0) (x : X) → o ≡ Some x → P x
-    → IsSomeAnd o P
-some_told {X} o P x e p = subst (λ (q : Option X). IsSomeAnd q P) (sym e) p
 
 -- the migration of a record, as it was before it
 pub before_is : (v : CtlValue) (r : Record) (mig : ℕ) (m : Migration) → migration_of r ≡ Some mig
