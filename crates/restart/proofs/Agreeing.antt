@@ -1,33 +1,29 @@
 -- No record is strange to a fleet that agrees with the records: what each of them asks is so.
-use Rattle.std.proofs.Common.{◌≡◌, ℕ, ◌+◌, ◌==◌, Bool, true, false, ◌&&◌, List, [], ◌∷◌, ◌++◌, length, Option, Some, None, option_map, IsSomeAnd, Result, Ok, Err, refl, ap, subst, sym, ◌∙◌, inl, inr, append_assoc}
-use Rattle.std.specs.Prelude.{option_and_then}
+use Rattle.std.proofs.Common.{◌≡◌, ℕ, ◌+◌, ◌==◌, true, false, ◌&&◌, List, [], ◌∷◌, ◌++◌, length, Option, Some, None, option_map, IsSomeAnd, refl, ap, subst, sym, ◌∙◌, inl, inr, append_assoc}
 use Rattle.std.specs.List.{list_all}
 use Rattle.std.specs.Option.{option_map_or}
 use Rattle.std.proofs.lemmas.Bool.{eqb-true, eq-eqb, false≢true, and_parts}
-use Rattle.std.proofs.lemmas.Option.{none-some, same_Some, option_and_then_some}
-use Rattle.log_model.specs.Link.{is_active}
-use Rattle.log_model.specs.Marks.{tracking}
+use Rattle.std.proofs.lemmas.Option.{option_and_then_some}
 use Rattle.source_vm.specs.Machine.{MachineState}
 use Rattle.fleet.specs.Fleet.{FleetState, machine_of}
 use Rattle.log_facts.specs.LogFacts.{facts_of}
-use Rattle.plan_model.specs.declared.plan.Plan.{Plan}
 use Rattle.record_codec.specs.declared.record.Record.{Record}
 use Rattle.record_codec.specs.declared.record.Record.TheVariants.{PlanMade, MigrationStarted, Chosen, SnapTaken, IdsStored, VolumesMade, CheckpointAdded, StageBegun, StageDone, Paused, SnapRemoved, CutoverSet, PowerStored, PoweredOff, OffSeen, FinalSnapTaken, CancelAsked, Ended}
 use Rattle.record_codec.specs.Record.{migration_of}
 use Rattle.target_volume.specs.declared.volume_name.VolumeName.{VolumeName}
 use Rattle.target_volume.specs.VolumeStore.{StoredVolume}
 use Rattle.ctl_state.specs.declared.migration.Migration.{Migration}
-use Rattle.ctl_state.specs.Asks.{MachineFacts, MachineAsks, RecordAsks, SnapshotAsks, AsksOf}
+use Rattle.ctl_state.specs.Asks.{MachineFacts, RecordAsks, SnapshotAsks, AsksOf}
 use Rattle.ctl_state.specs.Steps.{new_migration}
 use Rattle.ctl_state.specs.Fold.{IsStateOf, after, after_record, plan_of}
-use Rattle.ctl_state.specs.MayStand.{record_may_stand, may_start, may_plan, is_new_plan}
-use Rattle.ctl_state.specs.Value.{CtlValue, numbered, migration_in, plan_in}
+use Rattle.ctl_state.specs.MayStand.{record_may_stand, may_start}
+use Rattle.ctl_state.specs.Value.{CtlValue, numbered, migration_in}
 use Rattle.ctl_state.proofs.FoldFacts.{goes_on}
 use Rattle.ctl_state.proofs.ListFacts.{numbered-added}
 use Rattle.ctl_state.proofs.SoundValues.{values_are_sound}
 use Rattle.restart.specs.Machines.{facts_at, has_tracking, is_tracked, is_tracked_with}
 use Rattle.restart.specs.BorneOut.{names_machines, migration_before, IsInLog, IsBorneOut, HasItsSnapshot}
-use Rattle.restart.specs.Standing.{StandIn, IsRejected, IsFirstStrange, IsLastStrange}
+use Rattle.restart.specs.Standing.{IsRejected, IsFirstStrange, IsLastStrange}
 use Rattle.restart.specs.Agrees.{PlansAsk, MigrationAsks, Agree}
 use Rattle.restart.specs.Laws.{AgreeingAreNotStrange}
 use Rattle.restart.proofs.Folding.{one_value}

@@ -1,6 +1,6 @@
 -- Records that stand, one more of them at a time, and the migrations that have their snapshots, one
 -- more at a time.
-use Rattle.std.proofs.Common.{◌≡◌, ℕ, ◌+◌, ◌-◌, ◌==◌, ◌<◌, ◌≤◌, Bool, true, false, cond, List, [], ◌∷◌, ◌++◌, length, take, drop, get_or, Option, Some, None, Result, Ok, Err, refl, ap, subst, sym, ◌∙◌, arith, below_more}
+use Rattle.std.proofs.Common.{◌≡◌, ℕ, ◌+◌, ◌-◌, ◌==◌, ◌<◌, ◌≤◌, Bool, true, false, cond, List, [], ◌∷◌, ◌++◌, length, take, drop, get_or, Some, None, Result, Ok, refl, ap, subst, sym, ◌∙◌, arith, below_more}
 use Rattle.std.specs.Prelude.{slice_get, IsTrue, MatchBool, ◌↔◌}
 use Rattle.std.proofs.lemmas.Bool.{eqb-true, false≢true}
 use Rattle.std.proofs.lemmas.List.{take_more, take_all, length-take-le}
@@ -8,14 +8,13 @@ use Rattle.std.proofs.lemmas.Option.{same_Some, slice_get_within, slice_get_read
 use Rattle.fleet.specs.Fleet.{FleetState}
 use Rattle.record_codec.specs.declared.record.Record.{Record}
 use Rattle.ctl_state.specs.declared.migration.Migration.{Migration}
-use Rattle.ctl_state.specs.Fold.{IsStateOf, after, after_record}
-use Rattle.ctl_state.specs.MayStand.{record_may_stand}
-use Rattle.ctl_state.specs.Value.{CtlValue, no_records, numbered, migration_in}
+use Rattle.ctl_state.specs.Fold.{IsStateOf}
+use Rattle.ctl_state.specs.Value.{CtlValue, no_records, numbered}
 use Rattle.ctl_state.proofs.FoldFacts.{goes_on}
 use Rattle.ctl_state.proofs.ListFacts.{numbered_at}
 use Rattle.restart.specs.BorneOut.{IsBorneOut, HasItsSnapshot}
 use Rattle.restart.specs.Standing.{AreBorneOut, StandIn, Accepts, IsRejected, IsFirstStrange, HaveSnapshots, LackASnapshot}
-use Rattle.restart.proofs.Splits.{Order, same, earlier, later, two_splits, nothing_splits, none_behind, split_at}
+use Rattle.restart.proofs.Splits.{same, earlier, later, two_splits, nothing_splits, none_behind, split_at}
 
 -- ---- records that stand
 

@@ -1,13 +1,13 @@
 -- The logs that were read stay those of the fleet's machines, and what is found among them of a
 -- machine is what that machine tells.
-use Rattle.std.proofs.Common.{◌≡◌, ℕ, Bool, true, false, cond, Option, Some, None, option_map, Result, refl, ap, subst, sym, ◌∙◌, inl, inr}
-use Rattle.std.specs.Prelude.{◌↔◌, option_and_then, IsTrue, IsSomeAnd, IfOk}
+use Rattle.std.proofs.Common.{◌≡◌, ℕ, Bool, Option, Some, option_map, Result, ap, subst, sym, ◌∙◌, inl, inr}
+use Rattle.std.specs.Prelude.{◌↔◌, IsTrue, IsSomeAnd, IfOk}
 use Rattle.std.specs.BTreeMap.{get}
 use Rattle.std.specs.Ordering.{nat_cmp}
 use Rattle.basics.specs.declared.refusal.NoMemory.{NoMemory}
-use Rattle.std.proofs.lemmas.Option.{none-some, same_Some}
+use Rattle.std.proofs.lemmas.Option.{same_Some}
 use Rattle.source_vm.specs.Machine.{MachineState}
-use Rattle.fleet.specs.Fleet.{VmState, FleetState, vm_of, machine_of}
+use Rattle.fleet.specs.Fleet.{FleetState, machine_of}
 use Rattle.log_facts.specs.LogFacts.{facts_of}
 use Rattle.ctl_state.specs.Asks.{MachineFacts}
 use Rattle.restart.specs.Machines.{facts_at}

@@ -1,8 +1,8 @@
 -- What stays of plans and of migrations whatever records come behind them: the machines of a plan,
 -- and the machine of a migration with its number of disks.
-use Rattle.std.proofs.Common.{◌≡◌, ℕ, ◌+◌, ◌==◌, Bool, true, false, cond, List, [], ◌∷◌, ◌++◌, length, Option, Some, None, Result, Ok, Err, refl, ap, subst, sym, ◌∙◌, append_assoc, option_map}
+use Rattle.std.proofs.Common.{◌≡◌, ℕ, ◌==◌, Bool, true, false, cond, List, [], ◌∷◌, ◌++◌, Option, Some, None, Ok, refl, ap, subst, sym, ◌∙◌, append_assoc, option_map}
 use Rattle.std.specs.Option.{option_map_or}
-use Rattle.std.proofs.lemmas.Bool.{eqb-true, eq-eqb, false≢true, and_parts}
+use Rattle.std.proofs.lemmas.Bool.{eqb-true, eq-eqb, false≢true}
 use Rattle.std.proofs.lemmas.List.{append-nil}
 use Rattle.std.proofs.lemmas.Option.{none-some}
 use Rattle.phase_table.specs.declared.phases.Phase.TheVariants as Phases
@@ -15,7 +15,6 @@ use Rattle.ctl_state.specs.declared.migration.How.{How}
 use Rattle.ctl_state.specs.Migration.{same_phase, moved, change_at, done_copy, all_done, sectors_written}
 use Rattle.ctl_state.specs.Steps.{new_migration, after_step, with_checkpoint_done, with_stage_done, finished_volume, with_end, how_of}
 use Rattle.ctl_state.specs.Fold.{IsStateOf, after, after_record}
-use Rattle.ctl_state.specs.MayStand.{record_may_stand}
 use Rattle.ctl_state.specs.Value.{CtlValue, numbered, change_numbered, migration_in, plan_in}
 use Rattle.ctl_state.proofs.FoldFacts.{goes_on}
 use Rattle.ctl_state.proofs.ListFacts.{numbered-changed, numbered-other, numbered-before}

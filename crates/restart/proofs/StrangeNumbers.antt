@@ -1,17 +1,15 @@
 -- Records are strange at one number at most, and at none where they are taken: none of those that
 -- stand is rejected.
-use Rattle.std.proofs.Common.{◌≡◌, ℕ, ◌+◌, true, false, List, [], ◌∷◌, ◌++◌, length, Some, Result, Ok, Err, refl, ap, subst, sym, ◌∙◌, inl, inr, append_assoc}
+use Rattle.std.proofs.Common.{◌≡◌, ℕ, ◌+◌, true, false, List, [], ◌∷◌, ◌++◌, length, Result, Ok, Err, refl, ap, subst, sym, ◌∙◌, inl, inr, append_assoc}
 use Rattle.std.specs.Prelude.{Bool}
 use Rattle.fleet.specs.Fleet.{FleetState}
 use Rattle.record_codec.specs.declared.record.Record.{Record}
-use Rattle.ctl_state.specs.declared.migration.Migration.{Migration}
 use Rattle.ctl_state.specs.Fold.{IsStateOf, after}
 use Rattle.ctl_state.specs.Laws.{then_after}
 use Rattle.ctl_state.specs.MayStand.{record_may_stand}
-use Rattle.ctl_state.specs.Value.{CtlValue, migration_in}
+use Rattle.ctl_state.specs.Value.{CtlValue}
 use Rattle.ctl_state.proofs.FoldFacts.{lists_join, stops}
-use Rattle.restart.specs.BorneOut.{HasItsSnapshot}
-use Rattle.restart.specs.Standing.{StandIn, IsRejected, IsFirstStrange, IsLastStrange, IsStrange, AreTaken, LackASnapshot, HaveSnapshots}
+use Rattle.restart.specs.Standing.{StandIn, IsRejected, IsFirstStrange, LackASnapshot, HaveSnapshots}
 use Rattle.restart.specs.Laws.{StrangeAtOne, TakenAreNotStrange}
 use Rattle.restart.proofs.Splits.{same, earlier, later, two_splits}
 use Rattle.restart.proofs.Folding.{one_value}

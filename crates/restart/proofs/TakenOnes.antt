@@ -1,17 +1,16 @@
 -- A fleet agrees with the records that are taken over it: each machine that they name is there,
 -- and what they say of a migration stands in the log of its machine.
-use Rattle.std.proofs.Common.{◌≡◌, ◌≢◌, ℕ, ◌+◌, ◌-◌, ◌==◌, ◌<◌, ◌≤◌, nat_le, Bool, true, false, cond, ◌&&◌, List, [], ◌∷◌, ◌++◌, length, get_or, Option, Some, None, option_map, IsSomeAnd, Result, Ok, Err, refl, ap, subst, sym, ◌∙◌, append_assoc, All}
+use Rattle.std.proofs.Common.{◌≡◌, ℕ, ◌+◌, ◌-◌, ◌==◌, Bool, true, false, cond, ◌&&◌, List, [], ◌∷◌, ◌++◌, length, Option, Some, None, option_map, refl, ap, subst, sym, ◌∙◌, append_assoc}
 use Rattle.std.specs.Prelude.{slice_get, option_and_then}
 use Rattle.std.specs.List.{list_all}
 use Rattle.std.specs.Option.{option_map_or}
 use Rattle.std.proofs.lemmas.Bool.{eqb-true, eq-eqb, false≢true, and_parts}
-use Rattle.std.proofs.lemmas.List.{append-nil}
-use Rattle.std.proofs.lemmas.Option.{none-some, same_Some, slice_get_within, get_or_from_slice_get}
+use Rattle.std.proofs.lemmas.Option.{none-some, same_Some}
 use Rattle.log_model.specs.Legal.{Legal, all_of}
 use Rattle.log_model.specs.Link.{is_active}
 use Rattle.log_model.specs.Marks.{tracking}
 use Rattle.source_vm.specs.Machine.{MachineState}
-use Rattle.fleet.specs.Fleet.{VmState, FleetState, vm_of, vm_in, machine_of}
+use Rattle.fleet.specs.Fleet.{FleetState, machine_of}
 use Rattle.fleet.specs.Sound.{IsFleet}
 use Rattle.fleet.proofs.Logs.{at_place}
 use Rattle.fleet.proofs.StaysSound.{IsVm-at}
@@ -21,20 +20,19 @@ use Rattle.record_codec.specs.declared.record.Record.{Record}
 use Rattle.record_codec.specs.declared.record.Record.TheVariants.{PlanMade, MigrationStarted, Chosen, SnapTaken, IdsStored, VolumesMade, CheckpointAdded, StageBegun, StageDone, Paused, SnapRemoved, CutoverSet, PowerStored, PoweredOff, OffSeen, FinalSnapTaken, CancelAsked, Ended}
 use Rattle.record_codec.specs.Record.{migration_of}
 use Rattle.ctl_state.specs.declared.migration.Migration.{Migration}
-use Rattle.ctl_state.specs.Asks.{MachineFacts, MachineAsks, RecordAsks, RecordsAsk, SnapshotAsks, AsksOf}
-use Rattle.ctl_state.specs.Steps.{new_migration, after_step}
+use Rattle.ctl_state.specs.Asks.{MachineFacts, RecordAsks, RecordsAsk, SnapshotAsks, AsksOf}
+use Rattle.ctl_state.specs.Steps.{after_step}
 use Rattle.ctl_state.specs.Fold.{IsStateOf, after, after_record, plan_of}
 use Rattle.ctl_state.specs.MayStand.{record_may_stand}
-use Rattle.ctl_state.specs.Sound.{IsSoundValue}
-use Rattle.ctl_state.specs.Value.{CtlValue, no_records, numbered, migration_in, plan_in}
+use Rattle.ctl_state.specs.Value.{CtlValue, no_records, numbered, migration_in}
 use Rattle.ctl_state.proofs.FoldFacts.{goes_on}
 use Rattle.ctl_state.proofs.Came.{Came, made, stepped, stayed, came, fronts}
 use Rattle.ctl_state.proofs.ListFacts.{numbered-before, numbered-added}
 use Rattle.ctl_state.proofs.SoundValues.{values_are_sound}
 use Rattle.restart.specs.Machines.{facts_at, has_tracking, is_tracked, is_tracked_with}
-use Rattle.restart.specs.BorneOut.{names_machines, migration_before, IsInLog, IsBorneOut, HasItsSnapshot}
+use Rattle.restart.specs.BorneOut.{names_machines, migration_before, IsBorneOut}
 use Rattle.restart.specs.Standing.{AreBorneOut, StandIn, AreTaken}
-use Rattle.restart.specs.Agrees.{PlansAsk, MigrationAsks, Agree}
+use Rattle.restart.specs.Agrees.{PlansAsk, MigrationAsks}
 use Rattle.restart.specs.Laws.{TakenAgree}
 use Rattle.restart.proofs.There.{is_in, told_some, some_told}
 use Rattle.restart.proofs.Staying.{SameMachine, step_same, values_go_on}

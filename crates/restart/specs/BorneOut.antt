@@ -1,7 +1,7 @@
 -- When a fleet bears out a record: the machines that it names are there and tracked, and what it
 -- says of a migration stands in the log of the migration's machine. And when the current snapshot
 -- of a migration is there.
-use Rattle.std.specs.Prelude.{◌≡◌, ◌≢◌, ℕ, Bool, true, Option, option_and_then, IsSomeAnd}
+use Rattle.std.specs.Prelude.{◌≡◌, Bool, true, Option, option_and_then, IsSomeAnd}
 use Rattle.std.specs.List.{list_all}
 use Rattle.std.specs.Option.{ForSome}
 use Rattle.fleet.specs.Fleet.{FleetState}

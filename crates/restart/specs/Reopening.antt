@@ -1,7 +1,7 @@
 -- What reopening a controller answers, and what it leaves of the journal's disk. The file is
 -- written only once its records are taken, so that a journal of strange records is left as it was.
 use Rattle.std.specs.Prelude.{◌≡◌, ◌⊎◌, ℕ, List, None, IfSome}
-use Rattle.edge_traits.specs.Disk.{DiskContents, DiskState, WhereTold}
+use Rattle.edge_traits.specs.Disk.{DiskState, WhereTold}
 use Rattle.record_codec.specs.declared.record.Record.{Record}
 use Rattle.journal.specs.Journal.{JournalState, IsKept, LeavesOneOf, outcomes}
 use Rattle.journal.specs.Opening.{Opens, IsOnlySynced, IsSyncedOrNot, KeepsStanding, SaysWhy as JournalSaysWhy}

@@ -3,7 +3,6 @@
 -- and a live migration lacks its snapshot.
 use Rattle.std.specs.Prelude.{◌≡◌, ◌⊎◌, ℕ, ◌+◌, true, false, List, ◌∷◌, ◌++◌, length, Some, Result, Ok, Err}
 use Rattle.fleet.specs.Fleet.{FleetState}
-use Rattle.journal.specs.declared.refusal.JournalRefused.{JournalRefused}
 use Rattle.record_codec.specs.declared.record.Record.{Record}
 use Rattle.ctl_state.specs.declared.migration.Migration.{Migration}
 use Rattle.ctl_state.specs.Fold.{IsStateOf, after_record}
