@@ -1,0 +1,8 @@
+mod Splits
+mod There
+pub mod Folding
+pub mod StrangeNumbers
+pub mod Staying
+pub mod TakenOnes
+pub mod Agreeing
+mod LogReading
