@@ -1,5 +1,5 @@
 //! A disk over the calls on a file.
-ghost use Rattle.std.specs.Prelude.{◌≡◌, Ok, IsErr, MatchResult};
+ghost use Rattle.std.specs.Prelude.{◌≡◌, IsErr, MatchResult};
 ghost use Rattle.basics.specs.Faults.{HasCause, counted_by};
 
 use crate::FileCalls;

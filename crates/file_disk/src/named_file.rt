@@ -14,7 +14,7 @@ const LAST_STREAM: i32 = 2;
 /// The file of this name in the current folder. The first call opens it, and makes it where it is
 /// missing. A call that can't open it answers why, and the next one tries again.
 ///
-/// It stands for its name. It tells nothing of what it holds: what its calls do is up to the system.
+/// It stands for its name. It tells nothing of what it holds, since that is up to the system.
 #[derive(Drop)]
 pub struct NamedFile<'a, R: Files<File = File>> {
     files: &'a R,
@@ -65,8 +65,9 @@ fn open_or_make<R: Files<File = File>>(files: &R, name: &str) -> io::Result<File
     Ok(file)
 }
 
-/// The same file under a descriptor that is none of a standard stream. Where one of these was closed
-/// when the program began, the file would get its number, and what is meant for it.
+/// The same file under a descriptor that is none of a standard stream's. Where one of these was
+/// closed when the program began, the file may have got its number, and with it what is meant for
+/// that stream.
 fn above_streams(file: File) -> io::Result<File> {
     if file.as_raw_fd() <= LAST_STREAM {
         return file.try_clone();
