@@ -152,6 +152,7 @@ stops_since : (why : NotKept) (left rest : List Record) (start now next : Journa
 stops_since Fault [] rest start now next stops faults = absurd stops
 stops_since Fault (r ∷ left) rest start now next stops faults = record {
   at = stops.at;
+  room = stops.room;
   failure = stops.failure;
   rises = subst (λ n. HasRisen n next.disk.faults) faults stops.rises;
 }

@@ -54,9 +54,11 @@ KeepsOne r old new = Keeps (r ∷ []) old new × (new.value ≡ after_record old
 
 -- ---- one of them wasn't, though those before it were
 
--- the disk failed in the append of the record: after a crash it may stand or not
+-- the disk failed in the append of the record, for which there was room: after a crash it may stand
+-- or not
 pub record FailsAtRecord (r : Record) (old new : JournalState) : Type 0 where
   pub at : ℕ
+  pub room : full_refusal r new ≡ None
   pub failure : new.failure ≡ Some (record { at = at; refused = r })
   pub rises : HasRisen old.disk.faults new.disk.faults
 
