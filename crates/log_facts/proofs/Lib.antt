@@ -1,0 +1,5 @@
+pub mod PlaceLemmas
+pub mod DiskLemmas
+pub mod SnapshotLemmas
+pub mod StageLemmas
+pub mod LookupLemmas

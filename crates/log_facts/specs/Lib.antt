@@ -1,0 +1,5 @@
+pub mod Places
+pub mod Snapshots
+pub mod Disks
+pub mod Stages
+pub mod LogFacts
