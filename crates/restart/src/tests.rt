@@ -1,4 +1,6 @@
 //! A disk without a journal, and journals of one record that is strange.
+ghost use Rattle.std.specs.Prelude.{◌≤◌, length};
+
 use crate::{ReopenRefused, reopen};
 use basics::is_name;
 use edge_traits::MemDisk;
@@ -19,11 +21,9 @@ const PAUSE: [u8; 27] = [
 ];
 
 /// How many plans the controller has whose journal is this file, or why it isn't reopened.
-fn plans_of(
-    alloc: Global,
-    file: &[u8],
-    fleet: Fleet,
-) -> Result<Result<usize, ReopenRefused>, Fail> {
+fn plans_of(alloc: Global, file: &[u8], fleet: Fleet) -> Result<Result<usize, ReopenRefused>, Fail>
+    requires { length file.now ≤ 1000 }
+{
     let disk = MemDisk::new(alloc, file, 1000, &[])?;
     let store = MemVolumes::new(alloc, 0, &[])?;
     let mut fleet = fleet;
