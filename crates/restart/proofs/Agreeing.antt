@@ -145,8 +145,7 @@ has_snapshot fleet records told mig m asks is = by (facts_at m.vm fleet) asks
 
 pub agreeing_taken : AgreeingAreTaken
 agreeing_taken fleet records told agree =
-    let sound = values_are_sound records agree.value agree.come_to in
-    (
+    let sound = values_are_sound records agree.value agree.come_to in (
       agree.value,
       record {
         stand = record {
