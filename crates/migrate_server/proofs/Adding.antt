@@ -38,7 +38,7 @@ use Rattle.plan_commands.specs.declared.plan.TheConstants.{DEFAULT_INTERVAL}
 use Rattle.restart.specs.Agrees.{PlansAsk}
 use Rattle.restart.specs.BorneOut.{IsBorneOut, HasItsSnapshot, migration_before, names_machines}
 use Rattle.restart.specs.Machines.{facts_at, has_tracking, is_tracked, is_tracked_with}
-use Rattle.restart.specs.Standing.{Accepts, AreTaken, HaveSnapshots, StandIn}
+use Rattle.restart.specs.Standing.{Accepts, AreTaken, HaveSnapshots, StandOver}
 use Rattle.restart.proofs.Folding.{stand_more}
 use Rattle.restart.proofs.StrangeNumbers.{next_may}
 use Rattle.restart.proofs.TakenOnes.{some_told}

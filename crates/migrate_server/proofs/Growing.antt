@@ -56,7 +56,7 @@ use Rattle.log_facts.specs.LogFacts.{facts_of}
 use Rattle.record_codec.specs.Record.{migration_of}
 use Rattle.restart.specs.BorneOut.{IsBorneOut, IsInLog, migration_before, names_machines}
 use Rattle.restart.specs.Machines.{facts_at, has_tracking, is_tracked, is_tracked_with}
-use Rattle.restart.specs.Standing.{AreBorneOut, AreTaken, StandIn}
+use Rattle.restart.specs.Standing.{AreBorneOut, AreTaken, StandOver}
 use Rattle.restart.proofs.Staying.{step_same}
 use Rattle.restart.proofs.StrangeNumbers.{next_may}
 use Rattle.restart.proofs.TakenOnes.{before_is, told_some}
@@ -385,7 +385,7 @@ none_numbered {X} n x = test (n == 0)
     test false e = none-some x e
 
 pub all_known : (fleet : FleetState) (records : List Record) (v : CtlValue) → IsFleet fleet
-    → StandIn fleet records v → (mig : ℕ) (m : Migration) → migration_in v mig ≡ Some m
+    → StandOver fleet records v → (mig : ℕ) (m : Migration) → migration_in v mig ≡ Some m
     → Knows fleet m
 all_known fleet records v is stand = (fronts (Front fleet) (one_front fleet is)
     (refl, λ borne mig m at. absurd (none_numbered mig m at)) records v stand.come_to).1
@@ -469,7 +469,7 @@ stores v r mig m of there may k ids is =
     ∙ sym (ap (record_may_stand v) is) ∙ may
 
 in_log_later : (old new : FleetState) (front : List Record) (v : CtlValue) (r : Record)
-    (m : Migration) → IsFleet old → Grows old new → StandIn old front v
+    (m : Migration) → IsFleet old → Grows old new → StandOver old front v
     → record_may_stand v r ≡ true → migration_before v r ≡ Some m → IsInLog old m r
     → IsInLog new m r
 in_log_later old new front v r m is grows stand may before logged =
@@ -481,11 +481,11 @@ in_log_later old new front v r m is grows stand may before logged =
     (stores v r mig m of there may) asks) logged)
 
 stands_later : (old new : FleetState) (records : List Record) (v : CtlValue) → IsFleet old
-    → Grows old new → StandIn old records v → AreBorneOut new records
+    → Grows old new → StandOver old records v → AreBorneOut new records
 stands_later old new records v is grows stand front rest r w split come =
     let whole = subst (λ (xs : List Record). AreBorneOut old xs) split stand.borne_out in
     let borne = stand.borne_out front rest r w split come in
-    let before : StandIn old front w =
+    let before : StandOver old front w =
     record { come_to = come; borne_out = front_borne old front (r ∷ rest) whole } in
     let may = next_may front rest r w v come (sym (ap after split) ∙ stand.come_to) in
     record {

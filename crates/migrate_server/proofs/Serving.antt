@@ -985,7 +985,7 @@ cut_by : (why : NotKept) (left : List Record) (more : List (List ℕ)) (mid : St
     → CutsNext more left mid (state_of new) → CutFor (unkept why) more mid new
 cut_by kept.Fault [] more mid journal new stops cuts = absurd stops
 cut_by kept.Fault (r ∷ left) more mid journal new stops cuts =
-    (stops.at, r, left, cuts, stops.failure)
+    (stops.at, r, left, cuts, stops.failure, stops.room)
 cut_by kept.Full [] more mid journal new stops cuts = absurd stops
 cut_by kept.Full (r ∷ left) more mid journal new stops cuts =
     (r, left, cuts, stops.1, (stops.0).failure)

@@ -2,15 +2,17 @@
 -- lines over it; or the controller isn't opened, and no line is served. What stands on the journal's
 -- disk at the end of a run is what the next one needs of it, so that a chain of runs, with a crash
 -- behind any of them, is one induction.
-use Rattle.std.specs.Prelude.{◌≡◌, ◌⊎◌, ℕ, List, None, IsSome}
+use Rattle.std.specs.Prelude.{◌≡◌, ◌⊎◌, ℕ, ◌≤◌, List, [], ◌∷◌, length, take, None, IsSome, IfSome}
 use Rattle.std.specs.List.{AllByRecursion}
-use Rattle.edge_traits.specs.Disk.{IsCrashOf}
-use Rattle.journal.specs.Journal.{JournalState, LeavesOneOf, outcomes}
+use Rattle.edge_traits.specs.Disk.{IsCrashOf, settled}
+use Rattle.journal.specs.Journal.{JournalState, IsKept, LeavesOneOf, outcomes}
+use Rattle.journal.specs.Laws.{IsOneOf}
+use Rattle.journal.specs.declared.format.TheConstants.{EMPTY_BYTES}
 use Rattle.journal.specs.declared.refusal.JournalRefused.{JournalRefused}
 use Rattle.journal.specs.declared.refusal.JournalRefused.TheVariants.{DiskFault, NotAJournal, BadRecord, Full, NoMemory as Wanting}
 use Rattle.record_codec.specs.declared.record.Record.{Record}
 use Rattle.ctl_state.specs.Value.{CtlValue}
-use Rattle.restart.specs.Agrees.{Agree}
+use Rattle.restart.specs.Agrees.{Agrees}
 use Rattle.restart.specs.Reopening.{Reopens, IsLeft, SaysWhy}
 use Rattle.restart.specs.declared.refusal.ReopenRefused.{ReopenRefused}
 use Rattle.restart.specs.declared.refusal.ReopenRefused.TheVariants.{Journal, Strange, NoMemory}
@@ -52,6 +54,8 @@ pub record Closes (open_desk : Desk) (new : World) (status : Status) : Type 0 wh
   pub serves : Serves open_desk (with_journal closed new) status
   pub ends : EndsFor open_desk (with_journal closed new) status
   pub disk : new.disk ≡ closed.disk
+  -- its file is that of its records, and is as long as they make it
+  pub kept : IsKept closed
   -- whatever a crash leaves of the disk has the records that were acknowledged, and after a fault
   -- perhaps the one whose append failed; and these would be taken over the fleet
   pub leaves : LeavesOneOf (outcomes closed) new.disk
@@ -69,29 +73,56 @@ Runs old new status = IsUnopened old new status ⊎ IsServed old new status
 
 -- ---- runs one after another
 
--- whatever a crash leaves of the journal's disk has one of some lists of records, each of which is
+-- whatever a crash leaves of the journal's disk has one of these lists of records, each of which is
 -- taken where a controller is reopened over the fleet
-pub record HoldsTogether (world : World) : Type 0 where
-  pub lists : List (List Record)
+pub record HoldsTogether (lists : List (List Record)) (world : World) : Type 0 where
   pub leaves : LeavesOneOf lists world.disk
   pub taken : AllByRecursion (WouldBeTaken world.fleet) lists
 
--- a run leaves a world that holds together so
-abbrev pub RunsHoldTogether : Type 0
-RunsHoldTogether = (old new : World) (status : Status) → HoldsTogether old
-    → Runs old new status → HoldsTogether new
+-- before the first run: a disk without a byte, or with so few that they are no journal yet, holds
+-- together with any fleet
+abbrev pub FreshHoldsTogether : Type 0
+FreshHoldsTogether = (world : World)
+    → IfSome world.disk.contents (λ c. (bytes : List ℕ)
+    × (c ≡ settled bytes) × (length bytes ≤ EMPTY_BYTES))
+    → HoldsTogether ([] ∷ []) world
 
--- and so does a crash behind it, whatever becomes of all but the fleet
+-- the records begin with one of these lists
+abbrev pub GoesOnFrom : List (List Record) → List Record → Type 0
+GoesOnFrom lists records = (found : List Record)
+    × IsOneOf found lists × (take (length found) records ≡ found)
+
+-- a run leaves a world that holds together so, with the lists that it found or with such as begin
+-- with one of them
+pub record LeavesTogether (lists : List (List Record)) (new : World) : Type 0 where
+  pub later : List (List Record)
+  pub together : HoldsTogether later new
+  pub go_on : AllByRecursion (GoesOnFrom lists) later
+
+abbrev pub RunsHoldTogether : Type 0
+RunsHoldTogether = (lists : List (List Record)) (old new : World) (status : Status)
+    → HoldsTogether lists old → IsSome old.disk.contents → Runs old new status
+    → LeavesTogether lists new
+
+-- and so does a crash behind it, with the same lists, whatever becomes of all but the fleet
 abbrev pub CrashesHoldTogether : Type 0
-CrashesHoldTogether = (old new : World) → HoldsTogether old → IsCrashOf old.disk new.disk
-    → new.fleet ≡ old.fleet → HoldsTogether new
+CrashesHoldTogether = (lists : List (List Record)) (old new : World) → HoldsTogether lists old
+    → IsCrashOf old.disk new.disk → new.fleet ≡ old.fleet → HoldsTogether lists new
+
+-- what a run over such a world finds is one of the lists
+abbrev pub RunsFindOne : Type 0
+RunsFindOne = (lists : List (List Record)) (old new : World) (status : Status)
+    → HoldsTogether lists old → IsSome old.disk.contents → (s : IsServed old new status)
+    → IsOneOf s.opened.records lists
 
 -- over such a world no journal is strange, where the disk tells what it holds
 abbrev pub NoneIsStrange : Type 0
-NoneIsStrange = (old new : World) (number : ℕ) → HoldsTogether old → IsSome old.disk.contents
+NoneIsStrange = (lists : List (List Record)) (old new : World) (number : ℕ)
+    → HoldsTogether lists old → IsSome old.disk.contents
     → Runs old new (StrangeJournal number) → ⊥
 
 -- and its fleet agrees with each of those lists
 abbrev pub FleetAgrees : Type 0
-FleetAgrees = (world : World) → IsFleet world.fleet → (h : HoldsTogether world)
-    → AllByRecursion (λ records. Agree world.fleet records None) h.lists
+FleetAgrees = (lists : List (List Record)) (world : World) → IsFleet world.fleet
+    → HoldsTogether lists world
+    → AllByRecursion (λ records. Agrees world.fleet records None) lists

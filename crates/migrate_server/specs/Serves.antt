@@ -99,11 +99,13 @@ CutsNext more left mid new = (line : List ℕ) × (behind : List (List ℕ))
     × (more ≡ line ∷ behind) × LineIsCut line left mid new
 
 -- what came of the records of the line at work, behind what the lines with answers left. After a
--- fault of the journal's disk the first of those that are left may stand too, or not
+-- fault of the journal's disk the first of those that are left, for which there was room, may stand
+-- too, or not
 abbrev pub CutFor : Status → (more : List (List ℕ)) → (mid : State) → (new : Server) → Type 0
 CutFor JournalFault more mid new = (at : ℕ) × (r : Record) × (left : List Record)
     × CutsNext more (r ∷ left) mid (state_of new)
     × (new.journal.failure ≡ Some (record { at = at; refused = r }))
+    × (full_refusal r new.journal ≡ None)
 CutFor JournalFull more mid new = (r : Record) × (left : List Record)
     × CutsNext more (r ∷ left) mid (state_of new)
     × IsSome (full_refusal r new.journal) × (new.journal.failure ≡ None)
