@@ -6,7 +6,7 @@ mod plans;
 
 use crate::{Devices, Fleet, Gate, Outcome, Status, migrate};
 use basics::NoMemory;
-use edge_traits::{Failed, MemDisk, MemSink, MemSource, Source};
+use edge_traits::{Disk, Failed, MemDisk, MemSink, MemSource, Source};
 use sector_model::Sector;
 use std::alloc::Global;
 use std::test::Fail;
@@ -48,11 +48,11 @@ const SOUND: Setting<'static> = Setting {
 /// How a run ended, what is left of the input, what was written, the journal's disk, the store and
 /// the fleet.
 #[derive(Drop)]
-struct EndedRun {
+struct EndedRun<D> {
     status: Status,
     source: MemSource,
     sink: MemSink,
-    disk: MemDisk,
+    disk: D,
     volumes: MemVolumes,
     fleet: Fleet,
 }
@@ -62,7 +62,7 @@ fn served_in(
     setting: &Setting,
     words: &[String],
     lines: &[u8],
-) -> Result<EndedRun, Fail>
+) -> Result<EndedRun<MemDisk>, Fail>
     ensures { IfOk result (λ run. AllAreIn run.fleet) }
 {
     served_over(rt, setting, words, lines, Fleet::empty(rt.alloc()))
@@ -75,7 +75,7 @@ fn served_over(
     words: &[String],
     lines: &[u8],
     fleet: Fleet,
-) -> Result<EndedRun, Fail>
+) -> Result<EndedRun<MemDisk>, Fail>
     requires { AllAreIn fleet }
     ensures { IfOk result (λ run. AllAreIn run.fleet) }
 {
@@ -84,14 +84,14 @@ fn served_over(
 }
 
 /// The same, over the disk of a journal, too.
-fn served_on(
+fn served_on<D: Disk + Drop>(
     rt: &HostRuntime,
     setting: &Setting,
     words: &[String],
     lines: &[u8],
-    disk: MemDisk,
+    disk: D,
     fleet: Fleet,
-) -> Result<EndedRun, Fail>
+) -> Result<EndedRun<D>, Fail>
     requires { AllAreIn fleet }
     ensures { IfOk result (λ run. AllAreIn run.fleet) }
 {
@@ -129,13 +129,13 @@ fn served_on(
     })
 }
 
-fn served(rt: &HostRuntime, lines: &str) -> Result<EndedRun, Fail>
+fn served(rt: &HostRuntime, lines: &str) -> Result<EndedRun<MemDisk>, Fail>
     ensures { IfOk result (λ run. AllAreIn run.fleet) }
 {
     served_in(rt, &SOUND, &[], lines.as_bytes())
 }
 
-fn held(run: &EndedRun) -> &[u8] {
+fn held<D>(run: &EndedRun<D>) -> &[u8] {
     run.sink.held()
 }
 

@@ -1,8 +1,8 @@
 //! The commands on plans, and the journal that they keep, over `migrate`.
 use super::machines::{Exchange, HOST, SMALL, lines_of, replies_of};
-use super::{DISK_ROOM, SOUND, held, served, served_on};
+use super::{DISK_ROOM, EndedRun, SOUND, held, served, served_on};
 use crate::{Fleet, Status};
-use edge_traits::{Disk, MemDisk, Pick};
+use edge_traits::{Disk, MemDisk, Pick, StopDisk};
 use std::test::Fail;
 
 const OK: &str = r#"{"ok":true}"#;
@@ -47,19 +47,17 @@ fn a_plan_takes_machines_that_are_tracked_and_in_no_other(rt: HostRuntime) -> Re
     Ok(())
 }
 
-/// What is asked of a plan once it was made.
-const STARTED: [Exchange; 3] = [
-    START,
-    (r#"{"cmd":"cutover","plan":"p"}"#, OK),
-    (
-        r#"{"cmd":"status"}"#,
-        concat!(
-            r#"{"migrations":[{"cause":null,"checkpoints":[],"dv":"Pending","marks":[],"mig":1,"#,
-            r#""phase":"Started","place":null,"plan":"p","state":"ready","vm":"a","#,
-            r#""writes":null,"written":[]}],"ok":true}"#
-        ),
+const STATUS: Exchange = (
+    r#"{"cmd":"status"}"#,
+    concat!(
+        r#"{"migrations":[{"cause":null,"checkpoints":[],"dv":"Pending","marks":[],"mig":1,"#,
+        r#""phase":"Started","place":null,"plan":"p","state":"ready","vm":"a","#,
+        r#""writes":null,"written":[]}],"ok":true}"#
     ),
-];
+);
+
+/// What is asked of a plan once it was made.
+const STARTED: [Exchange; 3] = [START, (r#"{"cmd":"cutover","plan":"p"}"#, OK), STATUS];
 
 #[test]
 fn a_second_call_goes_on_with_what_the_journal_has(rt: HostRuntime) -> Result<(), Fail> {
@@ -107,5 +105,37 @@ fn a_file_of_few_bytes_becomes_a_journal(rt: HostRuntime) -> Result<(), Fail> {
     assert_eq!(rt; run.status, Status::Ok);
     let mut disk = run.disk;
     assert_eq!(rt; disk.length(), Ok(9));
+    Ok(())
+}
+
+/// A plan that is made and started, and a look at it.
+const ORDERED: [Exchange; 7] = [HOST, SMALL, ENABLE, SNAPSHOT, (PLAN, OK), START, STATUS];
+
+/// A run over a disk that stops at this call, and what a second one writes over what a crash leaves
+/// of it, with the lines that weren't answered.
+fn goes_on(rt: &HostRuntime, call: u64, pick: Pick) -> Result<EndedRun<MemDisk>, Fail> {
+    let alloc = rt.alloc();
+    let disk = StopDisk::new(MemDisk::new(alloc, &[], DISK_ROOM, &[])?, call);
+    let lines = lines_of(alloc, &ORDERED)?;
+    let first = served_on(rt, &SOUND, &[], lines.as_bytes(), disk, Fleet::empty(alloc))?;
+    let answered = held(&first).iter().filter(|byte| **byte == b'\n').count();
+    let rest = lines_of(alloc, ORDERED.get(answered..).unwrap_or(&[]))?;
+    let image = first.disk.into_inner().image(pick)?;
+    served_on(rt, &SOUND, &[], rest.as_bytes(), image, first.fleet)
+}
+
+/// The opening and two appends take at most 15 calls that may stop.
+#[test]
+fn a_run_goes_on_wherever_the_one_before_was_cut(rt: HostRuntime) -> Result<(), Fail> {
+    for call in 1..16 {
+        for pick in [Pick::Old, Pick::New, Pick::Mixed(call)] {
+            let second = goes_on(&rt, call, pick)?;
+            assert_eq!(rt; second.status, Status::Ok);
+            let written = held(&second);
+            assert!(rt;
+                written.is_empty() || written.trim_ascii_end().ends_with(STATUS.1.as_bytes())
+            );
+        }
+    }
     Ok(())
 }
