@@ -11,13 +11,16 @@ use migrate_server::{Devices, Fleet, Gate, Status, migrate};
 use std::alloc::Global;
 use target_volume::MemVolumes;
 
+/// How much of a journal the disk takes: bytes, and 32 more for each call that writes.
+const JOURNAL_ROOM: usize = 1 << 20;
+
 /// A gate that never holds anybody up.
 struct ReturnAtOnce;
 
 impl Gate for ReturnAtOnce {}
 
-/// Serves the commands of a source over an empty fleet and an empty store in memory, writes the
-/// replies to a sink, and gives the exit status of the program.
+/// Serves the commands of a source over an empty fleet, and a journal and a store in memory, writes
+/// the replies to a sink, and gives the exit status of the program.
 pub(crate) fn run<H, S: Source, K: Sink>(
     rt: &H,
     alloc: Global,
@@ -48,10 +51,10 @@ pub(crate) fn run<H, S: Source, K: Sink>(
 
 /// A disk without a byte, and a store without a volume. It answers only want of memory.
 fn fresh_devices(alloc: Global) -> Result<Devices<MemDisk, MemVolumes>, NoMemory>
-    ensures disk { IfOk result (λ devices. devices.disk ≡ untouched [] 0 []) }
+    ensures disk { IfOk result (λ devices. devices.disk ≡ untouched [] JOURNAL_ROOM []) }
     ensures volumes { IfOk result (λ devices. devices.volumes ≡ new_store 0 []) }
 {
-    let Ok(disk) = MemDisk::new(alloc, &[], 0, &[]) else {
+    let Ok(disk) = MemDisk::new(alloc, &[], JOURNAL_ROOM, &[]) else {
         return Err(NoMemory);
     };
     let Ok(volumes) = MemVolumes::new(alloc, 0, &[]) else {

@@ -149,8 +149,9 @@ tracked_by fleet vm (Some m) is h =
     ap (λ (o : Option MachineState). option_map_or has_tracking o false) is ∙ h
 
 all_tracked : (fleet : FleetState) (vms : List ℕ)
-    → AllByRecursion (λ vm. IsSomeAnd (machine_of vm fleet) (λ m. is_active (tracking m.log) ≡ true))
-    vms → list_all (is_tracked fleet) vms ≡ true
+    → AllByRecursion
+    (λ vm. IsSomeAnd (machine_of vm fleet) (λ m. is_active (tracking m.log) ≡ true)) vms
+    → list_all (is_tracked fleet) vms ≡ true
 all_tracked fleet [] h = refl
 all_tracked fleet (vm ∷ vms) h =
     both_true (tracked_by fleet vm (machine_of vm fleet) refl h.0) (all_tracked fleet vms h.1)
@@ -202,7 +203,8 @@ waiting_tracked fleet v plan asks = by (plan_in v plan) refl (course_in v plan)
         (option_map_or (λ q. option_map_or (λ c. waiting (q, c)) course []) p []) ≡ true
     by None is course = refl
     by (Some p) is None = refl
-    by (Some p) is (Some course) = all_dropped (is_tracked fleet) course.started p.vms (asks plan p is)
+    by (Some p) is (Some course) =
+        all_dropped (is_tracked fleet) course.started p.vms (asks plan p is)
 
 pub start_is_new : (fleet : FleetState) (v : CtlValue) (plan : List ℕ) → PlansAsk fleet v
     → AllByRecursion (IsNew fleet) (start_records plan fleet v)

@@ -37,7 +37,8 @@ query_answers vm snapshot disk since start (Ok reply) old new records store h = 
 )
 query_answers vm snapshot disk since start (Err why) old new records store h = inl (
   by_text (machine_named vm old) (since_refusal snapshot disk h.0 (start / SECTOR_BYTES)) (Some why)
-      (LateRefusal (Query vm snapshot disk since start) (Some why) (serving old records store)) (h.2).0
+      (LateRefusal (Query vm snapshot disk since start) (Some why) (serving old records store))
+      (h.2).0
       (h.0, h.1, sym (h.2).0),
   ap (λ (f : FleetState). serving f records store) (h.2).1,
 )

@@ -85,7 +85,8 @@ answered command old new refusal added reply v w (Ok (Ok told)) adds asks kept h
 answered command old new refusal added reply v w (Ok (Err why)) adds asks kept h = inl (
   has_some (refusal_of command (state_of old)) (LateRefusal command (Some why) (state_of old)) why
       (asks.refusal_is ∙ h.0),
-  ap state_of kept ∙ ap (λ (k : Keeping). record (state_of old) { records = k.journal.records }) h.1,
+  ap state_of kept
+      ∙ ap (λ (k : Keeping). record (state_of old) { records = k.journal.records }) h.1,
 )
 answered command old new refusal added reply v w (Err why) adds asks kept h = tt
 
@@ -203,7 +204,8 @@ front_taken fleet Fault added front (r ∷ left) j k taken may split records sto
     (subst (WouldBeTaken fleet) (sym records)
     (taken_to fleet j.records added front (r ∷ left) taken may split))
     (subst (WouldBeTaken fleet)
-    (sym (append_assoc j.records front (r ∷ [])) ∙ ap (λ (l : List Record). l ++ r ∷ []) (sym records))
+    (sym (append_assoc j.records front (r ∷ []))
+    ∙ ap (λ (l : List Record). l ++ r ∷ []) (sym records))
     (taken_to fleet j.records added (front ++ r ∷ []) left taken may
     (split ∙ sym (append_assoc front (r ∷ []) left))))
 front_taken fleet Full added front [] j k taken may split records stops = absurd stops

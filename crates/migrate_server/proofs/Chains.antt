@@ -1,5 +1,5 @@
--- Runs one after another: what a crash may leave of the journal's disk behind a run is what the next
--- run may find.
+-- Runs one after another: what a crash may leave of the journal's disk behind a run is what the
+-- next run may find.
 use Rattle.std.proofs.Common.{◌≡◌, ℕ, ◌≤◌, true, List, [], ◌∷◌, ◌++◌, length, take, Option, Some, None, inl, inr, refl, sym, ap, subst, ◌∙◌, arith}
 use Rattle.std.specs.Prelude.{IfSome, IsSome, IsTrue}
 use Rattle.std.specs.List.{AllByRecursion}

@@ -1,5 +1,5 @@
--- What holds of a part of a state, as its fleet or its records, from before each command to behind it
--- holds so of a session.
+-- What holds of a part of a state, as its fleet or its records, from before each command to behind
+-- it holds so of a session.
 use Rattle.std.proofs.Common.{◌≡◌, ℕ, List, [], ◌∷◌, Ok, Err, inl, inr, sym, ap, subst}
 use Rattle.cmd_json.specs.declared.command.Command.{Command}
 use Rattle.cmd_json.specs.declared.command.Command.TheVariants.{Move}

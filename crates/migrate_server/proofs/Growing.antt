@@ -209,11 +209,12 @@ asks_later at more m (SnapTaken mig snap place) legal known sound may asks =
 asks_later at more m (FinalSnapTaken mig snap place off) legal known sound may asks =
     let there = its_is_there at.capacities at.log mig snap place legal asks.0 in (
       its_later at.log more mig snap place there.within asks.0,
-      (later_entries_keep snap at.log more (omega (arith, there.marked, there.within))).off_place_stays
-          ∙ asks.1,
+      (later_entries_keep snap at.log more
+          (omega (arith, there.marked, there.within))).off_place_stays ∙ asks.1,
     )
 asks_later at more m (IdsStored mig ids) legal known sound may asks =
-    ids_asked at more m ids m.snap refl (naming_has_snapshot m ids sound (may mig ids refl)) known asks
+    ids_asked at more m ids m.snap refl (naming_has_snapshot m ids sound (may mig ids refl)) known
+    asks
 asks_later at more m (StageDone mig disk written) legal known sound may asks =
     stage_later (capacity_of at.capacities disk) disk (last_mark m.marks) m.mark written at.log more
     known.marked asks
@@ -373,8 +374,8 @@ one_front : (fleet : FleetState) → IsFleet fleet → (front : List Record) (w 
     → Front fleet (front ++ r ∷ []) (after_record w r)
 one_front fleet is front w r old may = (
   goes_on w front r old.0 may,
-  λ borne mig n there. came_known fleet w r mig n is (old.1 (front_borne fleet front (r ∷ []) borne))
-      (borne front [] r w refl old.0) (came w r mig n may there),
+  λ borne mig n there. came_known fleet w r mig n is
+      (old.1 (front_borne fleet front (r ∷ []) borne)) (borne front [] r w refl old.0) (came w r mig n may there),
 )
 
 none_numbered : {X : Type 0} (n : ℕ) (x : X) → numbered [] n ≡ Some x → ⊥
@@ -393,7 +394,8 @@ all_known fleet records v is stand = (fronts (Front fleet) (one_front fleet is)
 
 -- ---- the whole fleet
 
--- a machine that was there is there, with a log that is longer, and what migrations own stays theirs
+-- a machine that was there is there, with a log that may be longer, and what migrations own stays
+-- theirs
 pub record GrowsAt (new : FleetState) (vm : ℕ) (m : MachineState) : Type 0 where
   pub more : List Entry
   pub there : machine_of vm new ≡ Some (record m { log = m.log ++ more })
@@ -406,8 +408,8 @@ tracked_later : (old new : FleetState) (vm : ℕ) → Grows old new → is_track
     → is_tracked new vm ≡ true
 tracked_later old new vm grows h = by (machine_of vm old) refl h
   where
-    by : (o : Option MachineState) → machine_of vm old ≡ o → option_map_or has_tracking o false ≡ true
-        → is_tracked new vm ≡ true
+    by : (o : Option MachineState) → machine_of vm old ≡ o
+        → option_map_or has_tracking o false ≡ true → is_tracked new vm ≡ true
     by None is tracked = absurd (false≢true tracked)
     by (Some m) is tracked =
         let g = grows vm m is in

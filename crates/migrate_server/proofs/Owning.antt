@@ -1,5 +1,5 @@
--- What a migration owns of the log of a machine stays its own under each command that isn't refused:
--- operators take snapshots of their own, and remove none of a migration.
+-- What a migration owns of the log of a machine stays its own under each command that isn't
+-- refused: operators take snapshots of their own, and remove none of a migration.
 use Rattle.std.proofs.Common.{◌≡◌, ◌≢◌, ℕ, ◌+◌, ◌-◌, ◌≤◌, ◌==◌, Bool, true, false, cond, List, [], ◌∷◌, ◌++◌, length, Option, Some, None, option_and_then, option_map, if◌then◌else◌, refl, sym, ap, subst, ◌∙◌, arith}
 use Rattle.std.specs.Prelude.{slice_get, nat_le}
 use Rattle.std.specs.Option.{option_map_or}
@@ -124,8 +124,8 @@ added_owned added fleet number vm later there now snap mig own =
         ≡ Some later → (1 ≤ number) × (number ≤ length fleet.vms)
         → (if b then slice_get fleet.vms (number - 1) else None) ≡ Some later
     by true is within =
-        sym (slice_get-front fleet.vms (added ∷ []) (number - 1) (omega (arith, within.0, within.1)))
-        ∙ is
+        sym (slice_get-front fleet.vms (added ∷ []) (number - 1)
+        (omega (arith, within.0, within.1))) ∙ is
     by false is within = absurd (none-some later is)
 
 vm_owned : (vm : List ℕ) (place : Option ℕ) (disks : List ℕ) (fleet : FleetState)

@@ -54,9 +54,9 @@ EndsByQuit lines = (before : List (List ℕ)) × (line : List ℕ)
 -- which lines were served. With `Ok` all of the input, or those up to the first that asks to quit;
 -- the source may have given bytes behind that one, which have no effect. Where the source failed or
 -- went on past the limit, each whose LF was read before that. Where the sink failed, those up to
--- the one whose reply it failed at. Where the journal took no record, those before the line at work,
--- which `CutFor` tells. Where memory ran out in a line, that was not served, or its reply isn't
--- written
+-- the one whose reply it failed at. Where the journal took a record no more, those before the line
+-- at work, of which `CutFor` tells. Where memory ran out in a line, that was not served, or its
+-- reply isn't written
 abbrev pub ComesTo : Status → (left_after : Option (List ℕ)) (taken : List ℕ)
     (lines more : List (List ℕ)) (unwritten : List ℕ) → Type 0
 ComesTo Ok left_after taken lines more unwritten =

@@ -1,5 +1,5 @@
-//! Laws of the definitions. Each function's contract is the law, and its body does nothing but to call
-//! a law below.
+//! Laws of the definitions. Each function's contract is the law, and its body does nothing, or calls
+//! laws below.
 ghost use Rattle.migrate_server.specs.Laws.{SameLinesSameReplies, SameInputSameOutput, StoresAnswerMovesAlone};
 ghost use Rattle.migrate_server.specs.Runs.{FreshHoldsTogether, RunsHoldTogether, RunsFindOne, CrashesHoldTogether, NoneIsStrange, FleetAgrees};
 
@@ -14,7 +14,7 @@ pub fn sessions_agree()
 {}
 
 /// A store has a say in the answers to moves alone, and in those only by refusing one, because the
-/// name is taken or a call of it failed. All other answers, and what becomes of the fleet and of the
+/// name is taken or a call of it failed. All other answers, and what becomes of the fleet and the
 /// records, are the same over any two stores.
 pub fn stores_answer_moves_alone()
     ensures { StoresAnswerMovesAlone }
