@@ -1,5 +1,5 @@
-//! The program `warm_migrate`: it reads commands from standard input, and writes replies to
-//! standard output.
+//! The program `warm_migrate`: it reads commands from standard input, writes replies to standard
+//! output, and keeps its journal in a file of the current folder.
 #![tactic(auto)]
 
 mod input;
@@ -11,10 +11,14 @@ mod tests;
 use crate::input::StandardInput;
 use crate::output::StandardOutput;
 use crate::run::run;
+use file_disk::{FileDisk, NamedFile};
 use migrate_server::Status;
 use std::io::ErrorKind;
 use std::process::ExitCode;
 use std::{env, io};
+
+/// The file of the journal.
+const JOURNAL_FILE: &str = "warm.journal";
 
 fn main(rt: HostRuntime) -> ExitCode {
     let Some(words) = words(&rt) else {
@@ -22,7 +26,9 @@ fn main(rt: HostRuntime) -> ExitCode {
     };
     let mut input = StandardInput::new(rt.reader());
     let mut output = StandardOutput::new(io::writer(&rt));
-    ExitCode::from(run(&rt, rt.alloc(), &words, &mut input, &mut output))
+    let disk = FileDisk::new(NamedFile::new(&rt, JOURNAL_FILE));
+    let exit = run(&rt, rt.alloc(), &words, &mut input, &mut output, disk);
+    ExitCode::from(exit.code)
 }
 
 /// The words after the program's name. None means that memory ran out. Where the system doesn't

@@ -3,7 +3,7 @@ ghost use Rattle.std.specs.Prelude.{◌≡◌};
 use crate::input::StandardInput;
 use crate::output::StandardOutput;
 use crate::run::run;
-use edge_traits::{Failed, Sink, Source};
+use edge_traits::{Failed, MemDisk, Sink, Source};
 use std::io::{self, Error, ErrorKind, Read, Write};
 use std::test::Fail;
 
@@ -69,11 +69,17 @@ fn put_twice<K: Sink>(sink: &mut K) -> (Result<(), Failed>, Result<(), Failed>) 
     (sink.put(b"abcdefgh"), sink.put(b"ijklm"))
 }
 
-/// The exit status of the program without words, for a reader and a writer.
-fn exit_of<R: Read + Drop, W: Write + Drop>(rt: &HostRuntime, reader: R, writer: W) -> u8 {
+/// The exit status of the program without words, for a reader, a writer and a disk without a byte.
+fn exit_of<R: Read + Drop, W: Write + Drop>(
+    rt: &HostRuntime,
+    reader: R,
+    writer: W,
+) -> Result<u8, Fail> {
+    let disk = MemDisk::new(rt.alloc(), &[], 1000, &[])?;
     let mut input = StandardInput::new(reader);
     let mut output = StandardOutput::new(writer);
-    run(rt, rt.alloc(), &[], &mut input, &mut output)
+    let exit = run(rt, rt.alloc(), &[], &mut input, &mut output, disk);
+    Ok(exit.code)
 }
 
 #[test]
@@ -123,8 +129,9 @@ fn a_word_is_refused_by_the_usage_line(rt: HostRuntime) -> Result<(), Fail> {
     let mut held = Vec::new(rt.alloc());
     let mut input = StandardInput::new(b"{\"cmd\":\"fly\"}\n".as_slice());
     let mut output = StandardOutput::new(&mut held);
-    let code = run(&rt, rt.alloc(), &words, &mut input, &mut output);
-    assert_eq!(rt; code, 1);
+    let disk = MemDisk::new(rt.alloc(), &[], 1000, &[])?;
+    let exit = run(&rt, rt.alloc(), &words, &mut input, &mut output, disk);
+    assert_eq!(rt; exit.code, 1);
     assert_eq!(rt;
         held.as_slice(),
         b"usage: warm_migrate [--limit N] [--rig N]\n".as_slice()
@@ -133,16 +140,27 @@ fn a_word_is_refused_by_the_usage_line(rt: HostRuntime) -> Result<(), Fail> {
 }
 
 #[test]
-fn each_end_has_its_exit_status(rt: HostRuntime) {
-    assert_eq!(rt; exit_of(&rt, b"".as_slice(), Broken), 0);
-    assert_eq!(rt; exit_of(&rt, Broken, Broken), 2);
-    assert_eq!(rt; exit_of(&rt, b"{\"cmd\":\"fly\"}\n".as_slice(), Broken), 4);
+fn each_end_has_its_exit_status(rt: HostRuntime) -> Result<(), Fail> {
+    assert_eq!(rt; exit_of(&rt, b"".as_slice(), Broken)?, 0);
+    assert_eq!(rt; exit_of(&rt, Broken, Broken)?, 2);
+    assert_eq!(rt; exit_of(&rt, b"{\"cmd\":\"fly\"}\n".as_slice(), Broken)?, 4);
+    Ok(())
+}
+
+#[test]
+fn a_file_that_is_no_journal_is_refused(rt: HostRuntime) -> Result<(), Fail> {
+    let disk = MemDisk::new(rt.alloc(), b"0123456789", 1000, &[])?;
+    let mut input = StandardInput::new(Broken);
+    let mut output = StandardOutput::new(Broken);
+    let exit = run(&rt, rt.alloc(), &[], &mut input, &mut output, disk);
+    assert_eq!(rt; exit.code, 5);
+    Ok(())
 }
 
 #[test]
 fn an_input_may_have_two_to_the_twenty_eighth_bytes(rt: HostRuntime) -> Result<(), Fail> {
     let mut held = Vec::new(rt.alloc());
-    assert_eq!(rt; exit_of(&rt, Zeros { left: 1 << 28 }, &mut held), 0);
+    assert_eq!(rt; exit_of(&rt, Zeros { left: 1 << 28 }, &mut held)?, 0);
     assert_eq!(rt;
         held.as_slice(),
         b"{\"error\":\"long\",\"ok\":false}\n".as_slice()
@@ -151,7 +169,8 @@ fn an_input_may_have_two_to_the_twenty_eighth_bytes(rt: HostRuntime) -> Result<(
 }
 
 #[test]
-fn one_byte_more_ends_the_program(rt: HostRuntime) {
+fn one_byte_more_ends_the_program(rt: HostRuntime) -> Result<(), Fail> {
     let left = (1 << 28) + 1;
-    assert_eq!(rt; exit_of(&rt, Zeros { left }, Broken), 6);
+    assert_eq!(rt; exit_of(&rt, Zeros { left }, Broken)?, 6);
+    Ok(())
 }
