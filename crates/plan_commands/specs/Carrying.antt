@@ -1,5 +1,5 @@
--- What carrying a command on plans out leaves of a controller: of its state and of its journal. It is
--- answered once its records are kept. Refused, it keeps none; not answered, a front of them.
+-- What carrying a command on plans out leaves of a controller: of its state and of its journal. It
+-- is answered once its records are kept. Refused, it keeps none; not answered, a front of them.
 use Rattle.std.specs.Prelude.{◌≡◌, List, Option, Some, None, Result, Ok, Err}
 use Rattle.answers.specs.Answer.{Answer}
 use Rattle.answers.specs.declared.refusal.Refusal.{Refusal}
@@ -9,8 +9,8 @@ use Rattle.record_keeping.specs.declared.refusal.NotKept.{NotKept}
 use Rattle.record_keeping.specs.declared.refusal.NotKept.TheVariants.{NoMemory}
 use Rattle.reply_json.specs.declared.reply.Reply.{Reply}
 
--- a command that has this refusal, or none, wasn't answered: one that is refused meets want of memory
--- alone, and keeps nothing
+-- a command that has this refusal, or none, wasn't answered: one that is refused meets want of
+-- memory alone, and keeps nothing
 abbrev pub IsCutShort : (refusal : Option Refusal) → (records : List Record) → (why : NotKept)
     → (old new : Keeping) → Type 0
 IsCutShort None records why old new = KeepsFront why records old.journal new.journal

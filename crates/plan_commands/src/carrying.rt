@@ -1,8 +1,8 @@
 //! Commands on plans, carried out over a controller: what each asks for is kept, and then answered.
 //!
 //! A refused command leaves the controller as it was. Want of memory, told as
-//! [`NotKept::NoMemory`], may come in place of any answer. Where a record isn't kept, those before it
-//! are, the command isn't answered, and the journal is to be opened again: see [`keep_records`].
+//! [`NotKept::NoMemory`], may come in place of any answer. Where a record isn't kept, those before
+//! it are, the command isn't answered, and the journal is to be opened again: see [`keep_records`].
 ghost use Rattle.std.specs.Prelude.{◌≡◌, None, IfSome};
 ghost use Rattle.basics.specs.Spelled.{IsName};
 ghost use Rattle.basics.specs.declared.limits.TheConstants.{MAX_INTERVAL};
@@ -61,9 +61,9 @@ pub fn carry_out_plan<D: Disk, T: VolumeStore>(
 }
 
 /// Starts a plan, as [`ask_start`] says it, and keeps that. The machines of all plans are in the
-/// fleet. [`NotKept::Fault`] where the journal's disk failed, [`NotKept::Full`] where it has no room
-/// for the next migration, and [`NotKept::NoMemory`]: the plan is then started in part, and a later
-/// start goes on.
+/// fleet. [`NotKept::Fault`] where the journal's disk failed, [`NotKept::Full`] where it has no
+/// room for the next migration, and [`NotKept::NoMemory`]: the plan is then started in part, and a
+/// later start goes on.
 pub fn carry_out_start<D: Disk, T: VolumeStore>(
     alloc: Global,
     controller: &mut Controller<D, T>,

@@ -1,7 +1,7 @@
 //! The commands `plan`, `start`, `cutover` and `status`. Each looks at the fleet and at what the
-//! records of the journal come to, and gives its reply with the records that are to be kept before it
-//! is answered, or its refusal. Those that ask for records are carried out over a controller: they are
-//! kept, and then answered.
+//! records of the journal come to, and gives its reply with the records that are to be kept before
+//! it is answered, or its refusal. Those that ask for records are carried out over a controller:
+//! the records are kept, and then the command is answered.
 #![tactic(auto)]
 
 mod asked;
