@@ -42,4 +42,5 @@ BuiltAreRows =
 abbrev pub TheseAreBuilt : Type 0
 TheseAreBuilt = map (λ name. name.now) BUILT ≡ codes "move" ∷ codes "host" ∷ codes "vm"
     ∷ codes "enable" ∷ codes "write" ∷ codes "snapshot" ∷ codes "remove" ∷ codes "query"
-    ∷ codes "read" ∷ codes "power" ∷ codes "reset" ∷ codes "inventory" ∷ codes "quit" ∷ []
+    ∷ codes "read" ∷ codes "power" ∷ codes "reset" ∷ codes "inventory" ∷ codes "plan"
+    ∷ codes "start" ∷ codes "cutover" ∷ codes "status" ∷ codes "quit" ∷ []

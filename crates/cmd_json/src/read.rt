@@ -21,7 +21,7 @@ use std::alloc::Global;
 
 /// The names of the commands that the program carries out by now. A command whose name isn't among
 /// them is refused before its members are tested.
-pub const BUILT: [&str; 13] = [
+pub const BUILT: [&str; 17] = [
     "move",
     "host",
     "vm",
@@ -34,6 +34,10 @@ pub const BUILT: [&str; 13] = [
     "power",
     "reset",
     "inventory",
+    "plan",
+    "start",
+    "cutover",
+    "status",
     "quit",
 ];
 

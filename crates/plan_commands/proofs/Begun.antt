@@ -1,70 +1,38 @@
 -- The migrations of a plan's waiting machines may begin one after another, in the plan's order.
-use Rattle.std.proofs.Common.{◌≡◌, ℕ, zero, suc, ◌+◌, ◌-◌, ◌<◌, ◌≤◌, ◌^◌, ◌==◌, ◌&&◌, Bool, true, false, cond, List, [], ◌∷◌, ◌++◌, length, map, drop, Option, Some, None, option_map, All, refl, ap, ◌∙◌, sym, subst, slice_get, append_assoc, add-one, arith}
+use Rattle.std.proofs.Common.{◌≡◌, ℕ, zero, suc, ◌+◌, ◌-◌, ◌≤◌, ◌==◌, ◌&&◌, Bool, true, false, List, [], ◌∷◌, ◌++◌, length, map, drop, Option, Some, None, option_map, All, refl, ap, ◌∙◌, sym, subst, slice_get, append_assoc, add-one, arith}
 use Rattle.std.specs.Prelude.{nat_le, nat_lt, IsSome, if◌then◌else◌}
-use Rattle.std.specs.List.{AllByRecursion, find, zip, range_with_len}
+use Rattle.std.specs.List.{AllByRecursion, zip, range_with_len}
 use Rattle.std.specs.Option.{option_map_or}
-use Rattle.std.specs.Str.{bytes_eq}
-use Rattle.std.proofs.lemmas.Bool.{and_parts, eqb-true, eq-eqb, leb-true, le-leb, ltb-true, lt-ltb, false≢true}
+use Rattle.std.proofs.lemmas.Bool.{and_parts, eq-eqb, leb-true, le-leb, lt-ltb, false≢true}
 use Rattle.std.proofs.lemmas.List.{append-nil, length-append}
 use Rattle.std.proofs.lemmas.List.Elements.{All-drop, All-from_recursion, recursion_from_All}
-use Rattle.std.proofs.lemmas.Option.{none-some, same_Some, slice_get_within, get_or_from_slice_get}
+use Rattle.std.proofs.lemmas.Option.{none-some, slice_get_within, get_or_from_slice_get}
 use Rattle.basics.specs.declared.limits.TheConstants.{MAX_DISKS}
 use Rattle.answers.specs.declared.refusal.Refusal.TheVariants as told
 use Rattle.source_vm.specs.Machine.{MachineState}
 use Rattle.fleet.specs.Fleet.{VmState, FleetState, vm_of, machine_of}
 use Rattle.fleet.specs.Sound.{IsFleet}
-use Rattle.fleet.proofs.Logs.{at_place, is_within}
+use Rattle.fleet.proofs.Logs.{at_place}
 use Rattle.fleet.proofs.StaysSound.{IsVm-at}
 use Rattle.plan_model.specs.declared.plan.Plan.{Plan}
 use Rattle.record_codec.specs.declared.record.Record.{Record}
 use Rattle.record_codec.specs.declared.record.Record.TheVariants.{MigrationStarted}
-use Rattle.record_codec.specs.Record.{HasSpelling}
+use Rattle.record_codec.specs.Record.{KeepsRule}
 use Rattle.ctl_state.specs.declared.plans.PlanCourse.{PlanCourse}
 use Rattle.ctl_state.specs.Fold.{IsStateOf, after_record, with_started}
 use Rattle.ctl_state.specs.MayStand.{is_next, record_may_stand}
-use Rattle.ctl_state.specs.Sound.{IsSoundValue}
 use Rattle.ctl_state.specs.Steps.{new_migration}
-use Rattle.ctl_state.specs.Value.{CtlValue, numbered, plan_in, course_in, plan_named, waiting}
+use Rattle.ctl_state.specs.Value.{CtlValue, plan_in, course_in, plan_named, waiting}
 use Rattle.ctl_state.proofs.FoldFacts.{goes_on}
 use Rattle.ctl_state.proofs.ListFacts.{numbered_at, numbered-changed}
-use Rattle.ctl_state.proofs.SoundValues.{values_are_sound}
-use Rattle.plan_commands.specs.Laws.{MayFollow, StartsMayFollow}
+use Rattle.record_keeping.specs.Keeping.{MayBeKept}
+use Rattle.plan_commands.specs.Laws.{StartsMayBeKept}
 use Rattle.plan_commands.specs.Machines.{disks_of, HaveMachines}
 use Rattle.plan_commands.specs.commands.Start.{waiting_in, begun_by, start_refusal_of, start_records_of}
-use Rattle.plan_commands.proofs.Known.{found_at}
-
--- ---- numbers of plans
-
-one_of : {X : Type 0} (xs : List X) (place : ℕ) (x : X) → slice_get xs place ≡ Some x
-    → numbered xs (place + 1) ≡ Some x
-one_of {X} xs place x at =
-    let back : place + 1 - 1 ≡ place = omega arith in
-    by (place + 1 == 0) refl (ap (slice_get xs) back ∙ at)
-  where
-    by : (b : Bool) → (place + 1 == 0) ≡ b → slice_get xs (place + 1 - 1) ≡ Some x
-        → cond b None (slice_get xs (place + 1 - 1)) ≡ Some x
-    by true e h = absurd (omega (arith, eqb-true (place + 1) 0 e))
-    by false e h = h
-
--- a plan that is named has a number up to the count of plans
-pub number_within : (v : CtlValue) (plan : List ℕ) (number : ℕ) → IsSoundValue v
-    → plan_named v.plans plan ≡ Some number → number ≤ length v.plans
-number_within v plan number sound named =
-    by (find (λ (p : Plan). bytes_eq p.name plan) v.plans) refl named
-  where
-    by : (o : Option Plan) → find (λ (p : Plan). bytes_eq p.name plan) v.plans ≡ o
-        → option_map (λ (p : Plan). p.number) o ≡ Some number → number ≤ length v.plans
-    by None is h = absurd (none-some number h)
-    by (Some p) is h =
-        let found = found_at (λ (q : Plan). bytes_eq q.name plan) v.plans p is in
-        let at = sound.plans (found.0 + 1) p (one_of v.plans found.0 p found.1) in
-        let below = slice_get_within v.plans found.0 p found.1 in
-        omega (arith, same_Some p.number number h, at, below)
 
 -- ---- machines that are there
 
 pub record IsThere (fleet : FleetState) (vm : ℕ) : Type 0 where
-  pub small : vm < 2 ^ 32
   pub some : 1 ≤ disks_of vm fleet
   pub few : disks_of vm fleet ≤ MAX_DISKS
 
@@ -91,14 +59,11 @@ is_there fleet vm sound there = by (vm_of vm fleet) refl there
         → IsThere fleet vm
     by None is there = absurd (false≢true (rw is at there))
     by (Some s) is there =
-        let within = is_within vm s fleet is in
         let disks = machine_is fleet vm s is there in
         let counts = and_parts (nat_le 1 (length s.capacities) && nat_le (length s.capacities)
         MAX_DISKS) _ (IsVm-at (vm - 1) s fleet sound (at_place vm s fleet is)).disks in
         let both = and_parts (nat_le 1 (length s.capacities)) _ counts.0 in
-        let most = sound.few_vms in
         record {
-          small = omega (arith, within.1);
           some = subst (λ n. 1 ≤ n) (sym disks) (leb-true 1 (length s.capacities) both.0);
           few = subst (λ n. n ≤ MAX_DISKS) (sym disks)
               (leb-true (length s.capacities) MAX_DISKS both.1);
@@ -188,41 +153,25 @@ begin plan fleet (vm ∷ vms) records v first is state waits there =
     (goes_on v records r state may) (next.1 first disks) there.1 in
     (rest.0, subst (IsStateOf rest.0) (append_assoc records (r ∷ []) _) rest.1)
 
-spelled : (plan : ℕ) (fleet : FleetState) (vms : List ℕ) (first : ℕ) → plan < 2 ^ 32
-    → first + length vms ≤ 2 ^ 32 → AllByRecursion (IsThere fleet) vms
-    → AllByRecursion HasSpelling
+all_ruled : (plan : ℕ) (fleet : FleetState) (vms : List ℕ) (first : ℕ)
+    → AllByRecursion KeepsRule
     (map (begun_by plan fleet) (zip (range_with_len first (length vms)) vms))
-spelled plan fleet [] first small room there = tt
-spelled plan fleet (vm ∷ vms) first small room there = (
-  record {
-    ranges = (omega (arith, room), (small, (there.0.small, (omega (arith, there.0.few), tt))));
-    rule = tt;
-  },
-  spelled plan fleet vms (first + 1) small (omega (arith, room)) there.1,
-)
+all_ruled plan fleet [] first = tt
+all_ruled plan fleet (vm ∷ vms) first = (tt, all_ruled plan fleet vms (first + 1))
 
-pub starts_may_follow : StartsMayFollow
-starts_may_follow records v fleet plan state sound have few room none =
-    by (plan_named v.plans plan) refl none room
+pub starts_may_be_kept : StartsMayBeKept
+starts_may_be_kept v fleet plan sound have none = by (plan_named v.plans plan) none
   where
-    by : (o : Option ℕ) → plan_named v.plans plan ≡ o
+    by : (o : Option ℕ)
         → option_map_or (λ number. start_refusal_of number v) o (Some told.UnknownPlan) ≡ None
-        → nat_lt (length v.migrations
-        + length (option_map_or (λ number. waiting_in number v) o [])) (2 ^ 32) ≡ true
-        → MayFollow records (option_map_or (λ number. start_records_of number fleet v) o [])
-    by None is none room = absurd (none-some told.UnknownPlan (sym none))
-    by (Some number) is none room =
+        → MayBeKept v (option_map_or (λ number. start_records_of number fleet v) o [])
+    by None none = absurd (none-some told.UnknownPlan (sym none))
+    by (Some number) none =
         let vms = waiting_in number v in
         let first = length v.migrations + 1 in
-        let within = number_within v plan number (values_are_sound records v state) is in
-        let left : length v.migrations + length vms < 2 ^ 32 =
-        ltb-true (length v.migrations + length vms) (2 ^ 32) room in
-        let there = waiting_there fleet v number sound have in
-        let kept = begin number fleet vms records v first refl state refl there in
         record {
-          next = kept.0;
-          stand = kept.1;
-          spelled = All-from_recursion HasSpelling (start_records_of number fleet v)
-              (spelled number fleet vms first (omega (arith, within, few)) (omega (arith, left))
-              there);
+          stand = λ records come. begin number fleet vms records v first refl come refl
+              (waiting_there fleet v number sound have);
+          rules = All-from_recursion KeepsRule (start_records_of number fleet v)
+              (all_ruled number fleet vms first);
         }

@@ -1,23 +1,18 @@
 -- The cutover of a plan that isn't refused may be kept.
-use Rattle.std.proofs.Common.{◌≡◌, ℕ, ◌<◌, ◌^◌, ◌==◌, ◌&&◌, ◌||◌, Bool, true, false, [], ◌∷◌, Option, Some, None, is_some, refl, ap, ◌∙◌, sym, lit<, arith}
-use Rattle.std.specs.Prelude.{nat_lt, IfSome, if◌then◌else◌}
+use Rattle.std.proofs.Common.{◌≡◌, ℕ, ◌==◌, ◌&&◌, ◌||◌, Bool, true, false, [], ◌∷◌, Option, Some, None, is_some, refl, ap, ◌∙◌, sym, arith}
+use Rattle.std.specs.Prelude.{nat_lt, if◌then◌else◌}
 use Rattle.std.specs.Option.{option_map_or}
 use Rattle.std.proofs.lemmas.Bool.Decides.{nat_tests}
-use Rattle.std.proofs.lemmas.List.Elements.{All-nil, All-cons}
 use Rattle.std.proofs.lemmas.Option.{none-some}
 use Rattle.answers.specs.declared.refusal.Refusal.TheVariants.{UnknownPlan, NotStarted, Ended}
 use Rattle.plan_model.specs.declared.moment.Moment.{Moment}
 use Rattle.record_codec.specs.declared.record.Record.TheVariants.{CutoverSet}
-use Rattle.record_codec.specs.Record.{HasSpelling}
 use Rattle.ctl_state.specs.declared.plans.PlanCourse.{PlanCourse}
-use Rattle.ctl_state.specs.Fold.{after_record}
-use Rattle.ctl_state.specs.MayStand.{record_may_stand}
 use Rattle.ctl_state.specs.Value.{CtlValue, course_in, plan_named}
-use Rattle.ctl_state.proofs.FoldFacts.{goes_on}
-use Rattle.ctl_state.proofs.SoundValues.{values_are_sound}
-use Rattle.plan_commands.specs.Laws.{MayFollow, CutoversMayFollow}
+use Rattle.record_keeping.specs.Keeping.{MayBeKept}
+use Rattle.record_keeping.proofs.Kept.{one_may}
+use Rattle.plan_commands.specs.Laws.{CutoversMayBeKept}
 use Rattle.plan_commands.specs.commands.Cutover.{course_refusal, cutover_refusal_of, seconds_of}
-use Rattle.plan_commands.proofs.Begun.{number_within}
 
 some_live : (started live : ℕ) → (if started == 0 then Some NotStarted
     else if live == 0 then Some Ended else None) ≡ None → nat_lt 0 live ≡ true
@@ -38,12 +33,7 @@ is_live v plan none = by (course_in v plan) none
     by None h = absurd (none-some UnknownPlan (sym h))
     by (Some course) h = some_live course.started course.live h
 
--- a moment is kept as its seconds, and none as 0
-moment_fits : (at : Option Moment) → IfSome at (λ moment. moment.0 < 2 ^ 64)
-    → seconds_of at < 2 ^ 64
-moment_fits None h = lit< tt
-moment_fits (Some moment) h = h
-
+-- a moment that isn't named is kept as 0
 none_is_0 : (at : Option Moment) → is_some at ≡ false → seconds_of at ≡ 0
 none_is_0 None h = refl
 none_is_0 (Some moment) h = cc
@@ -52,25 +42,14 @@ has_or_0 : (at : Option Moment) → (is_some at || seconds_of at == 0) ≡ true
 has_or_0 None = refl
 has_or_0 (Some moment) = refl
 
-pub cutovers_may_follow : CutoversMayFollow
-cutovers_may_follow records v plan at state few fits none =
-    by (plan_named v.plans plan) refl none
+pub cutovers_may_be_kept : CutoversMayBeKept
+cutovers_may_be_kept v plan at none = by (plan_named v.plans plan) none
   where
-    by : (o : Option ℕ) → plan_named v.plans plan ≡ o
+    by : (o : Option ℕ)
         → option_map_or (λ number. cutover_refusal_of number v) o (Some UnknownPlan) ≡ None
-        → MayFollow records (option_map_or
+        → MayBeKept v (option_map_or
         (λ number. CutoverSet number (is_some at) (seconds_of at) ∷ []) o [])
-    by None is none = absurd (none-some UnknownPlan (sym none))
-    by (Some number) is none =
-        let r = CutoverSet number (is_some at) (seconds_of at) in
-        let within = number_within v plan number (values_are_sound records v state) is in
-        let stands : record_may_stand v r ≡ true =
-        ap (λ b. b && (is_some at || seconds_of at == 0)) (is_live v number none) ∙ has_or_0 at in
-        record {
-          next = after_record v r;
-          stand = goes_on v records r state stands;
-          spelled = All-cons HasSpelling r [] (record {
-            ranges = (omega (arith, within, few), (tt, (moment_fits at fits, tt)));
-            rule = none_is_0 at;
-          }) (All-nil HasSpelling);
-        }
+    by None none = absurd (none-some UnknownPlan (sym none))
+    by (Some number) none = one_may v (CutoverSet number (is_some at) (seconds_of at))
+        (ap (λ b. b && (is_some at || seconds_of at == 0)) (is_live v number none) ∙ has_or_0 at)
+        (none_is_0 at)

@@ -91,6 +91,7 @@ pub record IsKnown (fleet : FleetState) (v : CtlValue) (name : List ℕ) (fact :
     pub named : vm.name ≡ name
     pub number : fact.number ≡ place + 1
     pub in_plan : fact.in_plan ≡ is_at_work v fact.number
+    pub tracked : fact.tracking ≡ is_active (tracking vm.log)
 
 pub is_known : (fleet : FleetState) (v : CtlValue) (name : List ℕ) (fact : VmFact)
     → book.fact_of (known_of fleet v) name ≡ Some fact → IsKnown fleet v name fact
@@ -114,6 +115,7 @@ is_known fleet v name fact h =
           number = ap (λ (f : VmFact). f.number) (sym same);
           in_plan = ap (λ (f : VmFact). f.in_plan) (sym same)
               ∙ ap (λ (f : VmFact). is_at_work v f.number) same;
+          tracked = ap (λ (f : VmFact). f.tracking) (sym same);
         }
 
 -- the number of a machine that is known

@@ -3,3 +3,5 @@ pub mod Known
 pub mod Planned
 pub mod Begun
 pub mod Cut
+pub mod Numbers
+pub mod Carried

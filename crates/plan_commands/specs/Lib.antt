@@ -1,4 +1,5 @@
 pub mod Asked
 pub mod Machines
 pub mod commands
+pub mod Carrying
 pub mod Laws

@@ -2,7 +2,9 @@
 use Rattle.std.proofs.Common.{◌≡◌, ℕ, ◌+◌, ◌<◌, ◌≤◌, Bool, true, false, List, [], ◌∷◌, ◌++◌, length, take, drop, Option, Some, None, Result, Ok, Err, refl, sym, ap, subst, append_assoc, ◌∙◌}
 use Rattle.std.specs.Prelude.{MatchOption, slice_index_or}
 use Rattle.std.proofs.lemmas.List.{append-nil, take-append-drop, take_more, take_all}
-use Rattle.std.proofs.lemmas.List.Elements.{All-cons, All-nil}
+use Rattle.std.proofs.Math.Seq.{take-append_seam}
+use Rattle.std.proofs.lemmas.List.Elements.{All-cons, All-nil, All-take}
+use Rattle.std.specs.List.{All}
 use Rattle.basics.specs.Faults.{HasRisen}
 use Rattle.record_codec.specs.declared.record.Record.{Record}
 use Rattle.record_codec.specs.Record.{KeepsRule}
@@ -13,7 +15,7 @@ use Rattle.ctl_state.specs.Laws.{then_after}
 use Rattle.ctl_state.specs.MayStand.{record_may_stand}
 use Rattle.ctl_state.specs.Value.{CtlValue}
 use Rattle.ctl_state.proofs.FoldFacts.{goes_on, stops, lists_join}
-use Rattle.record_keeping.specs.Keeping.{Keeping, keeping, IsReady, MayBeKept, Keeps, KeepsOne, KeepsFront, StopsAt, CutOff, IsUnfailed}
+use Rattle.record_keeping.specs.Keeping.{Keeping, keeping, IsReady, MayBeKept, Keeps, KeepsOne, KeepsFront, StopsAt, CutOff, IsUnfailed, FrontsMayBeKept}
 use Rattle.record_keeping.specs.declared.refusal.NotKept.{NotKept}
 use Rattle.record_keeping.specs.declared.refusal.NotKept.TheVariants.{Fault, Full, NoMemory}
 
@@ -150,6 +152,7 @@ stops_since : (why : NotKept) (left rest : List Record) (start now next : Journa
 stops_since Fault [] rest start now next stops faults = absurd stops
 stops_since Fault (r ∷ left) rest start now next stops faults = record {
   at = stops.at;
+  room = stops.room;
   failure = stops.failure;
   rises = subst (λ n. HasRisen n next.disk.faults) faults stops.rises;
 }
@@ -178,3 +181,21 @@ front_kept why added at r start now next within is k cut =
       stops = stops_since why cut.left rest start.journal now.journal next cut.stops
           (k.keeps).faults;
     }
+
+-- ---- a front of them
+
+front_stands : (records front left : List Record) (v next : CtlValue) (come : Result CtlValue ℕ)
+    → after (records ++ front) ≡ come → after (records ++ (front ++ left)) ≡ Ok next
+    → (w : CtlValue) × IsStateOf w (records ++ front)
+front_stands records front left v next (Ok w) is good = (w, is)
+front_stands records front left v next (Err number) is good = absurd
+    (strange_no (records ++ front) left next number is
+    (ap after (append_assoc records front left) ∙ good))
+
+pub fronts_may : FrontsMayBeKept
+fronts_may v front left may = record {
+  stand = λ records come. let whole = may.stand records come in
+      front_stands records front left v whole.0 (after (records ++ front)) refl whole.1;
+  rules = subst (λ (xs : List Record). All KeepsRule xs) (take-append_seam front left)
+      (All-take KeepsRule (length front) (front ++ left) may.rules);
+}

@@ -1,6 +1,6 @@
 -- What keeping records leaves of a controller: of its state and of its journal, as its store has no
 -- part in that. A record is kept where the journal acknowledged it, and so is on the disk.
-use Rattle.std.specs.Prelude.{◌≡◌, ℕ, true, All, List, [], ◌∷◌, ◌++◌, Some, None, IsSome}
+use Rattle.std.specs.Prelude.{◌≡◌, ◌⊎◌, ℕ, true, All, List, [], ◌∷◌, ◌++◌, Some, None, IsSome}
 use Rattle.basics.specs.Faults.{HasRisen}
 use Rattle.record_codec.specs.declared.record.Record.{Record}
 use Rattle.record_codec.specs.Record.{KeepsRule}
@@ -36,6 +36,11 @@ abbrev pub OneMayBeKept : Type 0
 OneMayBeKept = (v : CtlValue) (r : Record) → record_may_stand v r ≡ true → KeepsRule r
     → MayBeKept v (r ∷ [])
 
+-- a front of records that may be kept may be kept
+abbrev pub FrontsMayBeKept : Type 0
+FrontsMayBeKept = (v : CtlValue) (front left : List Record) → MayBeKept v (front ++ left)
+    → MayBeKept v front
+
 -- ---- all of them were kept
 
 pub record Keeps (added : List Record) (old new : Keeping) : Type 0 where
@@ -49,9 +54,11 @@ KeepsOne r old new = Keeps (r ∷ []) old new × (new.value ≡ after_record old
 
 -- ---- one of them wasn't, though those before it were
 
--- the disk failed in the append of the record: after a crash it may stand or not
+-- the disk failed in the append of the record, for which there was room: after a crash it may stand
+-- or not
 pub record FailsAtRecord (r : Record) (old new : JournalState) : Type 0 where
   pub at : ℕ
+  pub room : full_refusal r new ≡ None
   pub failure : new.failure ≡ Some (record { at = at; refused = r })
   pub rises : HasRisen old.disk.faults new.disk.faults
 
@@ -81,3 +88,19 @@ pub record KeepsFront (why : NotKept) (added : List Record) (old new : JournalSt
 -- the one record wasn't, or its effect wasn't
 abbrev pub CutOff : NotKept → Record → (old new : JournalState) → Type 0
 CutOff why r old new = KeepsFront why (r ∷ []) old new
+
+-- ---- the state then
+
+-- the last record is on the disk, and hasn't taken effect
+pub record LacksLast (k : Keeping) : Type 0 where
+  pub front : List Record
+  pub last : Record
+  pub split : k.journal.records ≡ front ++ last ∷ []
+  pub come_to : IsStateOf k.value front
+
+-- no record takes effect before it is kept: the state is that of the journal's records or, for want
+-- of memory alone, behind them by one
+abbrev pub IsBehind : NotKept → Keeping → Type 0
+IsBehind Fault k = IsStateOf k.value k.journal.records
+IsBehind Full k = IsStateOf k.value k.journal.records
+IsBehind NoMemory k = IsStateOf k.value k.journal.records ⊎ LacksLast k

@@ -2,10 +2,10 @@
 ghost use Rattle.std.specs.Prelude.{◌≡◌, true, IfErr, OnOk};
 ghost use Rattle.record_codec.specs.Record.{KeepsRule};
 ghost use Rattle.ctl_state.specs.MayStand.{record_may_stand};
-ghost use Rattle.record_keeping.specs.Keeping.{keeping, IsReady, MayBeKept, Keeps, KeepsFront, KeepsOne, CutOff};
+ghost use Rattle.record_keeping.specs.Keeping.{keeping, IsReady, MayBeKept, Keeps, KeepsFront, KeepsOne, CutOff, IsBehind};
 
 use crate::NotKept;
-use ctl_state::Controller;
+use ctl_state::{Controller, StateRefused};
 use edge_traits::Disk;
 use journal::JournalRefused;
 use record_codec::Record;
@@ -28,6 +28,8 @@ pub fn keep_records<D: Disk, T: VolumeStore>(
         (keeping controller.new.state controller.new.journal)) }
     ensures cut { IfErr result (λ why. KeepsFront why records.now
         controller.old.journal controller.new.journal) }
+    ensures behind { IfErr result (λ why. IsBehind why
+        (keeping controller.new.state controller.new.journal)) }
     ensures store { controller.new.store ≡ controller.old.store }
 {
     for record in records {
@@ -49,16 +51,20 @@ fn keep<D: Disk, T: VolumeStore>(
         (keeping controller.new.state controller.new.journal)) }
     ensures cut { IfErr result (λ why. CutOff why record.now
         controller.old.journal controller.new.journal) }
+    ensures behind { IfErr result (λ why. IsBehind why
+        (keeping controller.new.state controller.new.journal)) }
     ensures store { controller.new.store ≡ controller.old.store }
 {
     match controller.journal.append(record) {
         Ok(()) => {}
         Err(JournalRefused::DiskFault { .. }) => return Err(NotKept::Fault),
         Err(JournalRefused::Full { .. }) => return Err(NotKept::Full),
-        Err(_) => return Err(NotKept::NoMemory),
+        Err(
+            JournalRefused::NotAJournal | JournalRefused::BadRecord(_) | JournalRefused::NoMemory,
+        ) => return Err(NotKept::NoMemory),
     }
     match controller.state.apply(record) {
         Ok(()) => Ok(()),
-        Err(_) => Err(NotKept::NoMemory),
+        Err(StateRefused::Strange | StateRefused::NoMemory) => Err(NotKept::NoMemory),
     }
 }

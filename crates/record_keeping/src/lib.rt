@@ -9,5 +9,5 @@ mod refusal;
 mod tests;
 
 pub use keep::keep_records;
-pub use laws::one_may_be_kept;
+pub use laws::{fronts_may_be_kept, one_may_be_kept};
 pub use refusal::NotKept;

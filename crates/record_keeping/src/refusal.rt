@@ -16,6 +16,11 @@ pub enum NotKept {
 }
 
 impl fmt::Display for NotKept {
+    ghost use Rattle.std.specs.Prelude.{Some};
+    ghost use Rattle.record_keeping.specs.Refusal.{refusal_text};
+
+    ghost output = { λ why. Some (refusal_text why) };
+
     fn fmt<W: fmt::Write>(&self, f: &mut fmt::Formatter<W>) -> fmt::Result {
         match self {
             NotKept::Fault => write!(f, "the journal's disk failed"),

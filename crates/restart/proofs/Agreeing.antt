@@ -1,4 +1,4 @@
--- No record is strange to a fleet that agrees with the records: what each of them asks is so.
+-- Records are taken over a fleet that agrees with them: what each of them asks is so.
 use Rattle.std.proofs.Common.{◌≡◌, ℕ, ◌+◌, ◌==◌, true, false, ◌&&◌, List, [], ◌∷◌, ◌++◌, length, Option, Some, None, option_map, IsSomeAnd, refl, ap, subst, sym, ◌∙◌, inl, inr, append_assoc}
 use Rattle.std.specs.List.{list_all}
 use Rattle.std.specs.Option.{option_map_or}
@@ -23,10 +23,8 @@ use Rattle.ctl_state.proofs.ListFacts.{numbered-added}
 use Rattle.ctl_state.proofs.SoundValues.{values_are_sound}
 use Rattle.restart.specs.Machines.{facts_at, has_tracking, is_tracked, is_tracked_with}
 use Rattle.restart.specs.BorneOut.{names_machines, migration_before, IsInLog, IsBorneOut, HasItsSnapshot}
-use Rattle.restart.specs.Standing.{IsRejected, IsFirstStrange, IsLastStrange}
-use Rattle.restart.specs.Agrees.{PlansAsk, MigrationAsks, Agree}
-use Rattle.restart.specs.Laws.{AgreeingAreNotStrange}
-use Rattle.restart.proofs.Folding.{one_value}
+use Rattle.restart.specs.Agrees.{PlansAsk, MigrationAsks, Agrees}
+use Rattle.restart.specs.Laws.{AgreeingAreNotStrange, AgreeingAreTaken, TakenAreNotStrange}
 use Rattle.restart.proofs.StrangeNumbers.{next_may}
 use Rattle.restart.proofs.Staying.{GoesOn, values_go_on}
 use Rattle.restart.proofs.There.{some_told}
@@ -102,7 +100,7 @@ names fleet records told v w (Ended k how place) plans asks may on = refl
 -- ---- what a record says of a migration
 
 logged : (fleet : FleetState) (records : List Record)
-    (told : Option (List (VolumeName × StoredVolume))) (agree : Agree fleet records told)
+    (told : Option (List (VolumeName × StoredVolume))) (agree : Agrees fleet records told)
     (front rest : List Record) (r : Record) (v : CtlValue) (m : Migration)
     → records ≡ front ++ r ∷ rest → IsStateOf v front → migration_before v r ≡ Some m
     → IsInLog fleet m r
@@ -124,7 +122,7 @@ logged fleet records told agree front rest r v m split come before =
         (asks.of_log front rest r v m split of come there)
 
 borne : (fleet : FleetState) (records : List Record)
-    (told : Option (List (VolumeName × StoredVolume))) (agree : Agree fleet records told)
+    (told : Option (List (VolumeName × StoredVolume))) (agree : Agrees fleet records told)
     (front rest : List Record) (r : Record) (v : CtlValue) → records ≡ front ++ r ∷ rest
     → IsStateOf v front → record_may_stand v r ≡ true → IsBorneOut fleet v r
 borne fleet records told agree front rest r v split come may = record {
@@ -135,44 +133,34 @@ borne fleet records told agree front rest r v split come may = record {
   logged = λ m before. logged fleet records told agree front rest r v m split come before;
 }
 
-first_not : (fleet : FleetState) (records : List Record)
-    (told : Option (List (VolumeName × StoredVolume))) (number : ℕ)
-    → Agree fleet records told → IsFirstStrange fleet records number → ⊥
-first_not fleet records told number agree first = by first.rejected
+has_snapshot : (fleet : FleetState) (records : List Record)
+    (told : Option (List (VolumeName × StoredVolume))) (mig : ℕ) (m : Migration)
+    → MigrationAsks fleet records told mig m → m.number ≡ mig → HasItsSnapshot fleet m
+has_snapshot fleet records told mig m asks is = by (facts_at m.vm fleet) asks
   where
-    may : record_may_stand first.value first.strange ≡ true
-    may = next_may first.front first.rest first.strange first.value agree.value
-        first.before.come_to (sym (ap after first.split) ∙ agree.come_to)
+    by : (o : Option MachineFacts) → IsSomeAnd o (λ at. AsksOf mig at records m told)
+        → IsSomeAnd o (λ at. SnapshotAsks m.number at.log m)
+    by None h = absurd h
+    by (Some at) h = subst (λ (k : ℕ). SnapshotAsks k at.log m) (sym is) h.of_snapshot
 
-    by : IsRejected fleet first.value first.strange → ⊥
-    by (inl not_may) = false≢true (sym not_may ∙ may)
-    by (inr unborne) = unborne (borne fleet records told agree first.front first.rest first.strange
-        first.value first.split first.before.come_to may)
+pub agreeing_taken : AgreeingAreTaken
+agreeing_taken fleet records told agree =
+    let sound = values_are_sound records agree.value agree.come_to in (
+      agree.value,
+      record {
+        stand = record {
+          come_to = agree.come_to;
+          borne_out = λ front rest r v split come. borne fleet records told agree front rest r v
+              split come (next_may front rest r v agree.value come
+              (sym (ap after split) ∙ agree.come_to));
+        };
+        snapshots = λ mig m there. has_snapshot fleet records told mig m
+            (agree.migrations mig m there) (sound.migrations mig m there).numbered;
+      },
+    )
 
-last_not : (fleet : FleetState) (records : List Record)
-    (told : Option (List (VolumeName × StoredVolume))) (number : ℕ)
-    → Agree fleet records told → IsLastStrange fleet records number → ⊥
-last_not fleet records told number agree last =
-    let lack = last.lack in
-    let m = lack.migration in
-    let value = one_value records last.value agree.value last.stand.come_to agree.come_to in
-    let there : migration_in agree.value lack.mig ≡ Some m =
-    ap (λ (v : CtlValue). migration_in v lack.mig) (sym value) ∙ lack.known in
-    let sound = values_are_sound records last.value last.stand.come_to in
-    let member = sound.migrations lack.mig m lack.known in
-    lack.lacks (has lack.mig m (agree.migrations lack.mig m there) member.numbered)
-  where
-    has : (mig : ℕ) (m : Migration) → MigrationAsks fleet records told mig m → m.number ≡ mig
-        → HasItsSnapshot fleet m
-    has mig m asks is = by (facts_at m.vm fleet) asks
-      where
-        by : (o : Option MachineFacts) → IsSomeAnd o (λ at. AsksOf mig at records m told)
-            → IsSomeAnd o (λ at. SnapshotAsks m.number at.log m)
-        by None h = absurd h
-        by (Some at) h = subst (λ (k : ℕ). SnapshotAsks k at.log m) (sym is) h.of_snapshot
-
-pub agreeing_not : AgreeingAreNotStrange
-agreeing_not fleet records told number agree (inl first) =
-    first_not fleet records told number agree first
-agreeing_not fleet records told number agree (inr last) =
-    last_not fleet records told number agree last
+module _ (not_strange : TakenAreNotStrange) where
+  pub agreeing_not : AgreeingAreNotStrange
+  agreeing_not fleet records told number agree strange =
+      let taken = agreeing_taken fleet records told agree in
+      not_strange fleet records taken.0 number taken.1 strange

@@ -13,7 +13,7 @@ use Rattle.ctl_state.specs.Value.{CtlValue, no_records, numbered}
 use Rattle.ctl_state.proofs.FoldFacts.{goes_on}
 use Rattle.ctl_state.proofs.ListFacts.{numbered_at}
 use Rattle.restart.specs.BorneOut.{IsBorneOut, HasItsSnapshot}
-use Rattle.restart.specs.Standing.{AreBorneOut, StandIn, Accepts, IsRejected, IsFirstStrange, HaveSnapshots, LackASnapshot}
+use Rattle.restart.specs.Standing.{AreBorneOut, StandOver, Accepts, IsRejected, IsFirstStrange, HaveSnapshots, LackASnapshot}
 use Rattle.restart.proofs.Splits.{same, earlier, later, two_splits, nothing_splits, none_behind, split_at}
 
 -- ---- records that stand
@@ -22,14 +22,14 @@ pub one_value : (records : List Record) (v w : CtlValue) → IsStateOf v records
     → IsStateOf w records → v ≡ w
 one_value records v w a b = let e : ◌≡◌ {A = Result CtlValue ℕ} (Ok v) (Ok w) = sym a ∙ b in cc
 
-pub none_stand : (fleet : FleetState) → StandIn fleet [] no_records
+pub none_stand : (fleet : FleetState) → StandOver fleet [] no_records
 none_stand fleet = record {
   come_to = refl;
   borne_out = λ front rest r v split come. absurd (nothing_splits front rest r split);
 }
 
 bears_more : (fleet : FleetState) (records : List Record) (v next : CtlValue) (r : Record)
-    → StandIn fleet records v → Accepts fleet r v next → AreBorneOut fleet (records ++ r ∷ [])
+    → StandOver fleet records v → Accepts fleet r v next → AreBorneOut fleet (records ++ r ∷ [])
 bears_more fleet records v next r stand new front rest other w split come =
     elim (two_splits records [] front rest r other split) [
       | same is one ↦ (
@@ -41,7 +41,7 @@ bears_more fleet records v next r stand new front rest other w split come =
     ]
 
 pub stand_more : (fleet : FleetState) (records : List Record) (v next : CtlValue) (r : Record)
-    → StandIn fleet records v → Accepts fleet r v next → StandIn fleet (records ++ r ∷ []) next
+    → StandOver fleet records v → Accepts fleet r v next → StandOver fleet (records ++ r ∷ []) next
 stand_more fleet records v next r stand new = record {
   come_to = goes_on v records r stand.come_to new.may_stand ∙ ap Ok (sym new.after_it);
   borne_out = bears_more fleet records v next r stand new;
@@ -51,12 +51,12 @@ stand_more fleet records v next r stand new = record {
 
 pub record StandTo (fleet : FleetState) (records : List Record) (place : ℕ) (v : CtlValue)
     : Type 0 where
-  pub stand : StandIn fleet (take place records) v
+  pub stand : StandOver fleet (take place records) v
 
 pub stand_to_none : (fleet : FleetState) (records : List Record) (v : CtlValue)
     → v ≡ no_records → StandTo fleet records 0 v
 stand_to_none fleet records v is = record {
-  stand = subst (StandIn fleet []) (sym is) (none_stand fleet);
+  stand = subst (StandOver fleet []) (sym is) (none_stand fleet);
 }
 
 pub stand_to_more : (fleet : FleetState) (records : List Record) (place : ℕ) (v next : CtlValue)
@@ -67,14 +67,14 @@ stand_to_more fleet records place v next r within is to new =
     let longer : take (place + 1) records ≡ take place records ++ r ∷ [] =
     take_more records place r within ∙ ap (λ x. take place records ++ x ∷ []) (sym is) in
     record {
-      stand = subst (λ (xs : List Record). StandIn fleet xs next) (sym longer)
+      stand = subst (λ (xs : List Record). StandOver fleet xs next) (sym longer)
           (stand_more fleet (take place records) v next r to.stand new);
     }
 
 pub stand_to_all : (fleet : FleetState) (records : List Record) (place : ℕ) (v : CtlValue)
-    → length records ≤ place → StandTo fleet records place v → StandIn fleet records v
+    → length records ≤ place → StandTo fleet records place v → StandOver fleet records v
 stand_to_all fleet records place v end to =
-    subst (λ (xs : List Record). StandIn fleet xs v) (take_all place records end) to.stand
+    subst (λ (xs : List Record). StandOver fleet xs v) (take_all place records end) to.stand
 
 pub strange_at : (fleet : FleetState) (records : List Record) (place : ℕ) (v : CtlValue)
     (r : Record) → place < length records → r ≡ get_or records place r

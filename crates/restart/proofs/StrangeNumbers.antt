@@ -1,18 +1,19 @@
 -- Records are strange at one number at most, and at none where they are taken: none of those that
 -- stand is rejected.
-use Rattle.std.proofs.Common.{◌≡◌, ℕ, ◌+◌, true, false, List, [], ◌∷◌, ◌++◌, length, Result, Ok, Err, refl, ap, subst, sym, ◌∙◌, inl, inr, append_assoc}
+use Rattle.std.proofs.Common.{◌≡◌, ℕ, ◌+◌, ◌≤◌, true, false, List, [], ◌∷◌, ◌++◌, length, Result, Ok, Err, refl, ap, subst, sym, ◌∙◌, inl, inr, append_assoc, length-append, arith}
 use Rattle.std.specs.Prelude.{Bool}
 use Rattle.fleet.specs.Fleet.{FleetState}
 use Rattle.record_codec.specs.declared.record.Record.{Record}
 use Rattle.ctl_state.specs.Fold.{IsStateOf, after}
 use Rattle.ctl_state.specs.Laws.{then_after}
 use Rattle.ctl_state.specs.MayStand.{record_may_stand}
-use Rattle.ctl_state.specs.Value.{CtlValue}
+use Rattle.ctl_state.specs.Value.{CtlValue, no_records, migration_in}
 use Rattle.ctl_state.proofs.FoldFacts.{lists_join, stops}
-use Rattle.restart.specs.Standing.{StandIn, IsRejected, IsFirstStrange, LackASnapshot, HaveSnapshots}
-use Rattle.restart.specs.Laws.{StrangeAtOne, TakenAreNotStrange}
+use Rattle.restart.specs.Standing.{StandOver, IsRejected, IsFirstStrange, LackASnapshot, HaveSnapshots}
+use Rattle.restart.specs.Laws.{StrangeAtOne, StrangeAmongThem, TakenAreNotStrange}
 use Rattle.restart.proofs.Splits.{same, earlier, later, two_splits}
 use Rattle.restart.proofs.Folding.{one_value}
+use Rattle.restart.proofs.There.{none_numbered}
 
 strange_no : (front rest : List Record) (w : CtlValue) (number : ℕ) → after front ≡ Err number
     → after (front ++ rest) ≡ Ok w → ⊥
@@ -33,7 +34,7 @@ next_may front rest r v w come good = by (record_may_stand v r) refl
 
 -- none of those that stand is rejected
 pub not_rejected : (fleet : FleetState) (records front rest : List Record) (r : Record)
-    (v w : CtlValue) → StandIn fleet records w → records ≡ front ++ r ∷ rest → IsStateOf v front
+    (v w : CtlValue) → StandOver fleet records w → records ≡ front ++ r ∷ rest → IsStateOf v front
     → IsRejected fleet v r → ⊥
 not_rejected fleet records front rest r v w stand split come (inl not_may) =
     let yes = next_may front rest r v w come (sym (ap after split) ∙ stand.come_to) in
@@ -43,7 +44,7 @@ not_rejected fleet records front rest r v w stand split come (inr unborne) =
     unborne (stand.borne_out front rest r v split come)
 
 first_not : (fleet : FleetState) (records : List Record) (w : CtlValue) (number : ℕ)
-    → StandIn fleet records w → IsFirstStrange fleet records number → ⊥
+    → StandOver fleet records w → IsFirstStrange fleet records number → ⊥
 first_not fleet records w number stand first = not_rejected fleet records first.front first.rest
     first.strange first.value w stand first.split first.before.come_to first.rejected
 
@@ -76,3 +77,24 @@ strange_at_one fleet records one other (inl a) (inr b) =
 strange_at_one fleet records one other (inr a) (inl b) =
     absurd (first_not fleet records a.value other a.stand b)
 strange_at_one fleet records one other (inr a) (inr b) = a.counted ∙ sym b.counted
+
+-- ---- the number is that of one of them
+
+none_lack : (fleet : FleetState) (v : CtlValue) → IsStateOf v [] → LackASnapshot fleet v → ⊥
+none_lack fleet v come lack =
+    let e : no_records ≡ v = one_value [] no_records v refl come in
+    none_numbered lack.mig lack.migration
+    (ap (λ (x : CtlValue). migration_in x lack.mig) e ∙ lack.known)
+
+some_records : (fleet : FleetState) (records : List Record) (v : CtlValue) → IsStateOf v records
+    → LackASnapshot fleet v → 1 ≤ length records
+some_records fleet [] v come lack = absurd (none_lack fleet v come lack)
+some_records fleet (r ∷ records) v come lack = omega arith
+
+pub strange_among : StrangeAmongThem
+strange_among fleet records number (inl first) =
+    let long = ap length first.split ∙ length-append first.front (first.strange ∷ first.rest) in
+    (omega (arith, first.counted), omega (arith, long, first.counted))
+strange_among fleet records number (inr last) =
+    let some = some_records fleet records last.value last.stand.come_to last.lack in
+    (omega (arith, some, last.counted), omega (arith, last.counted))

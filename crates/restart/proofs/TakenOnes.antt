@@ -31,10 +31,10 @@ use Rattle.ctl_state.proofs.ListFacts.{numbered-before, numbered-added}
 use Rattle.ctl_state.proofs.SoundValues.{values_are_sound}
 use Rattle.restart.specs.Machines.{facts_at, has_tracking, is_tracked, is_tracked_with}
 use Rattle.restart.specs.BorneOut.{names_machines, migration_before, IsBorneOut}
-use Rattle.restart.specs.Standing.{AreBorneOut, StandIn, AreTaken}
+use Rattle.restart.specs.Standing.{AreBorneOut, StandOver, AreTaken}
 use Rattle.restart.specs.Agrees.{PlansAsk, MigrationAsks}
 use Rattle.restart.specs.Laws.{TakenAgree}
-use Rattle.restart.proofs.There.{is_in, told_some, some_told}
+use Rattle.restart.proofs.There.{is_in, told_some, some_told, none_numbered}
 use Rattle.restart.proofs.Staying.{SameMachine, step_same, values_go_on}
 
 -- ---- the machines that records named
@@ -44,13 +44,6 @@ record AreThere (fleet : FleetState) (v : CtlValue) : Type 0 where
   plans : PlansAsk fleet v
   migrations : (mig : ℕ) (m : Migration) → migration_in v mig ≡ Some m
       → is_tracked_with fleet m.vm m.disks ≡ true
-
-none_numbered : {X : Type 0} (n : ℕ) (x : X) → numbered [] n ≡ Some x → ⊥
-none_numbered {X} n x = test (n == 0)
-  where
-    test : (b : Bool) → cond b None (slice_get [] (n - 1)) ≡ Some x → ⊥
-    test true e = none-some x e
-    test false e = none-some x e
 
 none_there : (fleet : FleetState) → AreThere fleet no_records
 none_there fleet = record {
@@ -141,7 +134,7 @@ one_front fleet front w r old may = (
       },
 )
 
-all_there : (fleet : FleetState) (records : List Record) (v : CtlValue) → StandIn fleet records v
+all_there : (fleet : FleetState) (records : List Record) (v : CtlValue) → StandOver fleet records v
     → AreThere fleet v
 all_there fleet records v stand = (fronts (Front fleet) (one_front fleet)
     (refl, λ borne. none_there fleet) records v stand.come_to).1 stand.borne_out
@@ -191,7 +184,7 @@ pub before_is : (v : CtlValue) (r : Record) (mig : ℕ) (m : Migration) → migr
 before_is v r mig m of there = ap (option_and_then (migration_in v)) of ∙ there
 
 log_asks : (fleet : FleetState) (records : List Record) (v : CtlValue) (mig : ℕ) (m : Migration)
-    (at : MachineFacts) → StandIn fleet records v → migration_in v mig ≡ Some m
+    (at : MachineFacts) → StandOver fleet records v → migration_in v mig ≡ Some m
     → facts_at m.vm fleet ≡ Some at → RecordsAsk mig at records
 log_asks fleet records v mig m at stand there found front rest r w earlier split of come known =
     let goes = values_go_on front (r ∷ rest) w v come (sym (ap after split) ∙ stand.come_to) in
@@ -231,7 +224,9 @@ taken_agree fleet records v is taken =
     record {
       value = v;
       come_to = taken.stand.come_to;
+      fleet_sound = is;
       plans = there.plans;
       migrations = λ mig m at. one_asks fleet records v mig m is taken at
           (there.migrations mig m at);
+      volumes = λ told is. absurd (none-some told is);
     }

@@ -1,7 +1,8 @@
 -- A machine that is found in a fleet: it is one of those that aren't out, under its number. And what
 -- is known of what may be found.
-use Rattle.std.proofs.Common.{◌≡◌, ℕ, Bool, true, false, cond, Option, Some, None, option_map, refl, subst, sym}
-use Rattle.std.specs.Prelude.{option_and_then, IsSomeAnd}
+use Rattle.std.proofs.Common.{◌≡◌, ℕ, ◌-◌, ◌==◌, List, [], Bool, true, false, cond, Option, Some, None, option_map, refl, subst, sym}
+use Rattle.std.specs.Prelude.{option_and_then, slice_get, IsSomeAnd}
+use Rattle.ctl_state.specs.Value.{numbered}
 use Rattle.std.proofs.lemmas.Option.{none-some, same_Some}
 use Rattle.source_vm.specs.Machine.{MachineState}
 use Rattle.fleet.specs.Fleet.{VmState, FleetState, vm_of, machine_of}
@@ -40,3 +41,11 @@ told_some (Some y) P x h e = subst P (same_Some y x e) h
 pub some_told : {X : Type 0} (o : Option X) (P : X → Type 0) (x : X) → o ≡ Some x → P x
     → IsSomeAnd o P
 some_told {X} o P x e p = subst (λ (q : Option X). IsSomeAnd q P) (sym e) p
+
+-- nothing has a number in an empty list
+pub none_numbered : {X : Type 0} (n : ℕ) (x : X) → numbered [] n ≡ Some x → ⊥
+none_numbered {X} n x = test (n == 0)
+  where
+    test : (b : Bool) → cond b None (slice_get [] (n - 1)) ≡ Some x → ⊥
+    test true e = none-some x e
+    test false e = none-some x e

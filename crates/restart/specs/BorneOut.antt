@@ -6,7 +6,7 @@ use Rattle.std.specs.List.{list_all}
 use Rattle.std.specs.Option.{ForSome}
 use Rattle.fleet.specs.Fleet.{FleetState}
 use Rattle.record_codec.specs.declared.record.Record.{Record}
-use Rattle.record_codec.specs.declared.record.Record.TheVariants.{PlanMade, MigrationStarted}
+use Rattle.record_codec.specs.declared.record.Record.TheVariants.{PlanMade, MigrationStarted, Chosen, SnapTaken, IdsStored, VolumesMade, CheckpointAdded, StageBegun, StageDone, Paused, SnapRemoved, CutoverSet, PowerStored, PoweredOff, OffSeen, FinalSnapTaken, CancelAsked, Ended}
 use Rattle.record_codec.specs.Record.{migration_of}
 use Rattle.ctl_state.specs.declared.migration.Migration.{Migration}
 use Rattle.ctl_state.specs.Asks.{RecordAsks, SnapshotAsks}
@@ -18,7 +18,22 @@ use Rattle.restart.specs.Machines.{facts_at, is_tracked, is_tracked_with}
 abbrev pub names_machines : FleetState → Record → Bool
 names_machines fleet (PlanMade plan name interval vms) = list_all (is_tracked fleet) vms
 names_machines fleet (MigrationStarted mig plan vm disks) = is_tracked_with fleet vm disks
-names_machines fleet r = true
+names_machines fleet (Chosen mig way moment) = true
+names_machines fleet (SnapTaken mig snap mark) = true
+names_machines fleet (IdsStored mig ids) = true
+names_machines fleet (VolumesMade mig) = true
+names_machines fleet (CheckpointAdded mig previous current last) = true
+names_machines fleet (StageBegun mig disk) = true
+names_machines fleet (StageDone mig disk written) = true
+names_machines fleet (Paused mig moment) = true
+names_machines fleet (SnapRemoved mig snap) = true
+names_machines fleet (CutoverSet plan has moment) = true
+names_machines fleet (PowerStored mig on) = true
+names_machines fleet (PoweredOff mig) = true
+names_machines fleet (OffSeen mig off) = true
+names_machines fleet (FinalSnapTaken mig snap mark place) = true
+names_machines fleet (CancelAsked mig) = true
+names_machines fleet (Ended mig how place) = true
 
 -- the migration of the record, as it was before it
 abbrev pub migration_before : CtlValue → Record → Option Migration

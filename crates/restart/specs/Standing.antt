@@ -18,7 +18,7 @@ AreBorneOut fleet records = (front rest : List Record) (r : Record) (v : CtlValu
     → records ≡ front ++ r ∷ rest → IsStateOf v front → IsBorneOut fleet v r
 
 -- the records are accepted one after another, and come to this value
-pub record StandIn (fleet : FleetState) (records : List Record) (v : CtlValue) : Type 0 where
+pub record StandOver (fleet : FleetState) (records : List Record) (v : CtlValue) : Type 0 where
   pub come_to : IsStateOf v records
   pub borne_out : AreBorneOut fleet records
 
@@ -40,7 +40,7 @@ pub record IsFirstStrange (fleet : FleetState) (records : List Record) (number :
   pub value : CtlValue
   pub split : records ≡ front ++ strange ∷ rest
   pub counted : number ≡ length front + 1
-  pub before : StandIn fleet front value
+  pub before : StandOver fleet front value
   pub rejected : IsRejected fleet value strange
 
 -- each migration has its snapshot
@@ -58,7 +58,7 @@ pub record LackASnapshot (fleet : FleetState) (v : CtlValue) : Type 0 where
 -- each is accepted, but a snapshot isn't there
 pub record IsLastStrange (fleet : FleetState) (records : List Record) (number : ℕ) : Type 0 where
   pub value : CtlValue
-  pub stand : StandIn fleet records value
+  pub stand : StandOver fleet records value
   pub lack : LackASnapshot fleet value
   pub counted : number ≡ length records
 
@@ -69,7 +69,7 @@ IsStrange fleet records number =
 
 -- the records are those of a fleet that lacks nothing of what they say
 pub record AreTaken (fleet : FleetState) (records : List Record) (v : CtlValue) : Type 0 where
-  pub stand : StandIn fleet records v
+  pub stand : StandOver fleet records v
   pub snapshots : HaveSnapshots fleet v
 
 -- what the fold of records over a fleet answers

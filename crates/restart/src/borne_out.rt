@@ -21,7 +21,22 @@ fn names_machines(fleet: &Fleet, r: &Record) -> bool
     match r {
         Record::PlanMade { vms, .. } => are_tracked(fleet, vms.as_slice()),
         Record::MigrationStarted { vm, disks, .. } => is_tracked_with(fleet, *vm, *disks),
-        _ => true,
+        Record::Chosen { .. }
+        | Record::SnapTaken { .. }
+        | Record::IdsStored { .. }
+        | Record::VolumesMade { .. }
+        | Record::CheckpointAdded { .. }
+        | Record::StageBegun { .. }
+        | Record::StageDone { .. }
+        | Record::Paused { .. }
+        | Record::SnapRemoved { .. }
+        | Record::CutoverSet { .. }
+        | Record::PowerStored { .. }
+        | Record::PoweredOff { .. }
+        | Record::OffSeen { .. }
+        | Record::FinalSnapTaken { .. }
+        | Record::CancelAsked { .. }
+        | Record::Ended { .. } => true,
     }
 }
 

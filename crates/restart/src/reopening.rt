@@ -21,7 +21,7 @@ use target_volume::VolumeStore;
 /// a machine that isn't there, isn't tracked or has another number of disks, or that says what the
 /// log of its migration's machine doesn't; or at the last of them, where the current snapshot of a
 /// live migration is gone. [`ReopenRefused::NoMemory`] for want of memory. Each gives the disk and
-/// the store back, and writes nothing but where the records aren't strange.
+/// the store back, and writes nothing before all records are taken.
 pub fn reopen<D: Disk, T: VolumeStore>(
     alloc: Global,
     disk: D,

@@ -10,3 +10,5 @@ pub mod Keeping
 pub mod LayerSteps
 pub mod LayersRead
 pub mod Blocks
+mod Behind
+mod InPlace

@@ -102,7 +102,7 @@ grown_none layer grown first xs n before full none b offset within less = elim (
   | inr apart ↦ before b offset within (omega (arith, less, apart))
 ]
 
-run_behind : (first : ℕ) (xs : List Sector) (s : ℕ) → first + length xs ≤ s → run_at first xs s ≡ None
+pub run_behind : (first : ℕ) (xs : List Sector) (s : ℕ) → first + length xs ≤ s → run_at first xs s ≡ None
 run_behind first xs s past = run_from first xs s (omega (arith, past)) ∙ slice_get_past xs (s - first) (omega (arith, past))
 
 pub grown_all : (layer grown : LayerState) (first : ℕ) (xs : List Sector) (n : ℕ) → ((b offset : ℕ) → offset < 128 → b < n → IsGrownAt layer b first xs offset (slot_of grown b))

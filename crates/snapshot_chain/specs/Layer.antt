@@ -1,5 +1,5 @@
 -- A layer: pages under the numbers of their blocks, in ascending order.
-use Rattle.std.specs.Prelude.{◌≡◌, ◌==◌, if◌then◌else◌, ℕ, ◌+◌, ◌*◌, ◌<◌, ◌⊎◌, List, Bool, Option, Some, None, is_some, IsSome, option_map, unwrap_or}
+use Rattle.std.specs.Prelude.{◌≡◌, ◌==◌, if◌then◌else◌, ℕ, ◌+◌, ◌*◌, ◌<◌, ◌⊎◌, List, Bool, true, false, Option, Some, None, is_some, IsSome, option_map, unwrap_or}
 use Rattle.std.specs.Option.{option_or, option_and_then}
 use Rattle.std.specs.Ordering.{nat_cmp}
 use Rattle.std.specs.BTreeMap.{is_at}
@@ -7,7 +7,7 @@ use Rattle.std.specs.Map.{lookup}
 use Rattle.std.specs.List.{list_any, range_with_len}
 use Rattle.sector_model.specs.declared.run.TheConstants.{BLOCK_SECTORS}
 use Rattle.sector_model.specs.declared.sector.Sector.{Sector}
-use Rattle.snapshot_chain.specs.Page128.{PageState, no_sectors, sector_at, run_at}
+use Rattle.snapshot_chain.specs.Page128.{PageState, no_sectors, sector_at, run_at, IsAppended}
 
 abbrev pub LayerState : Type 0
 LayerState = List (ℕ × PageState)
@@ -56,6 +56,19 @@ IsWritten old new first sectors = (block offset : ℕ) → offset < BLOCK_SECTOR
     → sector_in new block offset
     ≡ option_or (run_at first sectors (BLOCK_SECTORS * block + offset))
     (sector_in old block offset)
+
+-- the page of a block took sectors in place, or is as it was; none took some
+abbrev pub IsAppendedAt : (added : Bool) (offset : ℕ) → List Sector
+    → (old new : Option PageState) → Type 0
+IsAppendedAt added offset sectors None new = (added ≡ false) × (new ≡ None)
+IsAppendedAt added offset sectors (Some old) None = ⊥
+IsAppendedAt added offset sectors (Some old) (Some new) =
+    IsAppended added offset sectors old new
+
+-- the same in place, or the layer is as it was
+abbrev pub IsWrittenIf : (added : Bool) (old new : LayerState) (first : ℕ) → List Sector → Type 0
+IsWrittenIf true old new first sectors = IsWritten old new first sectors
+IsWrittenIf false old new first sectors = HasSame old new
 
 -- each sector that the layer had is the run's where the run has one, and it has no other
 abbrev pub IsWrittenOver : (old new : LayerState) (first : ℕ) → List Sector → Type 0

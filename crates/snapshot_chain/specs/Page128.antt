@@ -1,6 +1,6 @@
 -- A page of a layer: which of the sectors of a block it has, and these in ascending order of their
 -- offsets in the block.
-use Rattle.std.specs.Prelude.{◌≡◌, ℕ, ◌+◌, ◌-◌, ◌*◌, ◌<◌, ◌^◌, ◌%◌, ◌==◌, nat_le, List, [], ◌∷◌, ◌++◌, length, slice_get, Bool, Option, Some, None, IsSome, option_map, unwrap_or, count_ones, if◌then◌else◌}
+use Rattle.std.specs.Prelude.{◌≡◌, ℕ, ◌+◌, ◌-◌, ◌*◌, ◌<◌, ◌≤◌, ◌^◌, ◌%◌, ◌==◌, nat_le, List, [], ◌∷◌, ◌++◌, length, slice_get, Bool, Option, Some, None, IsSome, option_map, unwrap_or, count_ones, true, false, if◌then◌else◌}
 use Rattle.std.specs.Int.{bit_at}
 use Rattle.std.specs.Option.{option_or}
 use Rattle.basics.specs.Bits.{has_bit}
@@ -37,6 +37,13 @@ with_sector page offset sector = record {
       page.sectors ++ sector ∷ [];
 }
 
+-- the page and sectors one after another from an offset above all of its own on
+abbrev pub with_run : PageState → (offset : ℕ) → List Sector → PageState
+with_run page offset sectors = record {
+  mask = page.mask + (2 ^ length sectors - 1) * 2 ^ offset;
+  sectors = page.sectors ++ sectors;
+}
+
 -- the page has a sector for each set bit, at most one for each sector of a block
 abbrev pub IsPage : PageState → Type 0
 IsPage page = (page.mask < 2 ^ BLOCK_SECTORS) × (length page.sectors ≡ count_ones page.mask)
@@ -59,6 +66,13 @@ abbrev pub IsGrown : (old : ℕ → Option Sector) (block first : ℕ) → List 
 IsGrown old block first sectors (Some page) = IsRewritten old block first sectors page
 IsGrown old block first sectors None = (offset : ℕ) → offset < BLOCK_SECTORS
     → IsSome (run_at first sectors (BLOCK_SECTORS * block + offset)) → IsSome (old offset)
+
+-- the same, or the page is as it was
+abbrev pub IsAppended : (added : Bool) → (offset : ℕ) → List Sector → (old new : PageState)
+    → Type 0
+IsAppended true offset sectors old new = IsRewritten (sector_at old) 0 offset sectors new
+    × (offset + length sectors ≤ BLOCK_SECTORS)
+IsAppended false offset sectors old new = new ≡ old
 
 -- each sector that was there is the run's where the run has one, and no other is there
 abbrev pub IsOverwritten : (old : ℕ → Option Sector) (block first : ℕ) → List Sector

@@ -2,7 +2,7 @@
 ghost use Rattle.std.specs.Prelude.{◌≡◌, ◌≢◌, ◌+◌, ◌*◌, ◌<◌, ◌≤◌, ◌^◌, [], length, ◌||◌, ◌⊎◌, IfOk, OnOk, OnErr, IsSome, None, Some, option_map, unwrap_or, ℕ};
 ghost use Rattle.std.specs.Option.{option_copied, option_or};
 ghost use Rattle.snapshot_chain.specs.Page128.{PageState, no_sectors, run_at, IsGrown};
-ghost use Rattle.snapshot_chain.specs.Layer.{page_of, slot_of, sector_of, sector_in, HasSame, IsWritten, IsWrittenOver, AreGrown, KeepsSlots, AddsSlots, IsSlotAdded, IsWithin, IsRoomFor, IsRoomAt, IsOpenAt, IsMerged, after_taking, TakesPages, LayerState, has_sector};
+ghost use Rattle.snapshot_chain.specs.Layer.{page_of, slot_of, sector_of, sector_in, HasSame, IsWritten, IsWrittenIf, IsAppendedAt, IsWrittenOver, AreGrown, KeepsSlots, AddsSlots, IsSlotAdded, IsWithin, IsRoomFor, IsRoomAt, IsOpenAt, IsMerged, after_taking, TakesPages, LayerState, has_sector};
 ghost use Rattle.std.specs.BTreeSet.{contains};
 ghost use Rattle.std.specs.Ordering.{nat_cmp};
 
@@ -64,11 +64,53 @@ impl Layer {
         ensures within { (c : ℕ) → first + length sectors.now ≤ c → IsWithin c self.old
             → IsWithin c self.new }
     {
+        if self.append_run(first, sectors)? {
+            return Ok(());
+        }
+        self.write_pages(alloc, first, sectors)
+    }
+
+    /// Writes sectors, where those for which a page of the layer has no room make it anew.
+    fn write_pages(&mut self, alloc: Global, first: u64, sectors: &[Sector]) -> Result<(), NoMemory>
+        requires { first + length sectors.now < 2 ^ 64 }
+        ensures ok { OnOk result (IsWritten self.old self.new first sectors.now) }
+        ensures err { OnErr result (HasSame self.old self.new) }
+        ensures within { (c : ℕ) → first + length sectors.now ≤ c → IsWithin c self.old
+            → IsWithin c self.new }
+    {
         let grown = self.grown_pages(alloc, first, sectors)?;
         self.make_slots(&grown)?;
         self.put_pages(grown);
         self.overwrite(first, sectors);
         Ok(())
+    }
+
+    /// Adds sectors from sector `first` of the disk on to the page of their block, in place, where
+    /// that page has several and all of them stand before. Says false where it hasn't done so. An
+    /// `Err` and a false change nothing that the layer holds.
+    fn append_run(&mut self, first: u64, sectors: &[Sector]) -> Result<bool, NoMemory>
+        requires { first + length sectors.now < 2 ^ 64 }
+        ensures ok { IfOk result (λ added. IsWrittenIf added self.old self.new first sectors.now) }
+        ensures err { OnErr result (HasSame self.old self.new) }
+        ensures slots { KeepsSlots self.new self.old }
+    {
+        self.append_at(first / BLOCK_SECTORS, first % BLOCK_SECTORS, sectors)
+    }
+
+    /// Adds sectors from an offset of a block on to the block's page, in place, if it takes them.
+    fn append_at(&mut self, block: u64, offset: u64, sectors: &[Sector]) -> Result<bool, NoMemory>
+        requires { offset < BLOCK_SECTORS }
+        ensures here { IfOk result (λ added. IsAppendedAt added offset sectors.now
+            (slot_of self.old block) (slot_of self.new block)) }
+        ensures err { OnErr result (slot_of self.new block ≡ slot_of self.old block) }
+        ensures others { (other : ℕ) → other ≢ block
+            → slot_of self.new other ≡ slot_of self.old other }
+        ensures slots { KeepsSlots self.new self.old }
+    {
+        match self.pages.get_mut(&block) {
+            Some(page) => page.append_run(offset, sectors),
+            None => Ok(false),
+        }
     }
 
     /// The pages of the blocks in which a write needs memory, as they are after it.

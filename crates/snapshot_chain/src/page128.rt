@@ -1,7 +1,7 @@
 //! A page of a layer: the written sectors of one block, each once and no others.
-ghost use Rattle.std.specs.Prelude.{◌≡◌, ◌+◌, ◌*◌, ◌<◌, ◌≤◌, ◌^◌, [], length, IsTrue, IsSome, is_some, ◌↔◌, IfOk, ℕ};
+ghost use Rattle.std.specs.Prelude.{◌≡◌, ◌+◌, ◌*◌, ◌<◌, ◌≤◌, ◌^◌, [], length, IsTrue, IsSome, is_some, ◌↔◌, IfOk, OnErr, None, ℕ};
 ghost use Rattle.std.specs.Option.{option_copied};
-ghost use Rattle.snapshot_chain.specs.Page128.{PageState, IsPage, no_sectors, sector_at, run_at, with_sector, IsJoined, IsRewritten, IsGrown, IsOverwritten, IsReplaced};
+ghost use Rattle.snapshot_chain.specs.Page128.{PageState, IsPage, no_sectors, sector_at, run_at, with_sector, IsJoined, IsRewritten, IsGrown, IsOverwritten, IsReplaced, IsAppended};
 ghost use Rattle.snapshot_chain.specs.KeptPage.{page_state, IsStored};
 
 use crate::placed_sectors::PlacedSectors;
@@ -146,6 +146,27 @@ impl Page128 {
         Ok(page)
     }
 
+    /// Adds sectors one after another from an offset of the block on, in place. It does so only to
+    /// a page of several sectors that all stand below the offset, and where the new ones are within
+    /// the block; else it says false. It answers only want of memory. An `Err` and a false change
+    /// nothing.
+    pub(crate) fn append_run(&mut self, offset: u64, sectors: &[Sector]) -> Result<bool, NoMemory>
+        requires { offset < BLOCK_SECTORS }
+        ensures ok { IfOk result
+            (λ added. IsAppended added offset sectors.now self.old self.new) }
+        ensures err { OnErr result (self.new ≡ self.old) }
+    {
+        let Kept::Many(placed) = &mut self.kept else {
+            return Ok(false);
+        };
+        let is_within = sectors.len() as u64 <= BLOCK_SECTORS - offset;
+        if offset == 0 || !is_within || !placed.are_below(offset) {
+            return Ok(false);
+        }
+        placed.append_run(offset, sectors)?;
+        Ok(true)
+    }
+
     /// The page with its block's part of a run of sectors, which begins at sector `first` of the
     /// disk; or None where it has a sector at each offset of this part, so that they can be
     /// overwritten. It answers only want of memory.
@@ -177,7 +198,8 @@ impl Page128 {
         ensures few { result ≤ BLOCK_SECTORS }
     {
         let mut missing = 0;
-        for offset in 0..BLOCK_SECTORS {
+        let part = part_of(block, first, sectors);
+        for offset in part.0..part.1 {
             let is_in = run_get(first, sectors, BLOCK_SECTORS * block + offset).is_some();
             if is_in && self.get(offset).is_none() {
                 missing += 1;
@@ -213,7 +235,8 @@ impl Page128 {
         requires { block < 2 ^ 57 }
         ensures { IsOverwritten (sector_at self.old) block first sectors.now self.new }
     {
-        for offset in 0..BLOCK_SECTORS {
+        let part = part_of(block, first, sectors);
+        for offset in part.0..part.1 {
             if let Some(sector) = run_get(first, sectors, BLOCK_SECTORS * block + offset) {
                 self.replace(offset, sector);
             }
@@ -252,6 +275,25 @@ fn replaced(kept: Kept, offset: u64, sector: &Sector) -> Kept
             Kept::Many(placed)
         }
     }
+}
+
+/// The offsets of a block at which a run of sectors from sector `first` on may have one: from the
+/// first of the two on, below the second.
+fn part_of(block: u64, first: u64, sectors: &[Sector]) -> (u64, u64)
+    requires { block < 2 ^ 57 }
+    ensures order { (result.0 ≤ result.1) × (result.1 ≤ BLOCK_SECTORS) }
+    ensures before { (k : ℕ) → k < result.0
+        → run_at first sectors.now (BLOCK_SECTORS * block + k) ≡ None }
+    ensures behind { (k : ℕ) → k < BLOCK_SECTORS → result.1 ≤ k
+        → run_at first sectors.now (BLOCK_SECTORS * block + k) ≡ None }
+{
+    let base = BLOCK_SECTORS * block;
+    let low = first.saturating_sub(base).min(BLOCK_SECTORS);
+    let end = low.saturating_add(sectors.len() as u64);
+    let high = end
+        .saturating_sub(base.saturating_sub(first))
+        .min(BLOCK_SECTORS);
+    (low, high)
 }
 
 /// What a run of sectors from sector `first` on has at a sector.

@@ -1,8 +1,8 @@
 //! Sectors of one block, and a mask of the offsets at which they stand.
-ghost use Rattle.std.specs.Prelude.{◌≡◌, ◌<◌, ◌^◌, IfOk, OnOk};
+ghost use Rattle.std.specs.Prelude.{◌≡◌, ◌+◌, ◌<◌, ◌≤◌, ◌^◌, length, IfOk, OnOk, OnErr, IsTrue, ◌↔◌};
 ghost use Rattle.std.specs.Option.{option_copied};
 ghost use Rattle.basics.specs.Bits.{has_bit};
-ghost use Rattle.snapshot_chain.specs.Page128.{PageState, IsPage, no_sectors, rank, sector_at, with_sector, IsReplaced};
+ghost use Rattle.snapshot_chain.specs.Page128.{PageState, IsPage, no_sectors, rank, sector_at, with_sector, with_run, IsReplaced};
 
 use sector_model::{BLOCK_SECTORS, NoMemory, Sector};
 use std::alloc::Global;
@@ -87,6 +87,43 @@ impl PlacedSectors {
     {
         self.sectors.push(sector)?;
         self.mask |= 1u128 << offset;
+        Ok(())
+    }
+
+    /// Whether each of the sectors stands below the offset.
+    pub(crate) fn are_below(&self, offset: u64) -> bool
+        requires { offset < BLOCK_SECTORS }
+        ensures below { IsTrue result ↔ (self.now.mask < 2 ^ offset) }
+        ensures page { IsPage self.now }
+    {
+        self.mask < 1u128 << offset
+    }
+
+    /// Adds sectors one after another from an offset on, which is above those of all others. Where
+    /// there is no room for them, it makes some for later ones too: an eighth of what is there. An
+    /// `Err` changes nothing.
+    pub(crate) fn append_run(&mut self, offset: u64, sectors: &[Sector]) -> Result<(), NoMemory>
+        requires offset { (0 < offset) × (offset < BLOCK_SECTORS) }
+        requires within { offset + length sectors.now ≤ BLOCK_SECTORS }
+        requires above { self.old.mask < 2 ^ offset }
+        ensures ok { OnOk result (self.new ≡ with_run self.old offset sectors.now) }
+        ensures err { OnErr result (self.new ≡ self.old) }
+    {
+        self.make_room(sectors.len())?;
+        self.sectors.extend_from_slice(sectors)?;
+        self.mask |= ((1u128 << sectors.len()) - 1) << offset;
+        Ok(())
+    }
+
+    /// Makes room for so many sectors more, and where there is none, for some later ones besides.
+    fn make_room(&mut self, count: usize) -> Result<(), NoMemory>
+        requires { count ≤ BLOCK_SECTORS }
+        ensures { self.new ≡ self.old }
+    {
+        let len = self.sectors.len();
+        if self.sectors.capacity() - len < count {
+            self.sectors.reserve_exact(count + len / 8)?;
+        }
         Ok(())
     }
 

@@ -56,7 +56,7 @@ fn what_is_built_is_a_command(rt: HostRuntime) -> Result<(), Fail> {
 
 #[test]
 fn what_is_not_built_yet_is_no_command(rt: HostRuntime) -> Result<(), Fail> {
-    let answer = told(rt.alloc(), read_command(rt.alloc(), br#"{"cmd":"plan"}"#))?;
+    let answer = told(rt.alloc(), read_command(rt.alloc(), br#"{"cmd":"run"}"#))?;
     assert_eq!(rt; answer.as_str(), "command");
     Ok(())
 }

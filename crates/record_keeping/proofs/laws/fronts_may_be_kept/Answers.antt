@@ -1,0 +1,5 @@
+use Rattle.record_keeping.proofs.Kept.{fronts_may}
+use Rattle.record_keeping.proofs.laws.fronts_may_be_kept.Goals as goal
+
+pub returns : goal.returns
+returns c = fronts_may
