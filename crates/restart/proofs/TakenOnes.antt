@@ -156,7 +156,8 @@ of_machine : (fleet : FleetState) (vm disks : ℕ) (m : MachineState) → IsFlee
 of_machine fleet vm disks m is found both =
     let parts = and_parts (has_tracking m) (length m.capacities == disks) both in
     let known = is_in fleet vm m found in
-    let legal = (IsVm-at (vm - 1) known.vm fleet is (at_place vm known.vm fleet known.there)).legal in
+    let legal =
+    (IsVm-at (vm - 1) known.vm fleet is (at_place vm known.vm fleet known.there)).legal in
     record {
       at = facts_of m;
       found = ap (option_map facts_of) found;
