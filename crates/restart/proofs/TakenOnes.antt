@@ -1,7 +1,7 @@
 -- A fleet agrees with the records that are taken over it: each machine that they name is there,
 -- and what they say of a migration stands in the log of its machine.
-use Rattle.std.proofs.Common.{◌≡◌, ℕ, ◌+◌, ◌-◌, ◌==◌, Bool, true, false, cond, ◌&&◌, List, [], ◌∷◌, ◌++◌, length, Option, Some, None, option_map, refl, ap, subst, sym, ◌∙◌, append_assoc}
-use Rattle.std.specs.Prelude.{slice_get, option_and_then}
+use Rattle.std.proofs.Common.{◌≡◌, ℕ, ◌+◌, ◌-◌, ◌==◌, Bool, true, false, ◌&&◌, List, [], ◌∷◌, ◌++◌, length, Option, Some, None, option_map, refl, ap, subst, sym, ◌∙◌, append_assoc}
+use Rattle.std.specs.Prelude.{option_and_then}
 use Rattle.std.specs.List.{list_all}
 use Rattle.std.specs.Option.{option_map_or}
 use Rattle.std.proofs.lemmas.Bool.{eqb-true, eq-eqb, false≢true, and_parts}
@@ -156,7 +156,8 @@ of_machine : (fleet : FleetState) (vm disks : ℕ) (m : MachineState) → IsFlee
 of_machine fleet vm disks m is found both =
     let parts = and_parts (has_tracking m) (length m.capacities == disks) both in
     let known = is_in fleet vm m found in
-    let legal = (IsVm-at (vm - 1) known.vm fleet is (at_place vm known.vm fleet known.there)).legal in
+    let legal =
+    (IsVm-at (vm - 1) known.vm fleet is (at_place vm known.vm fleet known.there)).legal in
     record {
       at = facts_of m;
       found = ap (option_map facts_of) found;

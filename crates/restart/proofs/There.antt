@@ -1,6 +1,6 @@
--- A machine that is found in a fleet: it is one of those that aren't out, under its number. And what
--- is known of what may be found.
-use Rattle.std.proofs.Common.{◌≡◌, ℕ, ◌-◌, ◌==◌, List, [], Bool, true, false, cond, Option, Some, None, option_map, refl, subst, sym}
+-- A machine that is found in a fleet: it is one of those that aren't out, under its number. And
+-- what is known of what may be found.
+use Rattle.std.proofs.Common.{◌≡◌, ℕ, ◌-◌, ◌==◌, [], Bool, true, false, cond, Option, Some, None, option_map, refl, subst, sym}
 use Rattle.std.specs.Prelude.{option_and_then, slice_get, IsSomeAnd}
 use Rattle.ctl_state.specs.Value.{numbered}
 use Rattle.std.proofs.lemmas.Option.{none-some, same_Some}
