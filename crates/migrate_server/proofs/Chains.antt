@@ -9,8 +9,7 @@ use Rattle.edge_traits.specs.Disk.{DiskContents, DiskState, IsImage, WhereTold, 
 use Rattle.edge_traits.proofs.Images.{settled_image}
 use Rattle.fleet.specs.Fleet.{FleetState}
 use Rattle.fleet.specs.Sound.{IsFleet}
-use Rattle.journal.specs.Format.{StandsFor}
-use Rattle.journal.specs.Format.StandsFor.{Short}
+use Rattle.journal.specs.Format.{StandsFor, Short}
 use Rattle.journal.specs.Journal.{Failure, LeavesOneOf, StandsForOneOf, outcomes, with_refused}
 use Rattle.journal.specs.Laws.{IsOneOf}
 use Rattle.journal.specs.Opening.{KeepsStanding}

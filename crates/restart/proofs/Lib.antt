@@ -1,5 +1,5 @@
 mod Splits
-mod There
+pub mod There
 pub mod Folding
 pub mod StrangeNumbers
 pub mod Staying
