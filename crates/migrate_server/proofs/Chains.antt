@@ -1,29 +1,60 @@
 -- Runs one after another: what a crash may leave of the journal's disk behind a run is what the
 -- next run may find.
-use Rattle.std.proofs.Common.{◌≡◌, ℕ, true, List, [], ◌∷◌, Option, Some, None, inl, inr, refl, sym, ap, subst, ◌∙◌}
+use Rattle.std.proofs.Common.{◌≡◌, ℕ, ◌≤◌, true, List, [], ◌∷◌, length, Option, Some, None, inl, inr, refl, sym, ap, subst, ◌∙◌, arith}
 use Rattle.std.specs.Prelude.{IfSome, IsSome, IsTrue}
 use Rattle.std.specs.List.{AllByRecursion}
 use Rattle.std.proofs.lemmas.Bool.{false≢true}
-use Rattle.edge_traits.specs.Disk.{DiskContents, DiskState, WhereTold}
+use Rattle.std.proofs.lemmas.Option.{same_Some}
+use Rattle.edge_traits.specs.Disk.{DiskContents, DiskState, IsImage, WhereTold, settled}
 use Rattle.fleet.specs.Fleet.{FleetState}
 use Rattle.fleet.specs.Sound.{IsFleet}
-use Rattle.journal.specs.Journal.{LeavesOneOf, outcomes}
+use Rattle.journal.specs.Journal.{LeavesOneOf, StandsForOneOf, outcomes}
+use Rattle.journal.specs.Format.{Short}
 use Rattle.journal.specs.Laws.{IsOneOf}
 use Rattle.journal.specs.Opening.{KeepsStanding}
 use Rattle.journal.specs.declared.refusal.JournalRefused.TheVariants.{DiskFault, NotAJournal, BadRecord, Full, NoMemory as Wanting}
 use Rattle.journal.proofs.Crashes.{crashes_keep, never_strange, reads_keep_them, reads_one_of, refuses_keep}
 use Rattle.record_codec.specs.declared.record.Record.{Record}
+use Rattle.ctl_state.specs.Value.{no_records}
 use Rattle.restart.specs.Agrees.{Agree}
+use Rattle.restart.proofs.Folding.{none_stand}
+use Rattle.migrate_server.proofs.Growing.{none_numbered}
 use Rattle.restart.specs.Laws.{TakenAgree, TakenAreNotStrange}
 use Rattle.restart.specs.Reopening.{SaysWhy, IsFoundStrange}
 use Rattle.restart.specs.declared.refusal.ReopenRefused.{ReopenRefused}
 use Rattle.restart.specs.declared.refusal.ReopenRefused.TheVariants.{Journal, Strange, NoMemory}
-use Rattle.migrate_server.specs.Runs.{HoldsTogether, IsUnopened, Runs, RunsHoldTogether, CrashesHoldTogether, NoneIsStrange, FleetAgrees, status_unopened}
+use Rattle.migrate_server.specs.Runs.{HoldsTogether, IsUnopened, Runs, StartsHoldTogether, RunsHoldTogether, CrashesHoldTogether, NoneIsStrange, FleetAgrees, status_unopened}
 use Rattle.migrate_server.specs.Serve.{WouldBeTaken}
 use Rattle.migrate_server.specs.World.{World, with_journal}
 use Rattle.migrate_server.specs.declared.status.Status.{Status}
 use Rattle.migrate_server.specs.declared.status.Status.TheVariants.{StrangeJournal}
 use Rattle.migrate_server.proofs.Serving.{serves_sound}
+
+-- ---- a disk without a byte
+
+blank_leaves : (o : Option DiskContents) → o ≡ Some (settled [])
+    → IfSome o (λ c. (image : List ℕ) → IsImage c image → StandsForOneOf ([] ∷ []) image)
+blank_leaves None is = tt
+blank_leaves (Some c) is = λ image its.
+    let short : length image ≤ 0 = subst (λ (x : DiskContents). length image ≤ x.greatest)
+    (same_Some c (settled []) is) its.short in
+    inl (Short (omega (arith, short)) refl)
+
+none_taken : (fleet : FleetState) → WouldBeTaken fleet []
+none_taken fleet = (
+  no_records,
+  record {
+    stand = none_stand fleet;
+    snapshots = λ mig m there. absurd (none_numbered mig m there);
+  },
+)
+
+pub starts_hold_together : StartsHoldTogether
+starts_hold_together world is = record {
+  lists = [] ∷ [];
+  leaves = blank_leaves world.disk.contents is;
+  taken = (none_taken world.fleet, tt);
+}
 
 -- ---- what is left of a disk whose controller wasn't opened
 

@@ -2,9 +2,9 @@
 -- lines over it; or the controller isn't opened, and no line is served. What stands on that disk at
 -- the end of a run is what the next one needs of it, so that a chain of runs, with a crash behind
 -- any of them, is one induction.
-use Rattle.std.specs.Prelude.{◌≡◌, ◌⊎◌, ℕ, List, None, IsSome}
+use Rattle.std.specs.Prelude.{◌≡◌, ◌⊎◌, ℕ, List, [], Some, None, IsSome}
 use Rattle.std.specs.List.{AllByRecursion}
-use Rattle.edge_traits.specs.Disk.{IsCrashOf}
+use Rattle.edge_traits.specs.Disk.{IsCrashOf, settled}
 use Rattle.journal.specs.Journal.{JournalState, LeavesOneOf, outcomes}
 use Rattle.journal.specs.declared.refusal.JournalRefused.{JournalRefused}
 use Rattle.journal.specs.declared.refusal.JournalRefused.TheVariants.{DiskFault, NotAJournal, BadRecord, Full, NoMemory as Wanting}
@@ -75,6 +75,11 @@ pub record HoldsTogether (world : World) : Type 0 where
   pub lists : List (List Record)
   pub leaves : LeavesOneOf lists world.disk
   pub taken : AllByRecursion (WouldBeTaken world.fleet) lists
+
+-- a disk without a byte does so, whatever the fleet is
+abbrev pub StartsHoldTogether : Type 0
+StartsHoldTogether = (world : World) → world.disk.contents ≡ Some (settled [])
+    → HoldsTogether world
 
 -- a run leaves a world that holds together so
 abbrev pub RunsHoldTogether : Type 0

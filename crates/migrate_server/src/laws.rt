@@ -1,7 +1,7 @@
 //! Laws of the definitions. Each function's contract is the law, and its body does nothing, or calls
 //! laws below.
 ghost use Rattle.migrate_server.specs.Laws.{SameLinesSameReplies, SameInputSameOutput, StoresAnswerMovesAlone};
-ghost use Rattle.migrate_server.specs.Runs.{RunsHoldTogether, CrashesHoldTogether, NoneIsStrange, FleetAgrees};
+ghost use Rattle.migrate_server.specs.Runs.{StartsHoldTogether, RunsHoldTogether, CrashesHoldTogether, NoneIsStrange, FleetAgrees};
 
 use restart::{agreeing_records_are_taken, strange_at_one_record};
 
@@ -22,9 +22,10 @@ pub fn stores_answer_moves_alone()
 
 /// Where each list of records that a crash may leave on the journal's disk would be taken over the
 /// fleet, this is so behind a run, and behind a crash of it; the fleet agrees with each of these
-/// lists; and no run over it finds the journal strange. So a chain of runs, each over what the one
-/// before left or a crash of that, never ends by a strange journal.
+/// lists; and no run over it finds the journal strange. A disk without a byte begins so. So a chain
+/// of runs, each over what the one before left or a crash of that, never ends by a strange journal.
 pub fn runs_hold_together()
+    ensures starts { StartsHoldTogether }
     ensures runs { RunsHoldTogether }
     ensures crashes { CrashesHoldTogether }
     ensures none { NoneIsStrange }

@@ -1,9 +1,13 @@
 //! The commands on plans, and the journal that they keep, over `migrate`.
+ghost use Rattle.std.specs.Prelude.{IfOk};
+ghost use Rattle.fleet.specs.Sound.{AllAreIn};
+
 use super::machines::{Exchange, HOST, SMALL, lines_of, replies_of};
-use super::{DISK_ROOM, SOUND, held, served, served_on};
-use crate::{Fleet, Status};
-use edge_traits::{Disk, MemDisk, Pick};
+use super::{DISK_ROOM, Open, SOUND, held, served, served_on};
+use crate::{Devices, Fleet, Outcome, Status, migrate};
+use edge_traits::{Disk, MemDisk, MemSink, MemSource, Pick, StopDisk};
 use std::test::Fail;
+use target_volume::MemVolumes;
 
 const OK: &str = r#"{"ok":true}"#;
 
@@ -88,24 +92,68 @@ fn a_line_whose_record_is_not_kept_has_no_reply(rt: HostRuntime) -> Result<(), F
 }
 
 #[test]
-fn a_file_that_is_no_journal_is_left(rt: HostRuntime) -> Result<(), Fail> {
+fn a_short_file_becomes_a_journal_and_any_other_is_left(rt: HostRuntime) -> Result<(), Fail> {
     let alloc = rt.alloc();
-    let disk = MemDisk::new(alloc, b"0123456789", DISK_ROOM, &[])?;
-    let run = served_on(&rt, &SOUND, &[], b"x\n", disk, Fleet::empty(alloc))?;
-    assert_eq!(rt; run.status, Status::StrangeJournal(0));
-    assert_eq!(rt; held(&run), b"".as_slice());
-    let mut disk = run.disk;
-    assert_eq!(rt; disk.length(), Ok(10));
+    let cases = [
+        (b"012345678".as_slice(), Status::Ok),
+        (b"0123456789".as_slice(), Status::StrangeJournal(0)),
+    ];
+    for (bytes, status) in cases {
+        let disk = MemDisk::new(alloc, bytes, DISK_ROOM, &[])?;
+        let run = served_on(&rt, &SOUND, &[], b"", disk, Fleet::empty(alloc))?;
+        assert_eq!(rt; run.status, status);
+        let mut disk = run.disk;
+        assert_eq!(rt; disk.length(), Ok(bytes.len() as u64));
+    }
     Ok(())
 }
 
-#[test]
-fn a_file_of_few_bytes_becomes_a_journal(rt: HostRuntime) -> Result<(), Fail> {
+/// How many lines were answered over a new disk that stops at the k-th of its calls that write, and
+/// what was left then.
+fn stopped_at(rt: &HostRuntime, k: u64, lines: &[u8]) -> Result<(usize, MemDisk, Fleet), Fail>
+    ensures { IfOk result (λ left. AllAreIn left.2) }
+{
     let alloc = rt.alloc();
-    let disk = MemDisk::new(alloc, b"012345678", DISK_ROOM, &[])?;
-    let run = served_on(&rt, &SOUND, &[], b"x\n", disk, Fleet::empty(alloc))?;
-    assert_eq!(rt; run.status, Status::Ok);
-    let mut disk = run.disk;
-    assert_eq!(rt; disk.length(), Ok(9));
+    let mut source = MemSource::new(alloc, lines, 1 << 16, &[])?;
+    let mut sink = MemSink::new(alloc, 1 << 12, &[])?;
+    let devices = Devices {
+        disk: StopDisk::new(MemDisk::new(alloc, &[], DISK_ROOM, &[])?, k),
+        volumes: MemVolumes::new(alloc, 90, &[])?,
+    };
+    let fleet = Fleet::empty(alloc);
+    let outcome = migrate(
+        rt,
+        alloc,
+        &[],
+        &mut source,
+        &mut sink,
+        devices,
+        fleet,
+        &Open,
+    );
+    let answered = sink.held().iter().filter(|byte| **byte == b'\n').count();
+    let Outcome { disk, fleet, .. } = outcome;
+    Ok((answered, disk.into_inner(), fleet))
+}
+
+/// The lines that make a plan and start it have four calls that write for each of three records,
+/// behind four of the opening.
+#[test]
+fn a_second_call_goes_on_wherever_the_first_was_stopped(rt: HostRuntime) -> Result<(), Fail> {
+    let alloc = rt.alloc();
+    let mut exchanges = PLANNED.to_vec(alloc)?;
+    exchanges.extend_from_slice(&STARTED)?;
+    let lines = lines_of(alloc, &exchanges)?;
+    let last = replies_of(alloc, &STARTED[2..])?;
+    for k in 1..=17 {
+        for pick in [Pick::Old, Pick::New, Pick::Mixed(k)] {
+            let (answered, disk, fleet) = stopped_at(&rt, k, lines.as_bytes())?;
+            let rest = lines_of(alloc, exchanges.get(answered.min(7)..).unwrap_or(&[]))?;
+            let image = disk.image(pick)?;
+            let run = served_on(&rt, &SOUND, &[], rest.as_bytes(), image, fleet)?;
+            assert_eq!(rt; run.status, Status::Ok);
+            assert!(rt; held(&run).ends_with(last.as_bytes()));
+        }
+    }
     Ok(())
 }

@@ -1,5 +1,8 @@
-use Rattle.migrate_server.proofs.Chains.{runs_hold_together, crashes_hold_together, none_is_strange, fleet_agrees}
+use Rattle.migrate_server.proofs.Chains.{starts_hold_together, runs_hold_together, crashes_hold_together, none_is_strange, fleet_agrees}
 use Rattle.migrate_server.proofs.laws.runs_hold_together.Goals as goal
+
+pub returns-clause-starts : goal.returns-clause-starts
+returns-clause-starts c = starts_hold_together
 
 pub returns-clause-runs : goal.returns-clause-runs
 returns-clause-runs c = runs_hold_together
