@@ -41,7 +41,6 @@ use Rattle.restart.specs.Machines.{facts_at, has_tracking, is_tracked, is_tracke
 use Rattle.restart.specs.Standing.{Accepts, AreTaken, HaveSnapshots, StandOver}
 use Rattle.restart.proofs.Folding.{stand_more}
 use Rattle.restart.proofs.StrangeNumbers.{next_may}
-use Rattle.restart.proofs.TakenOnes.{some_told}
 
 -- ---- one record
 

@@ -59,7 +59,8 @@ use Rattle.restart.specs.Machines.{facts_at, has_tracking, is_tracked, is_tracke
 use Rattle.restart.specs.Standing.{AreBorneOut, AreTaken, StandOver}
 use Rattle.restart.proofs.Staying.{step_same}
 use Rattle.restart.proofs.StrangeNumbers.{next_may}
-use Rattle.restart.proofs.TakenOnes.{before_is, told_some}
+use Rattle.restart.proofs.TakenOnes.{before_is}
+use Rattle.restart.proofs.There.{told_some}
 use Rattle.fleet.proofs.Logs.{at_place, is_within}
 use Rattle.fleet.proofs.StaysSound.{IsVm-at}
 use Rattle.fleet_commands.proofs.Lifting.{is_in}
@@ -378,7 +379,7 @@ one_front fleet is front w r old may = (
       (old.1 (front_borne fleet front (r ∷ []) borne)) (borne front [] r w refl old.0) (came w r mig n may there),
 )
 
-none_numbered : {X : Type 0} (n : ℕ) (x : X) → numbered [] n ≡ Some x → ⊥
+pub none_numbered : {X : Type 0} (n : ℕ) (x : X) → numbered [] n ≡ Some x → ⊥
 none_numbered {X} n x = test (n == 0)
   where
     test : (b : Bool) → cond b None (slice_get [] (n - 1)) ≡ Some x → ⊥
