@@ -86,7 +86,7 @@ all_go_on : (lists : List (List Record)) (found records : List Record) (failure 
     → AllByRecursion (GoesOnFrom lists) (records ∷ with_refused records failure)
 all_go_on lists found records None its is = ((found, its, is), tt)
 all_go_on lists found records (Some failure) its is =
-    ((found, its, is), (found, its, longer found records failure.refused is), tt)
+    ((found, its, is), ((found, its, longer found records failure.refused is), tt))
 
 pub runs_find_one : RunsFindOne
 runs_find_one lists old new status h tells s = told old.disk.contents
