@@ -1,7 +1,7 @@
 -- A run of the server without words: it opens the controller over the journal's disk, and serves
--- lines over it; or the controller isn't opened, and no line is served. What stands on the journal's
--- disk at the end of a run is what the next one needs of it, so that a chain of runs, with a crash
--- behind any of them, is one induction.
+-- lines over it; or the controller isn't opened, and no line is served. What stands on that disk at
+-- the end of a run is what the next one needs of it, so that a chain of runs, with a crash behind
+-- any of them, is one induction.
 use Rattle.std.specs.Prelude.{◌≡◌, ◌⊎◌, ℕ, ◌≤◌, List, [], ◌∷◌, length, take, None, IsSome, IfSome}
 use Rattle.std.specs.List.{AllByRecursion}
 use Rattle.edge_traits.specs.Disk.{IsCrashOf, settled}

@@ -133,7 +133,8 @@ fn a_cutover_is_kept(rt: HostRuntime) -> Result<(), Fail> {
 
 /// The line of a migration that was just started.
 const READY: &str = concat!(
-    "{\"migrations\":[{\"cause\":null,\"checkpoints\":[],\"dv\":\"Pending\",\"marks\":[],\"mig\":1,",
+    "{\"migrations\":[{\"cause\":null,\"checkpoints\":[],\"dv\":\"Pending\",\"marks\":[],",
+    "\"mig\":1,",
     "\"phase\":\"Started\",\"place\":null,\"plan\":\"p\",\"state\":\"ready\",\"vm\":\"a\",",
     "\"writes\":null,\"written\":[]}],\"ok\":true}\n"
 );

@@ -1,5 +1,5 @@
-//! The commands that add records to the journal: each is carried out by `plan_commands`, and what it
-//! answers and leaves is said by the definitions of a session.
+//! The commands that add records to the journal: each is carried out by `plan_commands`, and what
+//! it answers and leaves is said by the definitions of a session.
 ghost use Rattle.std.specs.Prelude.{◌≡◌, IfOk, IfErr, IfSome, OnOk, None};
 ghost use Rattle.basics.specs.Spelled.{IsName};
 ghost use Rattle.basics.specs.declared.limits.TheConstants.{MAX_INTERVAL};
