@@ -15,6 +15,7 @@ cc -O2 -Wall -o least "$here/cutover.c" || exit 1
     echo '{"cmd":"host","name":"h"}'
     echo '{"cmd":"vm","name":"v","host":"h","disks":[128]}'
     echo '{"cmd":"enable","vm":"v"}'
+    echo '{"cmd":"snapshot","vm":"v"}'
     echo '{"cmd":"plan","name":"p","vms":["v"],"interval":60}'
     echo '{"cmd":"start","plan":"p"}'
     awk -v count="$cutovers" 'BEGIN { while (count-- > 0) print "{\"cmd\":\"cutover\",\"plan\":\"p\"}" }'
@@ -52,6 +53,7 @@ is_whole() {
 }
 
 for _ in 1 2 3; do
+    rm -f least.journal
     timed least ./least least.journal "$cutovers" || exit 1
     served || {
         echo "bench: the program ends by status $?" >&2

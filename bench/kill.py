@@ -10,6 +10,7 @@ import os
 import pathlib
 import random
 import shutil
+import signal
 import subprocess
 import sys
 import tempfile
@@ -37,6 +38,8 @@ def machine_lines(number, disks):
     sizes = ",".join(["128"] * disks)
     yield Line(f'{{"cmd":"vm","name":"m{number}","host":"h","disks":[{sizes}]}}', [])
     yield Line(f'{{"cmd":"enable","vm":"m{number}"}}', [])
+    yield Line(f'{{"cmd":"snapshot","vm":"m{number}"}}', [])
+    yield Line(f'{{"cmd":"remove","vm":"m{number}","snapshot":1}}', [])
 
 
 def cutover_line(dice, plan):
@@ -124,22 +127,24 @@ class Folder:
         self.path = pathlib.Path(tempfile.mkdtemp(prefix="kill.", dir="."))
         (self.path / "lines").write_text("".join(line.text + "\n" for line in lines))
 
-    def start(self, source):
-        with open(source, "rb") as lines, open(self.path / "replies", "wb") as replies:
-            return subprocess.Popen([self.program], stdin=lines, stdout=replies, cwd=self.path)
+    def start(self, source, replies):
+        with open(source, "rb") as lines, open(self.path / replies, "wb") as output:
+            return subprocess.Popen([self.program], stdin=lines, stdout=output, cwd=self.path)
 
     def run(self, seconds=None):
-        """Gives the lines to the program, and kills it after so many seconds. The replies."""
-        process = self.start(self.path / "lines")
+        """Gives the lines to the program, and kills it after so many seconds. Its status, which is
+        the negative number of the signal that ended it, and the replies."""
+        process = self.start(self.path / "lines", "replies")
         if seconds is not None:
             time.sleep(seconds)
             process.kill()
-        process.wait()
-        return (self.path / "replies").read_bytes().split(b"\n")[:-1]
+        status = process.wait()
+        return status, (self.path / "replies").read_bytes().split(b"\n")[:-1]
 
     def run_on_nothing(self):
-        """The status of the program that is given no line."""
-        return self.start(os.devnull).wait()
+        """The status of the program that is given no line, and how many bytes it writes."""
+        status = self.start(os.devnull, "second").wait()
+        return status, (self.path / "second").stat().st_size
 
     def journal(self):
         """The bytes of the journal. A file that isn't there yet has none."""
@@ -162,13 +167,13 @@ def whole_run(program, lines):
     """The seconds of a run that isn't killed. It ends the script where that run differs."""
     folder = Folder(program, lines)
     begin = time.perf_counter()
-    replies = folder.run()
+    status, replies = folder.run()
     seconds = time.perf_counter() - begin
     data, kept = folder.journal(), (folder.path / JOURNAL).exists()
     folder.remove()
     why = refused(lines, replies)
-    if why is None and len(replies) < len(lines):
-        why = f"{len(replies)} replies to {len(lines)} lines"
+    if why is None and (status != 0 or len(replies) != len(lines)):
+        why = f"status {status}, and {len(replies)} replies to {len(lines)} lines"
     if why is None and not kept:
         why = f"there is no {JOURNAL}: the program keeps no journal"
     if why is None:
@@ -181,11 +186,16 @@ def whole_run(program, lines):
 def kill_once(program, lines, seconds):
     """The number of replies, whether the journal has a torn end, and what differs or None."""
     folder = Folder(program, lines)
-    replies = folder.run(seconds)
+    status, replies = folder.run(seconds)
     data = folder.journal()
     why = refused(lines, replies) or differs_after_kill(lines, len(replies), data)
+    if why is None and status != -signal.SIGKILL and (status != 0 or len(replies) != len(lines)):
+        why = f"it ended by itself, by status {status} after {len(replies)} replies"
     if why is None:
-        why = differs_after_start(data, folder.run_on_nothing(), folder.journal())
+        status, written = folder.run_on_nothing()
+        why = differs_after_start(data, status, folder.journal())
+        if why is None and written > 0:
+            why = f"the next start writes {written} bytes"
     if why is None:
         folder.remove()
         return len(replies), is_torn(data), None

@@ -4,7 +4,7 @@ use Rattle.std.proofs.Common.{◌≡◌, ℕ, ◌≤◌, true, List, [], ◌∷�
 use Rattle.std.specs.Prelude.{IfSome, IsSome, IsTrue}
 use Rattle.std.specs.List.{AllByRecursion}
 use Rattle.std.proofs.lemmas.Bool.{false≢true}
-use Rattle.std.proofs.lemmas.List.{take_all, take-append-le, length-take}
+use Rattle.std.proofs.lemmas.List.{take-append-le, length-take}
 use Rattle.edge_traits.specs.Disk.{DiskContents, DiskState, IsImage, WhereTold, settled}
 use Rattle.edge_traits.proofs.Images.{settled_image}
 use Rattle.fleet.specs.Fleet.{FleetState}
@@ -25,7 +25,7 @@ use Rattle.restart.specs.Standing.{AreTaken}
 use Rattle.restart.proofs.There.{none_numbered}
 use Rattle.restart.specs.declared.refusal.ReopenRefused.{ReopenRefused}
 use Rattle.restart.specs.declared.refusal.ReopenRefused.TheVariants.{Journal, Strange, NoMemory}
-use Rattle.migrate_server.specs.Runs.{HoldsTogether, GoesOnFrom, LeavesTogether, IsUnopened, Runs, FreshHoldsTogether, RunsHoldTogether, RunsFindOne, CrashesHoldTogether, NoneIsStrange, FleetAgrees, status_unopened}
+use Rattle.migrate_server.specs.Runs.{HoldsTogether, GoesOnFrom, ServesTogether, IsUnopened, Runs, FreshHoldsTogether, UnopenedHoldTogether, ServedHoldTogether, RunsFindOne, CrashesHoldTogether, NoneIsStrange, FleetAgrees, status_unopened}
 use Rattle.migrate_server.specs.Serve.{WouldBeTaken}
 use Rattle.migrate_server.specs.World.{World, with_journal}
 use Rattle.migrate_server.specs.declared.status.Status.{Status}
@@ -62,18 +62,6 @@ told (Some x) P Q is h then = then x h
 
 -- ---- what was found goes on
 
-one_first : (first : List Record) (lists : List (List Record)) → IsOneOf first (first ∷ lists)
-one_first first lists = inl refl
-
-all_one : (lists wider : List (List Record))
-    → ((records : List Record) → IsOneOf records lists → IsOneOf records wider)
-    → AllByRecursion (GoesOnFrom wider) lists
-all_one [] wider in_wider = tt
-all_one (first ∷ lists) wider in_wider = (
-  (first, in_wider first (inl refl), take_all (length first) first (omega arith)),
-  all_one lists wider (λ records its. in_wider records (inr its)),
-)
-
 longer : (found records : List Record) (r : Record) → take (length found) records ≡ found
     → take (length found) (records ++ r ∷ []) ≡ found
 longer found records r is =
@@ -94,25 +82,21 @@ runs_find_one lists old new status h tells s = told old.disk.contents
     (opens_one_of lists old.disk s.opened.disk s.opened.records h.leaves s.reopens.opened)
     (λ c its. its)
 
-pub runs_hold_together : RunsHoldTogether
-runs_hold_together lists old new status h tells (inl u) = record {
-  later = lists;
-  together = record {
-    leaves = images_keep lists old.fleet u.refused old.disk new.disk h.leaves u.left.images
-        u.cause;
-    taken = subst (λ (fleet : FleetState). AllTaken fleet lists)
-        (sym (ap (λ (w : World). w.fleet) u.kept)) h.taken;
-  };
-  go_on = all_one lists lists (λ records its. its);
+pub unopened_hold_together : UnopenedHoldTogether
+unopened_hold_together lists old new status h u = record {
+  leaves = images_keep lists old.fleet u.refused old.disk new.disk h.leaves u.left.images u.cause;
+  taken = subst (λ (fleet : FleetState). AllTaken fleet lists)
+      (sym (ap (λ (w : World). w.fleet) u.kept)) h.taken;
 }
-runs_hold_together lists old new status h tells (inr s) = record {
-  later = outcomes s.closes.closed;
+
+pub served_hold_together : ServedHoldTogether
+served_hold_together lists old new status h s = record {
   together = record {
     leaves = s.closes.leaves;
     taken = s.closes.taken;
   };
-  go_on = all_go_on lists s.opened.records s.closes.closed.records s.closes.closed.failure
-      (runs_find_one lists old new status h tells s) s.closes.serves.kept;
+  go_on = λ tells. all_go_on lists s.opened.records s.closes.closed.records
+      s.closes.closed.failure (runs_find_one lists old new status h tells s) s.closes.serves.kept;
 }
 
 pub crashes_hold_together : CrashesHoldTogether

@@ -92,17 +92,23 @@ abbrev pub GoesOnFrom : List (List Record) → List Record → Type 0
 GoesOnFrom lists records = (found : List Record)
     × IsOneOf found lists × (take (length found) records ≡ found)
 
--- a run leaves a world that holds together so, with the lists that it found or with such as begin
--- with one of them
-pub record LeavesTogether (lists : List (List Record)) (new : World) : Type 0 where
-  pub later : List (List Record)
-  pub together : HoldsTogether later new
-  pub go_on : AllByRecursion (GoesOnFrom lists) later
+-- a run whose controller isn't opened leaves a world that holds together with the same lists
+abbrev pub UnopenedHoldTogether : Type 0
+UnopenedHoldTogether = (lists : List (List Record)) (old new : World) (status : Status)
+    → HoldsTogether lists old → IsUnopened old new status → HoldsTogether lists new
 
-abbrev pub RunsHoldTogether : Type 0
-RunsHoldTogether = (lists : List (List Record)) (old new : World) (status : Status)
-    → HoldsTogether lists old → IsSome old.disk.contents → Runs old new status
-    → LeavesTogether lists new
+-- and one that serves lines, with what stands of its journal, which goes on from one of them where
+-- the disk tells what it holds
+pub record ServesTogether (lists : List (List Record)) (old new : World) (status : Status)
+    (s : IsServed old new status) : Type 0 where
+  pub together : HoldsTogether (outcomes s.closes.closed) new
+  pub go_on : IsSome old.disk.contents
+      → AllByRecursion (GoesOnFrom lists) (outcomes s.closes.closed)
+
+abbrev pub ServedHoldTogether : Type 0
+ServedHoldTogether = (lists : List (List Record)) (old new : World) (status : Status)
+    → HoldsTogether lists old → (s : IsServed old new status)
+    → ServesTogether lists old new status s
 
 -- and so does a crash behind it, with the same lists, whatever becomes of all but the fleet
 abbrev pub CrashesHoldTogether : Type 0

@@ -1,7 +1,7 @@
 //! Laws of the definitions. Each function's contract is the law, and its body does nothing, or
 //! calls laws below.
 ghost use Rattle.migrate_server.specs.Laws.{SameLinesSameReplies, SameInputSameOutput, StoresAnswerMovesAlone};
-ghost use Rattle.migrate_server.specs.Runs.{FreshHoldsTogether, RunsHoldTogether, RunsFindOne, CrashesHoldTogether, NoneIsStrange, FleetAgrees};
+ghost use Rattle.migrate_server.specs.Runs.{FreshHoldsTogether, UnopenedHoldTogether, ServedHoldTogether, RunsFindOne, CrashesHoldTogether, NoneIsStrange, FleetAgrees};
 
 use restart::{agreeing_records_are_taken, strange_at_one_record};
 
@@ -21,14 +21,16 @@ pub fn stores_answer_moves_alone()
 {}
 
 /// Where each list of records that a crash may leave on the journal's disk would be taken over the
-/// fleet, this is so behind a run, and behind a crash of it; what a run finds is one of these
-/// lists, and what it leaves goes on from one; the fleet agrees with each of them; and, where the
-/// disk tells what it holds, no run over it finds the journal strange. A fresh disk begins so.
-/// Hence a chain of runs, each over what the one before left or a crash of that, loses no record
-/// and never ends by a strange journal.
+/// fleet, this is so behind a run, and behind a crash of it: with the same lists where no line was
+/// served, else with the journal's records and, after a fault, those and the one more. Where the
+/// disk tells what it holds, what a run finds is one of the lists, what it leaves goes on from it,
+/// and no run finds the journal strange. The fleet agrees with each list. A fresh disk begins so.
+/// Hence a chain of runs over disks that tell, each over what the one before left or a crash of
+/// that with the fleet as it was left, loses no record and never ends by a strange journal.
 pub fn runs_hold_together()
     ensures fresh { FreshHoldsTogether }
-    ensures runs { RunsHoldTogether }
+    ensures unopened { UnopenedHoldTogether }
+    ensures served { ServedHoldTogether }
     ensures find { RunsFindOne }
     ensures crashes { CrashesHoldTogether }
     ensures none { NoneIsStrange }

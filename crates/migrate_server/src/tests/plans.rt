@@ -85,6 +85,16 @@ fn a_line_whose_record_is_not_kept_has_no_reply(rt: HostRuntime) -> Result<(), F
     Ok(())
 }
 
+/// All bytes of a disk, of which there are so many.
+fn bytes_of<const N: usize>(mut disk: MemDisk) -> Result<[u8; N], Fail> {
+    let mut bytes = [0; N];
+    if disk.length()? != N as u64 {
+        return Err("another length")?;
+    }
+    disk.read(0, &mut bytes)?;
+    Ok(bytes)
+}
+
 #[test]
 fn a_file_that_is_no_journal_is_left(rt: HostRuntime) -> Result<(), Fail> {
     let alloc = rt.alloc();
@@ -92,8 +102,7 @@ fn a_file_that_is_no_journal_is_left(rt: HostRuntime) -> Result<(), Fail> {
     let run = served_on(&rt, &SOUND, &[], b"x\n", disk, Fleet::empty(alloc))?;
     assert_eq!(rt; run.status, Status::StrangeJournal(0));
     assert_eq!(rt; held(&run), b"".as_slice());
-    let mut disk = run.disk;
-    assert_eq!(rt; disk.length(), Ok(10));
+    assert_eq!(rt; bytes_of(run.disk)?, *b"0123456789");
     Ok(())
 }
 
@@ -103,13 +112,25 @@ fn a_file_of_few_bytes_becomes_a_journal(rt: HostRuntime) -> Result<(), Fail> {
     let disk = MemDisk::new(alloc, b"012345678", DISK_ROOM, &[])?;
     let run = served_on(&rt, &SOUND, &[], b"x\n", disk, Fleet::empty(alloc))?;
     assert_eq!(rt; run.status, Status::Ok);
-    let mut disk = run.disk;
-    assert_eq!(rt; disk.length(), Ok(9));
+    assert_eq!(rt; bytes_of(run.disk)?, *b"WARMJNL1\0");
     Ok(())
 }
 
-/// A plan that is made and started, and a look at it.
-const ORDERED: [Exchange; 7] = [HOST, SMALL, ENABLE, SNAPSHOT, (PLAN, OK), START, STATUS];
+/// A plan of a machine that goes on being written is made and started, and looked at.
+const ORDERED: [Exchange; 9] = [
+    HOST,
+    SMALL,
+    ENABLE,
+    SNAPSHOT,
+    (r#"{"cmd":"remove","vm":"a","snapshot":1}"#, OK),
+    (PLAN, OK),
+    (
+        r#"{"cmd":"write","vm":"a","disk":0,"first":5,"count":1,"fill":1}"#,
+        OK,
+    ),
+    START,
+    STATUS,
+];
 
 /// A run over a disk that stops at this call, and what a second one writes over what a crash leaves
 /// of it, with the lines that weren't answered.
@@ -118,6 +139,9 @@ fn goes_on(rt: &HostRuntime, call: u64, pick: Pick) -> Result<EndedRun<MemDisk>,
     let disk = StopDisk::new(MemDisk::new(alloc, &[], DISK_ROOM, &[])?, call);
     let lines = lines_of(alloc, &ORDERED)?;
     let first = served_on(rt, &SOUND, &[], lines.as_bytes(), disk, Fleet::empty(alloc))?;
+    let whole = held(&first) == replies_of(alloc, &ORDERED)?.as_bytes();
+    assert!(rt; whole == (first.status == Status::Ok));
+    assert!(rt; whole || first.status == Status::JournalFault);
     let answered = held(&first).iter().filter(|byte| **byte == b'\n').count();
     let rest = lines_of(alloc, ORDERED.get(answered..).unwrap_or(&[]))?;
     let image = first.disk.into_inner().image(pick)?;

@@ -1,8 +1,11 @@
-use Rattle.migrate_server.proofs.Chains.{fresh_holds_together, runs_hold_together, runs_find_one, crashes_hold_together, none_is_strange, fleet_agrees}
+use Rattle.migrate_server.proofs.Chains.{fresh_holds_together, unopened_hold_together, served_hold_together, runs_find_one, crashes_hold_together, none_is_strange, fleet_agrees}
 use Rattle.migrate_server.proofs.laws.runs_hold_together.Goals as goal
 
-pub returns-clause-runs : goal.returns-clause-runs
-returns-clause-runs c = runs_hold_together
+pub returns-clause-unopened : goal.returns-clause-unopened
+returns-clause-unopened c = unopened_hold_together
+
+pub returns-clause-served : goal.returns-clause-served
+returns-clause-served c = served_hold_together
 
 pub returns-clause-crashes : goal.returns-clause-crashes
 returns-clause-crashes c = crashes_hold_together
