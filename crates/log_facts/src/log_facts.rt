@@ -54,8 +54,8 @@ impl Model for LogFacts {
 }
 
 impl LogFacts {
-    /// Reads the log of a machine, once for the machine and once for each of its disks. It answers
-    /// only want of memory.
+    /// Reads the log of a machine, in three passes and one for each of its disks. It answers only
+    /// want of memory.
     pub fn of(alloc: Global, machine: &Machine) -> Result<LogFacts, NoMemory>
         ensures { IfOk result (λ facts. facts ≡ facts_of machine.now) }
     {

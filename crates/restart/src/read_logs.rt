@@ -1,5 +1,5 @@
-//! The logs of the machines that records speak of. Each is read when a record first asks for it,
-//! and never again.
+//! The logs of the machines that records speak of. Each is read at the first record of a migration
+//! of its machine, and never again.
 ghost use Rattle.std.specs.Prelude.{◌≡◌, ◌↔◌, IfOk, OnOk, IsSome, IsTrue};
 ghost use Rattle.std.specs.BTreeMap.{IsEmpty, get};
 ghost use Rattle.std.specs.Ordering.{nat_cmp};
