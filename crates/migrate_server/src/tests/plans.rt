@@ -140,8 +140,11 @@ fn goes_on(rt: &HostRuntime, call: u64, pick: Pick) -> Result<EndedRun<MemDisk>,
     let lines = lines_of(alloc, &ORDERED)?;
     let first = served_on(rt, &SOUND, &[], lines.as_bytes(), disk, Fleet::empty(alloc))?;
     let whole = held(&first) == replies_of(alloc, &ORDERED)?.as_bytes();
-    assert!(rt; whole == (first.status == Status::Ok));
-    assert!(rt; whole || first.status == Status::JournalFault);
+    match first.status {
+        Status::Ok if whole => {}
+        Status::JournalFault if !whole => {}
+        _ => return Err("the first run ended otherwise")?,
+    }
     let answered = held(&first).iter().filter(|byte| **byte == b'\n').count();
     let rest = lines_of(alloc, ORDERED.get(answered..).unwrap_or(&[]))?;
     let image = first.disk.into_inner().image(pick)?;
