@@ -5,6 +5,7 @@ each sector that is written, from the process's peak.
 Usage: bench/machines.py [LINES]. It needs Linux and the built program (./warm_migrate </dev/null).
 The least of five runs counts. The program is pinned to core 0, and started in a folder of its own, without a journal.
 Its lines come from a file and its replies go to one; its peak is that which the system tells when it has ended."""
+import itertools
 import os
 import pathlib
 import subprocess
@@ -42,7 +43,10 @@ def run(lines):
         tempfile.TemporaryFile() as stdout,
         tempfile.TemporaryDirectory() as folder,
     ):
-        stdin.write("".join(lines).encode())
+        count = 0
+        for line in lines:
+            stdin.write(line.encode())
+            count += 1
         stdin.seek(0)
         begin = time.perf_counter()
         process = subprocess.Popen([PROGRAM], stdin=stdin, stdout=stdout, cwd=folder, preexec_fn=pinned)
@@ -51,8 +55,8 @@ def run(lines):
         stdout.seek(0)
         replies = stdout.read().splitlines()
     refused = sum(reply.startswith(b'{"error"') for reply in replies)
-    if status != 0 or refused or len(replies) != len(lines):
-        sys.exit(f"bench: status {status}, {len(replies)} replies to {len(lines)} lines, {refused} refused")
+    if status != 0 or refused or len(replies) != count:
+        sys.exit(f"bench: status {status}, {len(replies)} replies to {count} lines, {refused} refused")
     return seconds, usage.ru_maxrss * 1024
 
 
@@ -88,16 +92,17 @@ def measure_showing():
 
 
 def measure_memory():
-    """Full logs: sectors written one after another, and each in a block of its own."""
-    for name, step in (("in a row", 1), ("one a block", 128)):
+    """Full logs: sectors written one after another, some apart, and each in a block of its own. It comes first, since
+    the peak of a process begins with that of the one that started it, which has to be small."""
+    for name, step in (("in a row", 1), ("every third", 3), ("seven a block", 17), ("one a block", 128)):
         fleet = [HOST] + [vm(number, 1 << 23) for number in range(4)]
-        lines = [write(number, at * step, 1) for number in range(4) for at in range(1 << 16)]
         _, before = run(fleet)
-        _, peak = run(fleet + lines)
-        print(f"memory, sectors {name}: {(peak - before) / len(lines):,.0f} bytes a written sector")
+        lines = (write(number, at * step, 1) for number in range(4) for at in range(1 << 16))
+        _, peak = run(itertools.chain(fleet, lines))
+        print(f"memory, sectors {name}: {(peak - before) / (4 << 16):,.0f} bytes a written sector")
 
 
+measure_memory()
 measure_writes("write of 1 sector", 1)
 measure_writes("write of 128 sectors", 128)
 measure_showing()
-measure_memory()
