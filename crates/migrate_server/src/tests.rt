@@ -317,7 +317,9 @@ fn a_failing_put_ends_the_run(rt: HostRuntime) -> Result<(), Fail> {
 
 #[test]
 fn a_word_is_refused_before_any_line_is_read(rt: HostRuntime) -> Result<(), Fail> {
-    let words = vec![in rt.alloc(); String::from_str(rt.alloc(), "--help")?]?;
+    let option = String::from_str(rt.alloc(), "--limit")?;
+    let value = String::from_str(rt.alloc(), "0")?;
+    let words = vec![in rt.alloc(); option, value]?;
     let run = served_in(&rt, &SOUND, &words, MOVE.as_bytes())?;
     assert_eq!(rt;
         held(&run),
