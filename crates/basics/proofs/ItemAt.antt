@@ -1,6 +1,8 @@
--- One item of a list that was cut, joined or made of equal ones.
-use Rattle.std.proofs.Common.{◌≡◌, ℕ, zero, suc, ◌+◌, ◌<◌, List, [], ◌∷◌, ◌++◌, length, take, drop, replicate, Some, ap, refl, ◌∙◌, arith}
+-- One item of a list that was cut, joined, set or made of equal ones; lists with equal items.
+use Rattle.std.proofs.Common.{◌≡◌, ◌≢◌, ℕ, zero, suc, ◌+◌, ◌<◌, List, [], ◌∷◌, ◌++◌, length, take, drop, set, replicate, Option, Some, ap, refl, sym, unwrap_or, ◌∙◌, arith}
 use Rattle.std.specs.List.{slice_get}
+use Rattle.std.proofs.lemmas.List.{same_lists}
+use Rattle.std.proofs.lemmas.Option.{unwrap_or-slice_get}
 
 pub slice_get-front : {X : Type 0} (xs ys : List X) (k : ℕ) → k < length xs → slice_get (xs ++ ys) k ≡ slice_get xs k
 slice_get-front [] ys k h = absurd (omega arith)
@@ -34,3 +36,22 @@ pub slice_get-replicate : {X : Type 0} (n k : ℕ) (x : X) → k < n → slice_g
 slice_get-replicate zero k x less = absurd (omega arith)
 slice_get-replicate (suc n) zero x less = refl
 slice_get-replicate (suc n) (suc k) x less = slice_get-replicate n k x (omega arith)
+
+pub slice_get-set_same : {X : Type 0} (xs : List X) (i : ℕ) (x : X) → i < length xs → slice_get (set xs i x) i ≡ Some x
+slice_get-set_same [] i x less = absurd (omega (arith, less))
+slice_get-set_same (y ∷ xs) zero x less = refl
+slice_get-set_same (y ∷ xs) (suc i) x less = slice_get-set_same xs i x (omega (arith, less))
+
+pub slice_get-set_other : {X : Type 0} (xs : List X) (i j : ℕ) (x : X) → i ≢ j → slice_get (set xs i x) j ≡ slice_get xs j
+slice_get-set_other [] i j x apart = refl
+slice_get-set_other (y ∷ xs) zero zero x apart = absurd (apart refl)
+slice_get-set_other (y ∷ xs) zero (suc j) x apart = refl
+slice_get-set_other (y ∷ xs) (suc i) zero x apart = refl
+slice_get-set_other (y ∷ xs) (suc i) (suc j) x apart = slice_get-set_other xs i j x (λ same. apart (ap suc same))
+
+-- lists of one length with the same item at each place are the same
+pub same_items : {X : Type 0} (xs ys : List X) → length xs ≡ length ys
+    → ((i : ℕ) → i < length xs → slice_get xs i ≡ slice_get ys i) → xs ≡ ys
+same_items xs ys long same =
+    same_lists xs ys long
+    (λ i x less. sym (unwrap_or-slice_get xs i x) ∙ ap (λ o. unwrap_or o x) (same i less) ∙ unwrap_or-slice_get ys i x)

@@ -3,3 +3,7 @@ pub mod CallLemmas
 pub mod NumberLemmas
 pub mod ItemAt
 pub mod Replaced
+pub mod Results
+pub mod Options
+pub mod Truth
+pub mod Each

@@ -1,0 +1,21 @@
+-- Facts of what calls answer: a fact of an Ok or of an Err where it is known which of them stands.
+use Rattle.std.proofs.Common.{◌≡◌, Bool, true, false, sym}
+use Rattle.std.specs.Prelude.{Result, Ok, Err, OnOk, OnErr}
+use Rattle.std.specs.Result.{IfErr, IsErrAnd, is_err}
+use Rattle.std.proofs.lemmas.Bool.{false≢true}
+
+pub on_err : {T E P : Type 0} (r : Result T E) → P → OnErr r P
+on_err (Ok answer) fact = tt
+on_err (Err refusal) fact = fact
+
+pub where_ok : {T E P : Type 0} (r : Result T E) → is_err r ≡ false → OnOk r P → P
+where_ok (Ok answer) is fact = fact
+where_ok (Err refusal) is fact = absurd (false≢true (sym is))
+
+pub where_err : {T E P : Type 0} (r : Result T E) → is_err r ≡ true → OnErr r P → P
+where_err (Ok answer) is fact = absurd (false≢true is)
+where_err (Err refusal) is fact = fact
+
+pub if_err : {T E : Type 0} (P : E → Type 0) (r : Result T E) → IsErrAnd r P → IfErr r P
+if_err P (Ok answer) is = tt
+if_err P (Err refusal) is = is
