@@ -1,5 +1,5 @@
--- What a tracker was told of its disk, step by step, and what one that stands for these steps holds.
--- Identifiers and answers are the words that change_id has of any such list.
+-- What a tracker was told of its disk, step by step, and what one that stands for these steps
+-- holds. Identifiers and answers are the words that change_id has of any such list.
 use Rattle.std.specs.Prelude.{◌≡◌, ℕ, ◌+◌, ◌-◌, ◌<◌, ◌≤◌, ◌==◌, ◌↔◌, List, [], ◌∷◌, ◌++◌, length, take, drop, slice_get, slice_range, nat_eq, nat_lt, not, Bool, true, false, ◌||◌, Option, Some, None, is_some, unwrap_or, Result, Ok, Err, if◌then◌else◌}
 use Rattle.std.specs.List.{filter_map, list_any}
 use Rattle.sector_model.specs.Run.{block_count, meets, met_blocks, areas_of}

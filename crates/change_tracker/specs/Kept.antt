@@ -83,8 +83,8 @@ pub record IsKept (capacity : ℕ) (counted : Option ℕ) (maps : Maps)
   pub can_mark : IfSome mark_room (CanMark capacity maps (length snapshots.items))
   pub can_freeze : freeze_room ≡ true → vec_len snapshots < vec_capacity snapshots
 
--- the identifier is of the epoch with this UUID, and so is the one at a snapshot, whose number isn't
--- lower
+-- the identifier is of the epoch with this UUID, and so is the one at a snapshot, whose number
+-- isn't lower
 abbrev pub is_accepted : (uuid : ℕ) (at : Option ChangeId) (from : ChangeId) → Bool
 is_accepted uuid None from = false
 is_accepted uuid (Some at) from =

@@ -1,6 +1,6 @@
--- What a tracker holds: of each snapshot its identifier, the blocks that were touched before it, and
--- those that changed since the one before it; and for which next call room was made. Maps are how it
--- is kept, and no caller sees them.
+-- What a tracker holds: of each snapshot its identifier, the blocks that were touched before it,
+-- and those that changed since the one before it; and for which next call room was made. Maps are
+-- how it is kept, and no caller sees them.
 use Rattle.std.specs.Prelude.{ℕ, ◌+◌, ◌==◌, List, [], ◌∷◌, ◌++◌, map, Bool, false, Option, Some, None, unwrap_or, option_map, if◌then◌else◌}
 use Rattle.std.specs.List.{find}
 use Rattle.sector_model.specs.Run.{is_within, with_met}

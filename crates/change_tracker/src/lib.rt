@@ -2,8 +2,8 @@
 //! and another snapshot.
 //!
 //! A tracker is told what is written, and when a snapshot is frozen. It keeps, under the number of
-//! each word of 64 blocks, which of them were touched between two freezes; and, once for each block,
-//! when it was touched first, which outlives a reset.
+//! each word of 64 blocks, which of them were touched between two freezes; and, once for each
+//! block, when it was touched first, which outlives a reset.
 #![tactic(auto)]
 
 mod kept;

@@ -18,8 +18,8 @@ use std::marker::Model;
 /// Which blocks of a disk were touched before each snapshot, and which changed between two of them.
 ///
 /// Runs and pages count in sectors. A block of 128 sectors is touched where one of them is marked.
-/// Each snapshot has an identifier where tracking was enabled before it: the epoch of the disk, which
-/// is how often tracking was reset, and the snapshot's number in that epoch.
+/// Each snapshot has an identifier where tracking was enabled before it: the epoch of the disk,
+/// which is how often tracking was reset, and the snapshot's number in that epoch.
 #[derive(Debug, Drop)]
 pub struct Tracker {
     alloc: Global,
@@ -177,7 +177,8 @@ impl Tracker {
     }
 
     /// Forgets what changed and begins a new epoch: identifiers that were given are strange from
-    /// then on. What was touched before each snapshot, and its identifier, stay. It takes no memory.
+    /// then on. What was touched before each snapshot, and its identifier, stay. It takes no
+    /// memory.
     pub fn reset(&mut self)
         requires { self.old.epoch + 1 < 2 ^ 64 }
         ensures reset { self.new ≡ after_reset self.old }

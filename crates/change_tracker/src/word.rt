@@ -63,7 +63,8 @@ impl Word {
     /// A word of which no block was touched, with a place for touches after that many freezes. It
     /// takes no memory.
     pub(crate) fn new(alloc: Global, freezes: u64) -> Word
-        ensures { result ≡ record { latest = record { freezes = freezes; bits = 0 }; earlier = [] } }
+        ensures { result
+            ≡ record { latest = record { freezes = freezes; bits = 0 }; earlier = [] } }
     {
         Word {
             latest: Touch { freezes, bits: 0 },

@@ -1,5 +1,5 @@
--- What a command is refused as where a fleet, a machine or a write refuses what it asks for. Want of
--- memory is told by nothing, and no command asks that a machine be off.
+-- What a command is refused as where a fleet, a machine or a write refuses what it asks for. Want
+-- of memory is told by nothing, and no command asks that a machine be off.
 use Rattle.std.specs.Prelude.{Option, Some, None}
 use Rattle.log_model.specs.declared.refusals.LinkRefused.{LinkRefused}
 use Rattle.log_model.specs.declared.refusals.LinkRefused.TheVariants as link

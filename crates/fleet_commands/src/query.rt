@@ -29,8 +29,8 @@ pub struct QueryLine<'a> {
 /// Shows a page of what changed on a disk of the machine of a name. In this order:
 /// [`Refusal::UnknownVm`], [`Refusal::Since`] where the text is neither a star nor an identifier,
 /// [`Refusal::UnknownSnapshot`], [`Refusal::Range`] where the disk is unknown or the page would
-/// not start before its end, [`Refusal::Strange`] where the identifier can't be answered. It answers
-/// want of memory too. Nothing changes.
+/// not start before its end, [`Refusal::Strange`] where the identifier can't be answered. It
+/// answers want of memory too. Nothing changes.
 pub fn run_query(
     alloc: Global,
     fleet: &mut Fleet,

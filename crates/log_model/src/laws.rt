@@ -111,8 +111,8 @@ pub fn calls_follow()
 {}
 
 /// A call of a link to a machine that nobody else reaches meets the log as its caller has last seen
-/// it. What it adds stands behind that log and behind the caller's own entries, and a call that only
-/// reads leaves the link as it was.
+/// it. What it adds stands behind that log and behind the caller's own entries, and a call that
+/// only reads leaves the link as it was.
 pub fn calls_alone()
     ensures { (a b : LinkState) → a.unshared ≡ true → CallsAlone a b }
 {}

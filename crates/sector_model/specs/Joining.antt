@@ -5,7 +5,10 @@ use Rattle.sector_model.specs.declared.run.Run.{Run}
 
 -- the shortest run that has the sectors of both
 abbrev pub hull : Run → Run → Run
-hull r q = record { first = min r.first q.first; count = max (end_of r) (end_of q) - min r.first q.first }
+hull r q = record {
+  first = min r.first q.first;
+  count = max (end_of r) (end_of q) - min r.first q.first;
+}
 
 -- the runs and one more: those that end before it stay, those that meet it or are next to it are
 -- one with it

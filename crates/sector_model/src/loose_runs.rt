@@ -11,7 +11,8 @@ impl SectorList {
     pub fn take_found(&mut self, loose: &Runs, filling: &[Sector])
         requires within { All (λ run. end_of run ≤ length self.old) loose.now }
         requires long { length filling.now ≡ loose_count (volume_of self.old loose.now) }
-        ensures { self.new ≡ with_found (flags_of (length self.old) loose.now) self.old filling.now }
+        ensures { self.new
+            ≡ with_found (flags_of (length self.old) loose.now) self.old filling.now }
     {
         let mut at = 0;
         for run in loose.as_slice() {

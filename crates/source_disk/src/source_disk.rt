@@ -17,8 +17,8 @@ use std::marker::Model;
 /// What one disk of a machine holds now and at each live snapshot, and what changed between
 /// snapshots.
 ///
-/// Sectors are numbered from 0 on, below the capacity. A snapshot of the machine is one of each of its
-/// disks, under the machine's number for it.
+/// Sectors are numbered from 0 on, below the capacity. A snapshot of the machine is one of each of
+/// its disks, under the machine's number for it.
 #[derive(Debug, Drop)]
 pub struct SourceDisk {
     chain: Chain,
