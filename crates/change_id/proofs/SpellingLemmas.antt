@@ -4,6 +4,7 @@ use Rattle.std.proofs.lemmas.Bool.{cases_lt}
 use Rattle.std.proofs.lemmas.Bool.Decides.{nat_tests}
 use Rattle.std.proofs.lemmas.Fmt.{decimal_injective, IsAscii-decimal}
 use Rattle.std.proofs.lemmas.List.{length-append, length-drop, length-set, length-map, get_or-map, get_or_past, append_assoc, take_more_set, drop-set-lt, get_or_at, get_or_append_left, take_at, drop_at, drop-drop, take_rest}
+use Rattle.std.proofs.lemmas.Option.{same_Some}
 use Rattle.std.proofs.lemmas.List.Quantifiers.{position-Some}
 use Rattle.std.proofs.lemmas.List.Sums.{position_or_len_is, split_at_first, fails_before_first, passes_at_first}
 use Rattle.std.proofs.lemmas.Slice.{take-put_mid, drop-put_mid}
@@ -35,13 +36,10 @@ pub parsed-uuid_text : (uuid : ℕ) → Some (to_be_bytes w128 uuid) ≡ parsed 
 unfolding uuid_text
 parsed-uuid_text uuid = parses_hyphenated lower (to_be_bytes w128 uuid) (inl refl) refl (bytes_fit 16 uuid)
 
-pub same_bytes : (xs ys : List ℕ) → Some xs ≡ Some ys → xs ≡ ys
-same_bytes xs ys same = cc
-
 pub uuid_text_injective : (u v : ℕ) → u < 2 ^ 128 → v < 2 ^ 128 → uuid_text u ≡ uuid_text v → u ≡ v
 uuid_text_injective u v u_fits v_fits same =
     let bytes : to_be_bytes w128 u ≡ to_be_bytes w128 v =
-    same_bytes _ _ (parsed-uuid_text u ∙ ap parsed same ∙ sym (parsed-uuid_text v)) in
+    same_Some _ _ (parsed-uuid_text u ∙ ap parsed same ∙ sym (parsed-uuid_text v)) in
     sym (from_be_bytes-to_be_bytes u u_fits) ∙ ap (from_be_bytes w128) bytes ∙ from_be_bytes-to_be_bytes v v_fits
 
 no_slash_digit : (b : Bool) (d : ℕ) → d < 16 → (if b then 45 else hex_digit lower d) ≢ 47
@@ -177,7 +175,7 @@ parsed_bytes_fit bytes len reads i =
     rw (get_or-map lowest_bits bytes j 0 d (omega arith)) (omega arith) in
     let texts : hyphenated_text lower kept ≡ hyphenated_text lower bytes =
     by_index_cong 36 _ _ (λ k within. ap (λ (n : ℕ). if is_hyphen_place k then 45 else hex_digit lower n) (same_nibble bytes (digit_place k) len (digit_place_within k within))) in
-    let same : kept ≡ bytes = same_bytes _ _ (parses_hyphenated lower kept (inl refl) kept_len fit ∙ ap parsed texts ∙ sym reads) in
+    let same : kept ≡ bytes = same_Some _ _ (parses_hyphenated lower kept (inl refl) kept_len fit ∙ ap parsed texts ∙ sym reads) in
     elim (cases_lt i 16) [
       | inl under ↦ rw (← same) (fit i 0 (omega arith))
       | inr over ↦ rw (get_or_past bytes i 0 (omega arith)) (omega arith)
@@ -195,7 +193,7 @@ same_text text bytes len reads is =
 pub other_text : (text bytes : List ℕ) → Some bytes ≡ parsed text → text ≢ hyphenated_text lower bytes → ¬ (IsUuidText text)
 unfolding uuid_text
 other_text text bytes reads other is =
-    let same : bytes ≡ to_be_bytes w128 is.0 = same_bytes _ _ (reads ∙ ap parsed is.2 ∙ sym (parsed-uuid_text is.0)) in
+    let same : bytes ≡ to_be_bytes w128 is.0 = same_Some _ _ (reads ∙ ap parsed is.2 ∙ sym (parsed-uuid_text is.0)) in
     other (is.2 ∙ ap (hyphenated_text lower) (sym same))
 
 -- a buffer with a UUID's text at its front, then a slash and digits

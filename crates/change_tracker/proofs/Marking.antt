@@ -1,5 +1,5 @@
 -- What marking a run changes in the maps, word by word.
-use Rattle.std.proofs.Common.{◌≡◌, ◌≢◌, ℕ, ◌+◌, ◌-◌, ◌*◌, ◌/◌, ◌%◌, ◌^◌, ◌<◌, ◌≤◌, List, [], ◌∷◌, Bool, true, false, not, ◌&&◌, ◌||◌, eqb, ltb, leb, bit_and, w64, Option, Some, None, Result, Ok, Err, OnOk, sym, ap, subst, refl, ◌∙◌, arith, inl, inr}
+use Rattle.std.proofs.Common.{◌≡◌, ◌≢◌, ℕ, ◌+◌, ◌-◌, ◌*◌, ◌/◌, ◌%◌, ◌^◌, ◌<◌, ◌≤◌, List, [], ◌∷◌, Bool, true, false, not, ◌&&◌, ◌||◌, eqb, ltb, leb, bit_and, w64, Option, Some, None, sym, ap, subst, refl, ◌∙◌, arith, inl, inr}
 use Rattle.std.specs.List.{list_any}
 use Rattle.std.specs.Int.{bit_not, trailing_zeros}
 use Rattle.std.proofs.lemmas.Bool.{and_parts, cases_eq, cases_lt, eq-eqb, ne_eqb, eqb-true, lt-ltb, ltb-true, le-ltb, le-leb, leb-true, false≢true, and_from, and_right, or_parts, not-true}
@@ -237,7 +237,3 @@ touched_none p freezes a none = record {
 -- a block that isn't touched by now wasn't before
 pub untouched_before : (p : ℕ → Bool) (freezes : ℕ) (a b : Maps) (end n : ℕ) → IsTouchedWhere p freezes a b → is_touched b.first (window 0 end) n ≡ false → is_touched a.first (window 0 end) n ≡ false
 untouched_before p freezes a b end n is none = (or_parts (is_touched a.first (window 0 end) n) (ltb freezes end && p n) (sym (is.first end n) ∙ none)).0
-
-pub on_ok : {T E : Type 0} {P Q : Type 0} (r : Result T E) → OnOk r P → (P → Q) → OnOk r Q
-on_ok (Ok x) is f = f is
-on_ok (Err e) is f = tt

@@ -1,10 +1,11 @@
 -- A walk over words: the first block that was touched, or wasn't, and the next area.
-use Rattle.std.proofs.Common.{◌≡◌, ◌≢◌, ℕ, ◌+◌, ◌*◌, ◌/◌, ◌%◌, ◌^◌, ◌<◌, ◌≤◌, max, Bool, true, false, not, ◌&&◌, leb, eqb, bit_and, w64, None, sym, ap, refl, ◌∙◌, arith, inl, inr}
+use Rattle.std.proofs.Common.{◌≡◌, ◌≢◌, ℕ, ◌+◌, ◌*◌, ◌/◌, ◌%◌, ◌^◌, ◌<◌, ◌≤◌, max, true, false, not, ◌&&◌, leb, eqb, bit_and, w64, None, sym, ap, ◌∙◌, arith, inl, inr}
 use Rattle.std.specs.Int.{bit_at, bit_not, trailing_zeros}
 use Rattle.std.proofs.lemmas.Bool.{and_parts, cases_lt, le-leb, leb-true, eq-eqb, false≢true, not-true, not-false}
 use Rattle.std.proofs.lemmas.Nat.Bits.{bit_at-trailing_zeros}
 use Rattle.change_tracker.specs.declared.word.Window.{Window}
 use Rattle.basics.specs.Bits.{has_bit}
+use Rattle.basics.proofs.Truth.{first_fails}
 use Rattle.change_tracker.specs.Touches.{TouchState, touched_in, word_of, is_touched}
 use Rattle.change_tracker.proofs.Bits.{and_has, not_has, from_has, none_has}
 
@@ -22,12 +23,8 @@ masked bits first = bit_and bits (18446744073709551615 * 2 ^ (first % 64) % 1844
 masked_has : (bits first p : ℕ) → p < 64 → has_bit (masked bits first) p ≡ (has_bit bits p && leb (first % 64) p)
 masked_has bits first p less = and_has bits (18446744073709551615 * 2 ^ (first % 64) % 18446744073709551616) p ∙ ap (λ x. has_bit bits p && x) (from_has (first % 64) p (omega arith) less)
 
-and_false : (a b : Bool) → b ≡ true → (a && b) ≡ false → a ≡ false
-and_false true b is h = sym is ∙ h
-and_false false b is h = refl
-
 clear : (bits first p : ℕ) → p < 64 → first % 64 ≤ p → has_bit (masked bits first) p ≡ false → has_bit bits p ≡ false
-clear bits first p less from none = and_false (has_bit bits p) (leb (first % 64) p) (le-leb (first % 64) p from) (sym (masked_has bits first p less) ∙ none)
+clear bits first p less from none = first_fails (has_bit bits p) (leb (first % 64) p) (le-leb (first % 64) p from) (sym (masked_has bits first p less) ∙ none)
 
 pub record Lowest (n k : ℕ) : Type 0 where
   pub within : k < 64

@@ -4,10 +4,6 @@ use Rattle.std.specs.Prelude.{Result, Ok, Err, OnOk, OnErr, Option, Some, None, 
 use Rattle.std.specs.Option.{ForSome}
 use Rattle.std.specs.Result.{result_or}
 
-pub on_err : {T E : Type 0} (r : Result T E) (P : Type 0) → P → OnErr r P
-on_err (Ok answer) P fact = tt
-on_err (Err refusal) P fact = fact
-
 -- where one refusal stands for another
 pub on_err_or : {T D E : Type 0} (r : Result T D) (s : Result T E) (e : E) (Q P : Type 0)
     → s ≡ result_or r (Err e) → OnErr r Q → (Q → P) → OnErr s P
@@ -24,7 +20,3 @@ for_each o P fact x is = rw is at fact
 
 pub at_some : {T : Type 0} (o : Option T) (x : T) (P : T → Type 0) → o ≡ Some x → IfSome o P → P x
 at_some o x P is fact = rw is at fact
-
-pub on_err_then : {T E : Type 0} (r : Result T E) (Q P : Type 0) → OnErr r Q → (Q → P) → OnErr r P
-on_err_then (Ok answer) Q P fact leads = tt
-on_err_then (Err refusal) Q P fact leads = leads fact

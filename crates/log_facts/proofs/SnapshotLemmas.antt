@@ -7,7 +7,7 @@ use Rattle.std.proofs.Math.Bool.{or-false}
 use Rattle.std.proofs.lemmas.Bool.{cases_eq, eq-eqb, ne_eqb}
 use Rattle.std.proofs.lemmas.Option.{slice_get_within}
 use Rattle.std.proofs.lemmas.List.Folds.{list_any-append}
-use Rattle.snapshot_chain.proofs.Masks.{set_same, set_other}
+use Rattle.basics.proofs.ItemAt.{slice_get-set_same, slice_get-set_other}
 use Rattle.log_model.specs.declared.entry.Owner.{Owner}
 use Rattle.log_model.specs.declared.entry.Act.{Act}
 use Rattle.log_model.specs.declared.entry.Act.TheVariants.{Write, Snap, Remove, Reset, Enable, Off, On}
@@ -38,9 +38,9 @@ changed_at {X} xs id s f o at = by o at (cases_eq id s)
     by None none (inr apart) = kept (slice_get xs s) apart
     by (Some x) is (inl same) =
         let here : slice_get xs s ≡ Some x = ap (slice_get xs) (sym same) ∙ is in
-        ap (slice_get (set xs id (f x))) (sym same) ∙ set_same xs id (f x) (slice_get_within xs id x is)
+        ap (slice_get (set xs id (f x))) (sym same) ∙ slice_get-set_same xs id (f x) (slice_get_within xs id x is)
         ∙ sym (ap (option_map (λ y. cond (eqb id s) (f y) y)) here ∙ ap (λ b. Some (cond b (f x) x)) (eq-eqb id s same))
-    by (Some x) is (inr apart) = set_other xs id s (f x) apart ∙ kept (slice_get xs s) apart
+    by (Some x) is (inr apart) = slice_get-set_other xs id s (f x) apart ∙ kept (slice_get xs s) apart
 
 -- ---- what an act makes of one
 

@@ -15,7 +15,7 @@ use Rattle.sector_model.specs.declared.run.TheConstants.{BLOCK_SECTORS}
 use Rattle.sector_model.specs.Run.{block_count, meets, touches, touched_blocks, in_blocks, areas_of}
 use Rattle.sector_model.proofs.Touched.{in_touched, any_below}
 use Rattle.sector_model.proofs.RunsOf.{runs_of-same}
-use Rattle.snapshot_chain.proofs.Blocks.{in_set}
+use Rattle.sector_model.proofs.Among.{in_set}
 use Rattle.log_model.specs.declared.entry.Entry.{Entry}
 use Rattle.log_model.specs.Entry.{write_to, writes_of}
 use Rattle.log_model.proofs.TouchedLaws.{writes-append}

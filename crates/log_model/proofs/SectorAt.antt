@@ -1,7 +1,7 @@
 -- One sector of what a log leaves.
 use Rattle.std.proofs.Common.{◌≡◌, ℕ, ◌+◌, ◌-◌, ◌<◌, ◌≤◌, List, [], ◌∷◌, length, drop, map, slice_range, Bool, true, false, cond, leb, ◌&&◌, Option, Some, None, unwrap_or, refl, sym, ap, ◌∙◌, arith, length-take, length-drop, inl, inr}
 use Rattle.std.specs.List.{fold, slice_get, range_with_len, AllByRecursion, cons_option}
-use Rattle.std.proofs.lemmas.Bool.{leb-true, ltb-true, le-leb, cases_lt}
+use Rattle.std.proofs.lemmas.Bool.{leb-true, ltb-true, le-leb, lt-leb, cases_lt}
 use Rattle.std.proofs.lemmas.Option.{slice_get_past, get_or_from_slice_get, slice_get-get_or}
 use Rattle.std.proofs.lemmas.List.{length-replicate}
 use Rattle.std.proofs.lemmas.List.FromFn.{fill_by_all}
@@ -17,9 +17,6 @@ use Rattle.basics.proofs.ItemAt.{slice_get-take, slice_get-drop, slice_get-repli
 use Rattle.basics.proofs.Replaced.{length-replaced, replaced-before, replaced-within, replaced-behind}
 use Rattle.log_model.proofs.TouchedLaws.{writes_fit, length-contents}
 
-lt-leb_false : (m n : ℕ) → m < n → leb n m ≡ false
-lt-leb_false m n less = elim (leb n m) as (λ b. leb n m ≡ b → b ≡ false) [ true ↦ λ h. absurd (omega (arith, leb-true n m h)) | false ↦ λ _. refl ] refl
-
 -- the sector of a disk after a write is what the plain machine reads
 after_one : (c s : ℕ) (disk : List Sector) (w : Replacement) (sector : Sector) → length disk ≡ c → Fits c w → slice_get disk s ≡ Some sector → slice_get (after_write disk w) s ≡ Some (sector_of_write s sector (Some w))
 after_one c s disk w sector long fit here =
@@ -27,7 +24,7 @@ after_one c s disk w sector long fit here =
     elim (cases_lt s w.first) [
       | inl less ↦
           replaced-before disk w.sectors w.first (omega (arith, within)) s less ∙ here
-          ∙ ap (λ b. Some (cond b (unwrap_or (slice_get w.sectors (s - w.first)) sector) sector)) (sym (lt-leb_false s w.first less))
+          ∙ ap (λ b. Some (cond b (unwrap_or (slice_get w.sectors (s - w.first)) sector) sector)) (sym (lt-leb w.first s less))
       | inr from ↦
           let reads : sector_of_write s sector (Some w) ≡ unwrap_or (slice_get w.sectors (s - w.first)) sector = ap (λ b. cond b (unwrap_or (slice_get w.sectors (s - w.first)) sector) sector) (le-leb w.first s from) in
           elim (cases_lt s (w.first + length w.sectors)) [

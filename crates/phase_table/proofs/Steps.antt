@@ -4,6 +4,7 @@ use Rattle.std.specs.Prelude.{◌==◌, ◌&&◌, ◌||◌, nat_lt, nat_le, slic
 use Rattle.std.specs.List.{list_any, list_all, find, AllByRecursion}
 use Rattle.std.proofs.lemmas.Bool.{and_parts, false≢true}
 use Rattle.std.proofs.lemmas.Bool.Decides.{nat_tests}
+use Rattle.std.proofs.lemmas.Option.{same_Some}
 use Rattle.std.proofs.lemmas.List.Elements.{All-from_recursion, recursion_from_All, All-contains}
 use Rattle.std.proofs.lemmas.Map.Views.{Contains-from_any}
 use Rattle.phase_table.specs.declared.phases.Phase.{Phase}
@@ -98,16 +99,13 @@ step_is_row test row p q f same successor holds =
     ∙ ap (λ (x : Phase). row_of p f x) successor in
     subst (λ (x : Row). IsTrue (test x)) is holds
 
-some_is : (p q : Phase) → Some p ≡ Some q → p ≡ q
-some_is p q e = cc
-
 steps_split : (row : Row) (rows : List Row) (test : Row → Bool) (p q : Phase) (f : Fact) (b : Bool)
     → fits row p f ≡ b → IsTrue (test row)
     → option_map (λ r. r.successor) (cond b (Some row) (find (λ r. fits r p f) rows)) ≡ Some q
     → (successor_in rows p f ≡ Some q → IsTrue (test (row_of p f q)))
     → IsTrue (test (row_of p f q))
 steps_split row rows test p q f true fit holds e rest =
-    step_is_row test row p q f ((fits_means row p f).0 fit) (some_is row.successor q e) holds
+    step_is_row test row p q f ((fits_means row p f).0 fit) (same_Some row.successor q e) holds
 steps_split row rows test p q f false fit holds e rest = rest e
 
 pub tests_hold_of_steps : TestsHoldOfSteps

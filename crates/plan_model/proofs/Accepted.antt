@@ -3,13 +3,14 @@ use Rattle.std.proofs.Common.{◌≡◌, ℕ, ◌+◌, ◌*◌, ◌≤◌, Bool,
 use Rattle.std.specs.Prelude.{◌≢◌, ◌==◌, ◌||◌, map, IsTrue, is_some, if◌then◌else◌}
 use Rattle.std.specs.Bool.{one_answer}
 use Rattle.std.specs.List.{find, list_any, AllByRecursion, IsDistinct}
-use Rattle.std.specs.Option.{option_or}
 use Rattle.std.specs.Str.{bytes_eq}
-use Rattle.std.proofs.lemmas.Bool.{eqb-true, false≢true, not-false, or_parts as any_split}
+use Rattle.std.proofs.lemmas.Bool.{eqb-true, false≢true, not-false, or_parts}
 use Rattle.std.proofs.lemmas.Bool.Decides.{nat_tests}
 use Rattle.std.proofs.lemmas.Slice.Eq.{bytes_eq-Decides}
 use Rattle.std.proofs.lemmas.List.Elements.{All-from_recursion, recursion_from_All}
 use Rattle.std.proofs.lemmas.List.Sums.{sum_by-cons}
+use Rattle.basics.proofs.Each.{each, each_both}
+use Rattle.basics.proofs.Options.{neither}
 use Rattle.plan_model.specs.declared.plan.Plan.{Plan}
 use Rattle.plan_model.specs.declared.plan.VmFact.{VmFact}
 use Rattle.plan_model.specs.declared.plan.PlanRefused.{PlanRefused}
@@ -20,15 +21,6 @@ use Rattle.plan_model.specs.Plans.{is_taken, count_of, is_doubled_in, first_that
 use Rattle.plan_model.specs.Laws.{IsFree, IsPossible, AcceptedIsPossible, NumbersTellApart, AcceptedMachinesDiffer, NothingIsDueTwice}
 
 -- lists
-all_both : {X : Type 0} (P Q R : X → Type 0) → ((x : X) → P x → Q x → R x) → (xs : List X)
-    → AllByRecursion P xs → AllByRecursion Q xs → AllByRecursion R xs
-all_both P Q R both [] p q = tt
-all_both P Q R both (x ∷ xs) p q = (both x p.0 q.0, all_both P Q R both xs p.1 q.1)
-
-all_weaker : {X : Type 0} (P R : X → Type 0) → ((x : X) → P x → R x) → (xs : List X)
-    → AllByRecursion P xs → AllByRecursion R xs
-all_weaker P R weaker xs p = all_both P P R (λ x h _. weaker x h) xs p p
-
 find_split : {X : Type 0} (test : X → Bool) (x : X) (xs : List X) (b : Bool) → test x ≡ b
     → cond b (Some x) (find test xs) ≡ None → (test x ≡ false) × (find test xs ≡ None)
 find_split test x xs true t none = cc
@@ -49,7 +41,7 @@ none_passes : {X : Type 0} (test : X → Bool) (xs : List X) → list_any test x
     → AllByRecursion (λ x. test x ≡ false) xs
 none_passes test [] none = tt
 none_passes test (x ∷ xs) none =
-    let parts = any_split (test x) (list_any test xs) none in
+    let parts = or_parts (test x) (list_any test xs) none in
     (parts.0, none_passes test xs parts.1)
 
 none_any : {X : Type 0} (test : X → Bool) (xs : List X)
@@ -121,7 +113,7 @@ distinct_where_once (x ∷ xs) once =
     let here : count_of xs x ≡ 0 = (let few = once.0 in omega (arith, count_self x xs)) in (
       absent x xs here,
       distinct_where_once xs
-          (all_weaker (Once (x ∷ xs)) (Once xs) (λ q few. rest_count x q xs few) xs once.1),
+          (each {P = Once (x ∷ xs)} {Q = Once xs} (λ q few. rest_count x q xs few) xs once.1),
     )
 
 once_where_distinct : (vms : List (List ℕ)) → IsDistinct bytes_eq vms
@@ -131,7 +123,7 @@ once_where_distinct [] distinct = tt
 once_where_distinct (x ∷ xs) distinct =
     let none = not_counted x xs distinct.0 in (
       omega (arith, count_self x xs),
-      all_both (λ q. bytes_eq x q ≡ false) (Once xs) (Once (x ∷ xs))
+      each_both {P = λ q. bytes_eq x q ≡ false} {Q = Once xs} {R = Once (x ∷ xs)}
           (λ q apart few. let same = count_other x q xs apart in omega arith)
           xs distinct.0 (once_where_distinct xs distinct.1),
     )
@@ -146,14 +138,14 @@ none_doubled : (vms : List (List ℕ)) → find (is_doubled_in vms) vms ≡ None
     → IsDistinct bytes_eq vms
 none_doubled vms none =
     distinct_where_once vms
-    (all_weaker (λ q. is_doubled_in vms q ≡ false) (Once vms) (λ q f. few_is (count_of vms q) f) vms
+    (each {P = λ q. is_doubled_in vms q ≡ false} {Q = Once vms} (λ q f. few_is (count_of vms q) f) vms
     (none_found (is_doubled_in vms) vms none))
 
 doubled_none : (vms : List (List ℕ)) → IsDistinct bytes_eq vms
     → find (is_doubled_in vms) vms ≡ None
 doubled_none vms distinct =
     find_none (is_doubled_in vms) vms
-    (all_weaker (Once vms) (λ q. is_doubled_in vms q ≡ false)
+    (each {P = Once vms} {Q = λ q. is_doubled_in vms q ≡ false}
     (λ q few. is_few (count_of vms q) few) vms
     (once_where_distinct vms distinct))
 
@@ -190,11 +182,6 @@ tracked_where known name free =
     ∙ ap (λ (b : Bool). not b) free.tracked
 
 -- reasons
-or_parts : (first next : Option PlanRefused) → option_or first next ≡ None
-    → (first ≡ None) × (next ≡ None)
-or_parts None next e = (refl, e)
-or_parts (Some reason) next e = cc
-
 told_none : (reason : List ℕ → PlanRefused) (found : Option (List ℕ))
     → option_map reason found ≡ None → found ≡ None
 told_none reason None e = refl
@@ -209,9 +196,9 @@ record NothingFound (vms : List (List ℕ)) (known : List VmFact) : Type 0 where
 nothing_found : (vms : List (List ℕ)) (known : List VmFact) → list_refusal vms known ≡ None
     → NothingFound vms known
 nothing_found vms known none =
-    let d = or_parts (option_map Doubled (find (is_doubled_in vms) vms)) _ none in
-    let u = or_parts (option_map UnknownVm (first_that is_unknown known vms)) _ d.1 in
-    let p = or_parts (option_map InPlan (first_that is_in_plan known vms)) _ u.1 in
+    let d = neither (option_map Doubled (find (is_doubled_in vms) vms)) _ none in
+    let u = neither (option_map UnknownVm (first_that is_unknown known vms)) _ d.1 in
+    let p = neither (option_map InPlan (first_that is_in_plan known vms)) _ u.1 in
     record {
       doubled = told_none Doubled (find (is_doubled_in vms) vms) d.0;
       unknown = told_none UnknownVm (first_that is_unknown known vms) u.0;
@@ -244,18 +231,18 @@ possible_where name vms known plans none =
     let nothing = nothing_found vms known parts.2 in
     record {
       new_name = All-from_recursion (λ plan. plan.name ≢ name) plans
-          (all_weaker (λ plan. bytes_eq plan.name name ≡ false) (λ plan. plan.name ≢ name)
+          (each {P = λ plan. bytes_eq plan.name name ≡ false} {Q = λ plan. plan.name ≢ name}
           (λ plan f. apart_is plan.name name f) plans
           (none_passes (λ plan. bytes_eq plan.name name) plans parts.0));
       some = some_is (length vms) parts.1;
       once = none_doubled vms nothing.doubled;
       free = All-from_recursion (IsFree known) vms
-          (all_both (Passes is_unknown known)
-          (λ vm. Passes is_in_plan known vm × Passes is_untracked known vm) (IsFree known)
+          (each_both {P = Passes is_unknown known}
+          {Q = λ vm. Passes is_in_plan known vm × Passes is_untracked known vm} {R = IsFree known}
           (λ vm u rest. free_where known vm (fact_of known vm) refl u rest.0 rest.1) vms
           (none_found (λ vm. is_unknown (standing_in known vm)) vms nothing.unknown)
-          (all_both (Passes is_in_plan known) (Passes is_untracked known)
-          (λ vm. Passes is_in_plan known vm × Passes is_untracked known vm)
+          (each_both {P = Passes is_in_plan known} {Q = Passes is_untracked known}
+          {R = λ vm. Passes is_in_plan known vm × Passes is_untracked known vm}
           (λ vm p t. (p, t)) vms
           (none_found (λ vm. is_in_plan (standing_in known vm)) vms nothing.planned)
           (none_found (λ vm. is_untracked (standing_in known vm)) vms nothing.untracked)));
@@ -267,18 +254,18 @@ accepted_where name vms known plans possible =
     let new = recursion_from_All (λ plan. plan.name ≢ name) plans possible.new_name in
     let untaken : is_taken name plans ≡ false =
     none_any (λ plan. bytes_eq plan.name name) plans
-    (all_weaker (λ plan. plan.name ≢ name) (λ plan. bytes_eq plan.name name ≡ false)
+    (each {P = λ plan. plan.name ≢ name} {Q = λ plan. bytes_eq plan.name name ≡ false}
     (λ plan apart. is_apart plan.name name apart) plans new) in
     let some : (length vms == 0) ≡ false = is_some_of (length vms) possible.some in
     let free = recursion_from_All (IsFree known) vms possible.free in
     let nothing : list_refusal vms known ≡ None = found_nothing vms known (record {
       doubled = doubled_none vms possible.once;
       unknown = find_none (λ vm. is_unknown (standing_in known vm)) vms
-          (all_weaker (IsFree known) (Passes is_unknown known) (known_where known) vms free);
+          (each {P = IsFree known} {Q = Passes is_unknown known} (known_where known) vms free);
       planned = find_none (λ vm. is_in_plan (standing_in known vm)) vms
-          (all_weaker (IsFree known) (Passes is_in_plan known) (planless_where known) vms free);
+          (each {P = IsFree known} {Q = Passes is_in_plan known} (planless_where known) vms free);
       untracked = find_none (λ vm. is_untracked (standing_in known vm)) vms
-          (all_weaker (IsFree known) (Passes is_untracked known) (tracked_where known) vms free);
+          (each {P = IsFree known} {Q = Passes is_untracked known} (tracked_where known) vms free);
     }) in
     rw (untaken, some) nothing
 

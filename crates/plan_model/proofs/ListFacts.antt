@@ -11,6 +11,7 @@ use Rattle.std.proofs.lemmas.List.{take_more}
 use Rattle.std.proofs.lemmas.List.Folds.{find-append}
 use Rattle.std.proofs.lemmas.List.Sums.{count_by_more_yes, count_by_more_no}
 use Rattle.std.proofs.lemmas.Map.Text.{is_eq-slice_cmp}
+use Rattle.basics.proofs.Options.{or_none}
 use Rattle.basics.specs.Refusal.{IsRefusedWhere}
 use Rattle.basics.specs.declared.number_list.NumberList.{NumberList}
 use Rattle.plan_model.specs.declared.plan.VmFact.{VmFact}
@@ -70,10 +71,6 @@ found_at : (b : Bool) (vm : VmFact) (q : List ℕ) (before : List VmFact) → by
 found_at b vm q before t =
     find-append (λ vm. bytes_eq vm.name q) before (vm ∷ [])
     ∙ ap (λ (x : Bool). option_or (fact_of before q) (cond x (Some vm) None)) t
-
-or_none : (o : Option VmFact) → option_or o None ≡ o
-or_none None = refl
-or_none (Some vm) = refl
 
 none_or : (o next : Option VmFact) → is_some o ≡ false → option_or o next ≡ next
 none_or None next e = refl

@@ -1,9 +1,13 @@
--- The blocks of a disk that pass a test, and one run more of those that were met.
-use Rattle.std.proofs.Common.{◌≡◌, ℕ, ◌<◌, ◌+◌, List, [], ◌∷◌, Bool, true, false, ◌&&◌, ◌||◌, nat_eq, sym, ap, refl, ◌∙◌, arith}
+-- The blocks of a disk that pass a test, one run more of those that were met, and sets of blocks.
+use Rattle.std.proofs.Common.{◌≡◌, ℕ, ◌<◌, ◌+◌, List, [], ◌∷◌, Bool, true, false, ◌&&◌, ◌||◌, nat_eq, nat_cmp, eqb, sym, ap, refl, ◌∙◌, arith, inl, inr}
 use Rattle.std.specs.List.{filter, list_any, range_with_len}
 use Rattle.std.proofs.Math.Bool.{and-true}
-use Rattle.std.proofs.lemmas.Bool.{eqb-true}
-use Rattle.std.proofs.lemmas.Map.Views.{any-filter_same}
+use Rattle.std.specs.BTreeMap.{is_at}
+use Rattle.std.specs.Cmp.{nat_cmp_total}
+use Rattle.std.proofs.lemmas.Bool.{cases_eq, eqb-true, eq-eqb, ne_eqb, false_from_ne_true}
+use Rattle.std.proofs.lemmas.Cmp.{eq_by_cmp_equiv}
+use Rattle.std.proofs.lemmas.Map.Lookups.{exact_unsigned}
+use Rattle.std.proofs.lemmas.Map.Views.{any-filter_same, tells_apart}
 use Rattle.sector_model.specs.Run.{blocks_where, block_count, meets, with_met}
 use Rattle.sector_model.specs.declared.run.Run.{Run}
 use Rattle.sector_model.proofs.Touched.{any_below, filter-range_same}
@@ -24,6 +28,18 @@ same_blocks c p q same = filter-range_same p q 0 (block_count c) (λ b from less
 
 pub met_more : (c : ℕ) (r : Run) (test : ℕ → Bool) → with_met c r (blocks_where c test) ≡ blocks_where c (λ b. test b || meets b r.first r.count)
 met_more c r test = same_blocks c (λ b. list_any (nat_eq b) (blocks_where c test) || meets b r.first r.count) (λ b. test b || meets b r.first r.count) (λ b less. ap (λ x. x || meets b r.first r.count) (among c test b less))
+
+-- numbers in order: one is found at itself alone
+pub at_is : (k b : ℕ) → is_at (nat_cmp k) b ≡ eqb k b
+at_is k b = elim (cases_eq k b) [
+  | inl same ↦ ap (λ (n : ℕ). is_at (nat_cmp k) n) (sym same) ∙ (eq_by_cmp_equiv nat_cmp_total).refl k ∙ sym (eq-eqb k b same)
+  | inr other ↦ false_from_ne_true (is_at (nat_cmp k) b) (λ is. other (tells_apart exact_unsigned k b is)) ∙ sym (ne_eqb k b other)
+]
+
+-- a list has a number where the set of its numbers does
+pub in_set : (keys : List ℕ) (b : ℕ) → list_any (nat_eq b) keys ≡ list_any (is_at (nat_cmp b)) keys
+in_set [] b = refl
+in_set (k ∷ keys) b = rw (at_is b k, in_set keys b) refl
 
 -- no number passes the test that none does
 pub none_pass : (xs : List ℕ) → filter (λ b. false) xs ≡ []

@@ -1,12 +1,12 @@
 -- Runs are told by their sectors, and flags beside the sectors tell the same as runs.
-use Rattle.std.proofs.Common.{◌≡◌, ℕ, zero, suc, ◌+◌, ◌-◌, ◌<◌, ◌≤◌, List, [], ◌∷◌, ◌++◌, length, take, drop, replicate, map, Bool, true, false, cond, ltb, leb, ◌||◌, ◌&&◌, Option, Some, None, unwrap_or, refl, sym, ap, subst, ◌∙◌, arith, ◌⊎◌, inl, inr, append_assoc, append-nil, length-append, length-take, length-drop}
+use Rattle.std.proofs.Common.{◌≡◌, ℕ, zero, suc, ◌+◌, ◌-◌, ◌<◌, ◌≤◌, List, [], ◌∷◌, ◌++◌, length, take, drop, replicate, map, Bool, true, false, cond, ltb, leb, ◌||◌, ◌&&◌, Some, None, refl, sym, ap, subst, ◌∙◌, arith, ◌⊎◌, inl, inr, append_assoc, append-nil, length-append, length-take, length-drop}
 use Rattle.std.specs.List.{slice_get, range_with_len, count_by, sum_by, All, AllByRecursion}
 use Rattle.std.specs.Option.{option_map}
 use Rattle.std.proofs.Math.Bool.{or-true, or-false}
 use Rattle.std.proofs.Math.Seq.{take-append_seam, drop-append_seam}
 use Rattle.std.proofs.lemmas.Bool.{cases_lt, lt-ltb, le-ltb, le-leb, lt-leb, and_right, false≢true}
-use Rattle.std.proofs.lemmas.Option.{slice_get-map, slice_get-get_or, unwrap_or-slice_get}
-use Rattle.std.proofs.lemmas.List.{same_lists, length-replicate, take-append-drop}
+use Rattle.std.proofs.lemmas.Option.{slice_get-map, slice_get-get_or}
+use Rattle.std.proofs.lemmas.List.{length-replicate, take-append-drop}
 use Rattle.std.proofs.lemmas.List.FromFn.{length-range_with_len, get_or-range_with_len, length-map-range_with_len}
 use Rattle.std.proofs.lemmas.List.Sums.{sum_by-cons}
 use Rattle.std.proofs.lemmas.List.Elements.{recursion_from_All}
@@ -16,7 +16,7 @@ use Rattle.sector_model.specs.VolumeContents.{with_found}
 use Rattle.sector_model.specs.LooseRuns.{flags_of, RunsAreUnique, LooseRunsCount, LooseRunsGrow, NoLooseRuns}
 use Rattle.sector_model.specs.declared.run.Run.{Run}
 use Rattle.sector_model.specs.declared.sector.Sector.{Sector}
-use Rattle.basics.proofs.ItemAt.{slice_get-replicate}
+use Rattle.basics.proofs.ItemAt.{slice_get-replicate, same_items}
 use Rattle.basics.proofs.Replaced.{length-replaced, replaced-before, replaced-within, replaced-behind}
 use Rattle.sector_model.proofs.Spacing.{none_before, none_in_gap, in_first, past_first, from_earlier}
 use Rattle.sector_model.proofs.NextRun.{run_is, true_false}
@@ -259,10 +259,6 @@ flag-at n runs k less =
 length-flags : (n : ℕ) (runs : List Run) → length (flags_of n runs) ≡ n
 length-flags n runs = length-map-range_with_len (in_runs runs) 0 n
 
-same_flags : (xs ys : List Bool) → length xs ≡ length ys → ((s : ℕ) → s < length xs → slice_get xs s ≡ slice_get ys s) → xs ≡ ys
-same_flags xs ys long same =
-    same_lists xs ys long (λ k x less. sym (unwrap_or-slice_get xs k x) ∙ ap (λ (o : Option Bool). unwrap_or o x) (same k less) ∙ unwrap_or-slice_get ys k x)
-
 grown-at : (n : ℕ) (loose new : List Run) (first count k : ℕ) → first + count ≤ n → k < n
     → ((s : ℕ) → in_runs new s ≡ (in_runs loose s || has s (record { first = first; count = count })))
     → slice_get (flags_of n new) k ≡ slice_get (replaced (flags_of n loose) first (replicate count true)) k
@@ -292,7 +288,7 @@ loose_runs_grow sectors loose new first written fits grown =
     let room : first + length (replicate count true) ≤ length (flags_of n loose) = omega (arith, fits, long, length-flags n loose) in
     let kept : length (replaced sectors first written) ≡ n = length-replaced sectors written first fits in
     let same : flags_of n new ≡ replaced (flags_of n loose) first (replicate count true) =
-    same_flags (flags_of n new) (replaced (flags_of n loose) first (replicate count true))
+    same_items (flags_of n new) (replaced (flags_of n loose) first (replicate count true))
     (length-flags n new ∙ sym (length-replaced (flags_of n loose) (replicate count true) first room ∙ length-flags n loose))
     (λ k less. grown-at n loose new first count k fits (omega (arith, less, length-flags n new)) grown) in
     ap (λ (l : List Bool). record { sectors = replaced sectors first written; loose = l }) (ap (λ k. flags_of k new) kept ∙ same)

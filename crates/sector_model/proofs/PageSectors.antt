@@ -1,21 +1,18 @@
 -- Which sectors a page of areas has.
-use Rattle.std.proofs.Common.{◌≡◌, ℕ, ◌+◌, ◌<◌, ◌≤◌, Bool, true, false, leb, ◌&&◌, ◌||◌, List, [], ◌∷◌, refl, sym, ap, ◌∙◌, arith, inl, inr}
+use Rattle.std.proofs.Common.{◌≡◌, ℕ, ◌+◌, ◌<◌, ◌≤◌, false, leb, ◌&&◌, ◌||◌, List, [], ◌∷◌, refl, sym, ap, ◌∙◌, arith, inl, inr}
 use Rattle.std.specs.List.{AllByRecursion}
 use Rattle.std.proofs.Math.Bool.{or-false, and-true}
 use Rattle.std.proofs.lemmas.Bool.{cases_lt, lt-ltb, le-ltb, lt-leb, and_right}
 use Rattle.std.proofs.lemmas.Bool.Decides.{nat_tests}
 use Rattle.std.proofs.lemmas.List.Elements.{recursion_from_All}
 use Rattle.std.proofs.lemmas.List.Folds.{list_any-append}
+use Rattle.basics.proofs.Truth.{and_or}
 use Rattle.sector_model.specs.Run.{end_of, has, in_runs, from_sector}
 use Rattle.sector_model.specs.Page.{areas_from, page_from}
 use Rattle.sector_model.specs.Laws.{AreasFromAreExact, PagesAreExact}
 use Rattle.sector_model.specs.declared.run.Run.{Run}
 use Rattle.sector_model.proofs.PageLaws.{kept, dropped, page_then_rest}
 use Rattle.sector_model.proofs.PageWithin.{page_lies_within}
-
-and_or : (a b c : Bool) → ((a && b) || (a && c)) ≡ (a && (b || c))
-and_or true b c = refl
-and_or false b c = refl
 
 has-clipped : (r : Run) (start s : ℕ) → start < end_of r → has s (from_sector start r) ≡ (leb start s && has s r)
 has-clipped r start s past = grind (arith, nat_tests)

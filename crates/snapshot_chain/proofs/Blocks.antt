@@ -6,18 +6,13 @@ use Rattle.std.specs.Map.Iter.{deref_pair}
 use Rattle.std.proofs.Math.Bool.{or-false, and-false}
 use Rattle.std.proofs.lemmas.Bool.{cases_eq, eq-eqb, ne_eqb, false≢true, or_right}
 use Rattle.std.proofs.lemmas.List.Folds.{list_any-append}
-use Rattle.std.proofs.lemmas.Map.Lookups.{exact_unsigned}
-use Rattle.std.proofs.lemmas.Map.Views.{tells_apart}
-use Rattle.std.proofs.lemmas.Cmp.{eq_by_cmp_equiv}
-use Rattle.std.specs.Cmp.{nat_cmp_total}
-use Rattle.std.proofs.lemmas.Bool.{false_from_ne_true}
 use Rattle.snapshot_chain.specs.Page128.{PageState}
 use Rattle.std.proofs.lemmas.List.{take_more}
 use Rattle.std.specs.Option.{option_or}
 use Rattle.sector_model.specs.declared.sector.Sector.{Sector}
 use Rattle.snapshot_chain.specs.Layers.{found, has_found, blocks_in}
 use Rattle.sector_model.specs.Run.{runs_of, areas_of, in_blocks, block_count}
-use Rattle.sector_model.proofs.Among.{among_range as in_range}
+use Rattle.sector_model.proofs.Among.{at_is, among_range as in_range}
 use Rattle.sector_model.proofs.RunsOf.{runs_of-same}
 use Rattle.snapshot_chain.proofs.Touching.{any-or, either_found}
 use Rattle.snapshot_chain.proofs.Stacks.{found-append}
@@ -40,15 +35,6 @@ block_passed layer now was seen e b none before =
       | inl same ↦ ap (λ x. nat_eq b e.0.now && x) (ap (has_sector layer) same ∙ none) ∙ and-false (nat_eq b e.0.now)
       | inr other ↦ ap (λ x. x && has_sector layer b) (ne_eqb b e.0.now other)
     ]
-
-at_same : (k : ℕ) → is_at (nat_cmp k) k ≡ true
-at_same k = (eq_by_cmp_equiv nat_cmp_total).refl k
-
-pub at_is : (k b : ℕ) → is_at (nat_cmp k) b ≡ eqb k b
-at_is k b = elim (cases_eq k b) [
-  | inl same ↦ ap (λ (n : ℕ). is_at (nat_cmp k) n) (sym same) ∙ at_same k ∙ sym (eq-eqb k b same)
-  | inr other ↦ false_from_ne_true (is_at (nat_cmp k) b) (λ is. other (tells_apart exact_unsigned k b is)) ∙ sym (ne_eqb k b other)
-]
 
 pub block_added : (layer : LayerState) (now was new : Bool) (seen : List Entry) (e : Entry) (b : ℕ) → has_sector layer e.0.now ≡ true → now ≡ (was || among layer seen b)
     → new ≡ cond (is_at (nat_cmp e.0.now) b) true now → new ≡ (was || among layer (seen ++ e ∷ []) b)
@@ -107,10 +93,6 @@ has_push layers layer b =
 pub has_more : (layers : List LayerState) (i : ℕ) (layer : LayerState) (b : ℕ) → i < length layers → layer ≡ get_or layers i layer
     → has_found (take (i + 1) layers) b ≡ (has_found (take i layers) b || has_sector layer b)
 has_more layers i layer b less is = ap (λ (ls : List LayerState). has_found ls b) (take_more layers i layer less ∙ ap (λ (l : LayerState). take i layers ++ l ∷ []) (sym is)) ∙ has_push (take i layers) layer b
-
-pub in_set : (keys : List ℕ) (b : ℕ) → list_any (nat_eq b) keys ≡ list_any (is_at (nat_cmp b)) keys
-in_set [] b = refl
-in_set (k ∷ keys) b = rw (at_is b k, in_set keys b) refl
 
 -- a block that was found begins below the capacity
 has_page : (page : Option PageState) → list_any (λ k. is_some (sector_of page k)) (range_with_len 0 128) ≡ true → IsSome page

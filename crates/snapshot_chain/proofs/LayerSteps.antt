@@ -1,7 +1,7 @@
 -- Steps on a list of layers.
 use Rattle.std.proofs.Common.{◌≡◌, ℕ, zero, suc, ◌+◌, ◌<◌, ◌≤◌, List, [], ◌∷◌, length, set, get_or, Bool, true, false, cond, ◌&&◌, leb, nat_eq, Option, Some, None, Result, Ok, Err, length-set, sym, ap, subst, refl, ◌∙◌, arith}
 use Rattle.std.specs.List.{remove, position, AllByRecursion}
-use Rattle.std.specs.Result.{IsErrAnd, IfErr}
+use Rattle.std.specs.Result.{IfErr}
 use Rattle.basics.specs.Refusal.{IsRefusedBy, IsRefusedOr}
 use Rattle.sector_model.specs.declared.sector.Sector.{Sector}
 use Rattle.snapshot_chain.specs.declared.chain.ChainRefused.{ChainRefused}
@@ -12,16 +12,13 @@ use Rattle.snapshot_chain.specs.Kept.{state_of, AreIds}
 use Rattle.snapshot_chain.proofs.Keeping.{all-set, all-at, all-remove}
 use Rattle.snapshot_chain.proofs.States.{merged_state}
 use Rattle.std.proofs.lemmas.List.{get_or-set_same, get_or_default}
-use Rattle.std.proofs.lemmas.Bool.{leb-true, false≢true}
+use Rattle.std.proofs.lemmas.List.Edits.{length-remove}
+use Rattle.std.proofs.lemmas.Bool.{and_parts, leb-true, false≢true}
 use Rattle.snapshot_chain.specs.Layer.{LayerState, IsWithin, IsMerged}
 use Rattle.snapshot_chain.specs.Layers.{layer_at, MergedAt}
 
 pub fits : (c first count : ℕ) → (leb 1 count && leb (first + count) c) ≡ true → first + count ≤ c
-fits c first count is = leb-true (first + count) c (second (leb 1 count) (leb (first + count) c) is)
-  where
-    second : (a b : Bool) → (a && b) ≡ true → b ≡ true
-    second true b h = h
-    second false b h = absurd (false≢true h)
+fits c first count is = leb-true (first + count) c (and_parts (leb 1 count) (leb (first + count) c) is).1
 
 -- the layer behind the one that is taken out
 behind : (xs : List LayerState) (i : ℕ) → layer_at (remove xs i) i ≡ layer_at xs (suc i)
@@ -29,11 +26,6 @@ behind [] zero = refl
 behind [] (suc i) = refl
 behind (x ∷ xs) zero = refl
 behind (x ∷ xs) (suc i) = behind xs i
-
-pub length-remove : {X : Type 0} (xs : List X) (i : ℕ) → i < length xs → length (remove xs i) + 1 ≡ length xs
-length-remove [] i less = absurd (omega (arith, less))
-length-remove (x ∷ xs) zero less = omega arith
-length-remove (x ∷ xs) (suc i) less = omega (arith, length-remove xs i (omega (arith, less)))
 
 pub rest_long : (xs rest : List LayerState) (i : ℕ) → i + 1 < length xs → rest ≡ remove xs i → i < length rest
 rest_long xs rest i less cut = omega (arith, less, ap length cut, length-remove xs i (omega (arith, less)))
@@ -62,11 +54,6 @@ merged_at xs rest i lower upper new less cut low up merged within =
 
 pub element : (xs : List LayerState) (n m : ℕ) (x : LayerState) → n ≡ m → m < length xs → x ≡ get_or xs n x → x ≡ layer_at xs m
 element xs n m x same less is = is ∙ ap (λ (k : ℕ). get_or xs k x) same ∙ get_or_default xs m x [] less
-
-pub set_twice : (xs : List LayerState) (i : ℕ) (x y : LayerState) → set (set xs i x) i y ≡ set xs i y
-set_twice [] i x y = refl
-set_twice (z ∷ xs) zero x y = refl
-set_twice (z ∷ xs) (suc i) x y = ap (λ (ls : List LayerState). z ∷ ls) (set_twice xs i x y)
 
 -- ---- what a merge leaves
 
@@ -97,10 +84,6 @@ refuse_live false result is free = absurd (false≢true is)
 pub refuse_unknown : (T : Type 0) (live : Bool) → live ≡ false → IsRefusedOr {T = T} (cond live None (Some UnknownSnap)) NoMemory (Err UnknownSnap)
 refuse_unknown T true is = absurd (false≢true (sym is))
 refuse_unknown T false is = refl
-
-pub only_memory : {T : Type 0} (result : Result T ChainRefused) → IsErrAnd result (λ why. why ≡ NoMemory) → IfErr result (λ why. why ≡ NoMemory)
-only_memory (Ok answer) is = tt
-only_memory (Err why) is = is
 
 pub read_unknown : (T : Type 0) (chain : ChainState) (id : Option ℕ) (first count : ℕ) → contents_of id chain ≡ None → IsRefusedBy {T = T} (read_refusal chain id first count) (Err UnknownSnap)
 read_unknown T chain id first count none = rw none refl

@@ -7,6 +7,7 @@ use borrow.Rule.Slice.PartMut.{put_mid, post_of}
 use Rattle.std.proofs.lemmas.Bool.{false≢true, cases_lt, cases_eq, ne_eqb}
 use Rattle.snapshot_chain.proofs.Masks.{empty_none}
 use Rattle.basics.proofs.ItemAt.{slice_get-front, slice_get-back, slice_get-take}
+use Rattle.basics.proofs.Options.{or_none}
 use Rattle.std.proofs.lemmas.List.{drop_all, get_or_default}
 use Rattle.std.proofs.Math.Seq.{drop-cons}
 use Rattle.std.proofs.Math.Nat.{mul-suc}
@@ -16,7 +17,6 @@ use Rattle.snapshot_chain.specs.Page128.{PageState, sector_at}
 use Rattle.snapshot_chain.specs.Layer.{LayerState, slot_of, page_of, if_written, sector_of, sector_in}
 use Rattle.snapshot_chain.specs.Layers.{found, sector_found, layer_at}
 use Rattle.snapshot_chain.specs.Reading.{IsRead, TakesMissing}
-use Rattle.snapshot_chain.proofs.Options.{or_none}
 
 pub none_yet : (layers : List LayerState) (block offset : ℕ) (was : Bool) (read : Option Sector) → IsRead None was read → IsRead (found (drop (length layers) layers) block offset) was read
 none_yet layers block offset was read is =

@@ -10,7 +10,7 @@ use Rattle.std.proofs.lemmas.Nat.{ones_cat, one_shl, mod-pow-add, mod-mul-add, m
 use Rattle.std.proofs.lemmas.Nat.Bits.{bit_at_cat_low, bit_at_cat_high, bit_at_above, bit_at-lt, and_pow, bit_at-trailing_zeros}
 use Rattle.std.specs.Int.Bits.{or_shifted_r}
 use Rattle.std.proofs.lemmas.Bool.{cases_eq, cases_lt, eqb-true, eq-eqb, ne_eqb, or_right}
-use Rattle.basics.proofs.ItemAt.{slice_get-front, slice_get-last}
+use Rattle.basics.proofs.ItemAt.{slice_get-front, slice_get-last, slice_get-set_same, slice_get-set_other}
 use Rattle.sector_model.specs.declared.sector.Sector.{Sector}
 use Rattle.basics.specs.Bits.{has_bit}
 use Rattle.snapshot_chain.specs.Page128.{PageState, no_sectors, rank, sector_at, with_sector, IsPage, IsReplaced}
@@ -117,21 +117,6 @@ rank_apart m j k less set =
     let cut : m % 2 ^ k % 2 ^ j ≡ m % 2 ^ j = ap (λ n. m % 2 ^ n % 2 ^ j) at ∙ nested m (k - j) j in
     omega (arith, rank_less (m % 2 ^ k) j low, ap count_ones cut)
 
--- the item that was set, and the others
-pub set_same : {X : Type 0} (xs : List X) (i : ℕ) (x : X) → i < length xs
-    → slice_get (set xs i x) i ≡ Some x
-set_same [] i x less = absurd (omega (arith, less))
-set_same (y ∷ xs) zero x less = refl
-set_same (y ∷ xs) (suc i) x less = set_same xs i x (omega (arith, less))
-
-pub set_other : {X : Type 0} (xs : List X) (i j : ℕ) (x : X) → i ≢ j
-    → slice_get (set xs i x) j ≡ slice_get xs j
-set_other [] i j x apart = refl
-set_other (y ∷ xs) zero zero x apart = absurd (apart refl)
-set_other (y ∷ xs) zero (suc j) x apart = refl
-set_other (y ∷ xs) (suc i) zero x apart = refl
-set_other (y ∷ xs) (suc i) (suc j) x apart = set_other xs i j x (λ same. apart (ap suc same))
-
 here_some : {X : Type 0} (xs : List X) (i : ℕ) (x : X) → i < length xs → option_map (λ was. x) (slice_get xs i) ≡ Some x
 here_some [] i x less = absurd (omega (arith, less))
 here_some (y ∷ xs) zero x less = refl
@@ -142,11 +127,11 @@ pub replaced_sector : (page : PageState) (offset : ℕ) (sector : Sector) → le
 replaced_sector page offset sector long has k within = elim (cases_eq k offset) [
   | inl same ↦
       let less : rank page.mask offset < length page.sectors = omega (arith, rank_less page.mask offset (bit_is_set page.mask offset has), long) in
-      rw (same, has, eq-eqb offset offset refl) (set_same page.sectors (rank page.mask offset) sector less ∙ sym (here_some page.sectors (rank page.mask offset) sector less))
+      rw (same, has, eq-eqb offset offset refl) (slice_get-set_same page.sectors (rank page.mask offset) sector less ∙ sym (here_some page.sectors (rank page.mask offset) sector less))
   | inr other ↦
       rw (ne_eqb k offset other)
       (chosen (has_bit page.mask k) (slice_get (set page.sectors (rank page.mask offset) sector) (rank page.mask k)) (slice_get page.sectors (rank page.mask k)) None
-      (λ set_k. set_other page.sectors (rank page.mask offset) (rank page.mask k) sector (apart k other set_k)))
+      (λ set_k. slice_get-set_other page.sectors (rank page.mask offset) (rank page.mask k) sector (apart k other set_k)))
 ]
   where
     apart : (k : ℕ) → k ≢ offset → has_bit page.mask k ≡ true → rank page.mask offset ≢ rank page.mask k

@@ -3,18 +3,9 @@ use Rattle.std.proofs.Common.{◌≡◌, Option, Some, None, IsSome, refl}
 use Rattle.std.proofs.lemmas.Bool.{false≢true}
 use Rattle.std.specs.Option.{option_or, option_map, unwrap_or}
 
-pub or_none : {X : Type 0} (o : Option X) → option_or o None ≡ o
-or_none None = refl
-or_none (Some x) = refl
-
 pub or_assoc : {X : Type 0} (a b c : Option X) → option_or (option_or a b) c ≡ option_or a (option_or b c)
 or_assoc None b c = refl
 or_assoc (Some x) b c = refl
-
--- a missing value has no missing part
-pub neither : {X : Type 0} (a b : Option X) → option_or a b ≡ None → (a ≡ None) × (b ≡ None)
-neither None b none = (refl, none)
-neither (Some x) b none = absurd (cc)
 
 -- what stands is written over, and stands where something was written
 pub over_both : {X : Type 0} (a b : Option X) → option_map (unwrap_or a) (option_or a b) ≡ option_or a b

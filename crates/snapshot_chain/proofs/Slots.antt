@@ -1,7 +1,7 @@
 -- Slots of a layer, and the pages that are put there.
-use Rattle.std.proofs.Common.{◌≡◌, ◌≢◌, ℕ, ◌+◌, ◌-◌, ◌*◌, ◌<◌, ◌≤◌, List, [], length, Bool, true, false, cond, Option, Some, None, IsSome, Result, Ok, Err, sym, ap, refl, ◌∙◌, arith, inl, inr, ◌⊎◌}
+use Rattle.std.proofs.Common.{◌≡◌, ◌≢◌, ℕ, ◌+◌, ◌-◌, ◌*◌, ◌<◌, ◌≤◌, List, [], length, Bool, true, false, cond, Option, Some, None, IsSome, sym, ap, refl, ◌∙◌, arith, inl, inr, ◌⊎◌}
 use Rattle.std.specs.Option.{option_or, option_map, unwrap_or}
-use Rattle.std.specs.Prelude.{◌==◌, OnErr}
+use Rattle.std.specs.Prelude.{◌==◌}
 use Rattle.std.proofs.lemmas.Bool.{cases_eq, cases_lt, eq-eqb, ne_eqb, false≢true}
 use Rattle.sector_model.specs.declared.sector.Sector.{Sector}
 use Rattle.snapshot_chain.specs.Page128.{PageState, no_sectors, sector_at, run_at, IsRewritten, IsGrown}
@@ -9,12 +9,8 @@ use Rattle.snapshot_chain.specs.Layer.{LayerState, slot_of, sector_of, sector_in
 use Rattle.std.proofs.lemmas.Option.{slice_get_past}
 use Rattle.snapshot_chain.proofs.Writes.{run_from}
 use Rattle.snapshot_chain.proofs.Masks.{empty_none}
-use Rattle.snapshot_chain.proofs.Options.{or_none, neither, over_both, over_some}
-
--- what is said of an error alone
-pub on_err : {T E : Type 0} (P : Type 0) (result : Result T E) → P → OnErr result P
-on_err P (Ok answer) is = tt
-on_err P (Err why) is = is
+use Rattle.basics.proofs.Options.{or_none, neither}
+use Rattle.snapshot_chain.proofs.Options.{over_both, over_some}
 
 -- ---- slots that were added
 

@@ -11,7 +11,8 @@ use Rattle.sector_model.specs.declared.sector.Sector.{Sector}
 use Rattle.snapshot_chain.specs.Layer.{LayerState, sector_in, IsMerged}
 use Rattle.snapshot_chain.specs.Chain.{Snapshot}
 use Rattle.snapshot_chain.specs.Layers.{found, sector_found, contents_in, has_found, blocks_in, snapshot_in, snapshots_in, layer_at}
-use Rattle.snapshot_chain.proofs.Options.{or_none, or_assoc}
+use Rattle.basics.proofs.Options.{or_none}
+use Rattle.snapshot_chain.proofs.Options.{or_assoc}
 
 -- both lists hold the same sectors
 pub record HoldsSame (xs ys : List LayerState) : Type 0 where

@@ -3,14 +3,13 @@ use Rattle.std.proofs.Common.{◌≡◌, ◌≢◌, ℕ, zero, suc, ◌+◌, ◌
 use Rattle.std.specs.List.{slice_get, All}
 use Rattle.std.proofs.lemmas.Bool.{cases_lt, cases_eq}
 use Rattle.std.proofs.lemmas.Option.{same_Some, slice_get_within, slice_get-get_or, get_or_from_slice_get}
-use Rattle.basics.proofs.ItemAt.{slice_get-front, slice_get-last}
+use Rattle.basics.proofs.ItemAt.{slice_get-front, slice_get-last, slice_get-set_same, slice_get-set_other}
 use Rattle.log_model.specs.declared.entry.Owner.{Owner}
 use Rattle.log_model.specs.declared.entry.Act.{Act}
 use Rattle.log_model.specs.declared.entry.Act.TheVariants.{Snap}
 use Rattle.log_model.specs.declared.entry.Entry.{Entry}
 use Rattle.log_model.specs.Legal.{Legal, Disks, capacity_of, taken}
 use Rattle.log_model.specs.Refusals.{is_live}
-use Rattle.snapshot_chain.proofs.Masks.{set_same, set_other}
 use Rattle.source_disk.specs.SourceDisk.{SourceDiskState, machine_of, number_of, capacity_of as size_of, has_freeze_room, fresh, HasMergeRoom, IsSameButRoom}
 use Rattle.source_disk.specs.StandsFor.{StandsFor, Takes, concerns}
 use Rattle.source_disk.specs.Laws.{RoomIsNoPart, NextIsFree, OthersPass, StandingHolds}
@@ -37,7 +36,7 @@ pub one_more : (R : SourceDiskState → SourceDiskState → Type 0) (n : ℕ) (o
 one_more R n old new item now stepped less changed = record {
   as_many = length-set new n now ∙ stepped.as_many;
   done = λ k o d before at_old at_new. by k o d (cases_eq k n) before at_old at_new;
-  rest = λ k le. set_other new n k now (λ e. absurd (omega (arith, e))) ∙ stepped.rest k (omega arith);
+  rest = λ k le. slice_get-set_other new n k now (λ e. absurd (omega (arith, e))) ∙ stepped.rest k (omega arith);
 }
   where
     inside : n < length new
@@ -47,9 +46,9 @@ one_more R n old new item now stepped less changed = record {
     by k o d (inl same) before at_old at_new =
         let here : slice_get new n ≡ Some o = stepped.rest n (omega arith) ∙ ap (slice_get old) (sym same) ∙ at_old in
         let was : get_or new n item ≡ o = get_or_from_slice_get new n o item here in
-        let is : now ≡ d = same_Some now d (sym (set_same new n now inside) ∙ ap (slice_get (set new n now)) (sym same) ∙ at_new) in
+        let is : now ≡ d = same_Some now d (sym (slice_get-set_same new n now inside) ∙ ap (slice_get (set new n now)) (sym same) ∙ at_new) in
         subst (λ (x : SourceDiskState). R x d) was (subst (R (get_or new n item)) is changed)
-    by k o d (inr other) before at_old at_new = stepped.done k o d (omega (arith, before, other)) at_old (sym (set_other new n k now (λ e. other (sym e))) ∙ at_new)
+    by k o d (inr other) before at_old at_new = stepped.done k o d (omega (arith, before, other)) at_old (sym (slice_get-set_other new n k now (λ e. other (sym e))) ∙ at_new)
 
 -- the disk that comes next is as it was
 pub next_is : (R : SourceDiskState → SourceDiskState → Type 0) (n : ℕ) (old new : List SourceDiskState) (item : SourceDiskState) → Stepped R n old new → n < length old → get_or new n item ≡ get_or old n item
@@ -135,12 +134,12 @@ still_one no_part n disks item now less same machine capacities log are = record
   where
     by : (k : ℕ) (d : SourceDiskState) → slice_get (set disks n now) k ≡ Some d → (k ≡ n) ⊎ (k ≢ n) → IsDisk machine k (capacity_of capacities k) log d
     by k d at (inl here) =
-        let is : now ≡ d = same_Some now d (sym (set_same disks n now less) ∙ ap (slice_get (set disks n now)) (sym here) ∙ at) in
+        let is : now ≡ d = same_Some now d (sym (slice_get-set_same disks n now less) ∙ ap (slice_get (set disks n now)) (sym here) ∙ at) in
         let old = are.each n (get_or disks n item) (slice_get-get_or disks n item less) in
         subst (λ (x : SourceDiskState). IsDisk machine k (capacity_of capacities k) log x) is
         (subst (λ (j : ℕ). IsDisk machine j (capacity_of capacities j) log now) (sym here)
         (place_kept machine n (capacity_of capacities n) log log (get_or disks n item) now (same_place_but_room (get_or disks n item) now same) old (no_part (get_or disks n item) now log same old.stands)))
-    by k d at (inr other) = are.each k d (sym (set_other disks n k now (λ e. other (sym e))) ∙ at)
+    by k d at (inr other) = are.each k d (sym (slice_get-set_other disks n k now (λ e. other (sym e))) ∙ at)
 
 pub still_then : (a b c : List SourceDiskState) → StillDisks a b → StillDisks b c → StillDisks a c
 still_then a b c first second machine capacities log are = second machine capacities log (first machine capacities log are)
@@ -177,13 +176,13 @@ one_took pass act n disks item now less took others machine capacities log who a
 
     by : (k : ℕ) (d : SourceDiskState) → slice_get (set disks n now) k ≡ Some d → (k ≡ n) ⊎ (k ≢ n) → IsDisk machine k (capacity_of capacities k) more d
     by k d at (inl here) =
-        let is : now ≡ d = same_Some now d (sym (set_same disks n now less) ∙ ap (slice_get (set disks n now)) (sym here) ∙ at) in
+        let is : now ≡ d = same_Some now d (sym (slice_get-set_same disks n now less) ∙ ap (slice_get (set disks n now)) (sym here) ∙ at) in
         let old = are.each n (get_or disks n item) (slice_get-get_or disks n item less) in
         subst (λ (x : SourceDiskState). IsDisk machine k (capacity_of capacities k) more x) is
         (subst (λ (j : ℕ). IsDisk machine j (capacity_of capacities j) more now) (sym here)
         (place_kept machine n (capacity_of capacities n) log more (get_or disks n item) now took.place old (took.takes log who old.stands)))
     by k d at (inr other) =
-        let old = are.each k d (sym (set_other disks n k now (λ e. other (sym e))) ∙ at) in
+        let old = are.each k d (sym (slice_get-set_other disks n k now (λ e. other (sym e))) ∙ at) in
         let unconcerned : concerns (number_of d) act ≡ false = ap (λ j. concerns j act) old.numbered ∙ others k other in
         place_kept machine k (capacity_of capacities k) log more d d (record { machine = refl; number = refl; size = refl }) old (pass d act unconcerned log who old.stands)
 

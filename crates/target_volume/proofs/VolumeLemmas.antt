@@ -1,12 +1,8 @@
 -- What a failed call leaves of a volume in memory, as a volume.
-use Rattle.std.proofs.Common.{◌≡◌, ℕ, ◌≤◌, Result, Ok, Err, OnErr, ap, refl, sym, subst, arith}
+use Rattle.std.proofs.Common.{◌≡◌, ℕ, ◌≤◌, ap, refl, sym, subst, arith}
 use Rattle.basics.specs.Faults.{counted_by, last_count}
 use Rattle.target_volume.specs.MemVolume.{MemVolumeState, volume_state, held_broken}
 use Rattle.target_volume.specs.Volume.{Breaks}
-
-pub on_err_map : {T E : Type 0} {P Q : Type 0} (r : Result T E) → (P → Q) → OnErr r P → OnErr r Q
-on_err_map (Ok x) f h = tt
-on_err_map (Err e) f h = f h
 
 -- a write or a zeroing that failed
 pub breaks_by : (old new : MemVolumeState) (first count : ℕ)

@@ -4,7 +4,8 @@ use Rattle.std.proofs.lemmas.Grind.{common_steps}
 use Rattle.edge_traits.specs.Disk.{WhereTold, IsBrokenWrite, after_write, after_cut}
 use Rattle.journal.specs.Opening.{empty_file}
 use Rattle.journal.specs.declared.format.TheConstants.{EMPTY_BYTES}
-use Rattle.journal.proofs.Results.{on_err, on_err_or}
+use Rattle.basics.proofs.Results.{on_err}
+use Rattle.journal.proofs.Results.{on_err_or}
 use Rattle.journal.proofs.OpenSteps.{write_few, sync_few}
 use Rattle.journal.proofs.device.create.Goals as goal
 
@@ -16,7 +17,7 @@ returns-in_err-or-2-clause-cut g c =
     let broken : WhereTold (IsBrokenWrite 0 EMPTY_BYTES)
     (g.D.Disk.state c.cut.new.self).contents (g.D.Disk.state c.write_at.new.self).contents =
     grind (arith, common_steps, c.write_at.ensures.broken, c.empty_file.ensures) in
-    on_err _ _ (write_few _ _ _ EMPTY_BYTES EMPTY_BYTES (omega arith) c.requires.settled c.requires.short cut broken)
+    on_err _ (write_few _ _ _ EMPTY_BYTES EMPTY_BYTES (omega arith) c.requires.settled c.requires.short cut broken)
 
 pub returns-clause-cut : goal.returns-clause-cut
 returns-clause-cut g c =

@@ -5,7 +5,8 @@ use Rattle.std.proofs.lemmas.List.{take_all}
 use Rattle.std.proofs.lemmas.Map.Keys.{IsStrictlyIncreasing-from_sorted}
 use Rattle.snapshot_chain.specs.Layer.{LayerState, has_sector}
 use Rattle.snapshot_chain.specs.Layers.{has_found}
-use Rattle.snapshot_chain.proofs.Blocks.{has_more, in_set}
+use Rattle.sector_model.proofs.Among.{in_set}
+use Rattle.snapshot_chain.proofs.Blocks.{has_more}
 use Rattle.snapshot_chain.proofs.layers.blocks_of.Goals as goal
 
 pub loop-layer-preserved : goal.loop-layer-preserved

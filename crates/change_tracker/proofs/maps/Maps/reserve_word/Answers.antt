@@ -1,8 +1,9 @@
 use Rattle.std.proofs.Common.{◌≢◌, subst, sym, refl, ap, bit_and, w64}
 use Rattle.std.specs.Int.{bit_not}
+use Rattle.std.proofs.lemmas.Result.{on_ok_weaker}
 use Rattle.change_tracker.specs.declared.maps.Maps.{Maps}
 use Rattle.change_tracker.specs.Touches.{TouchState, HasSame, HasRoom}
-use Rattle.change_tracker.proofs.Marking.{Told, word_room, on_ok}
+use Rattle.change_tracker.proofs.Marking.{Told, word_room}
 use Rattle.change_tracker.proofs.maps.Maps.reserve_word.Goals as goal
 use Rattle.change_tracker.proofs.maps.Maps.reserve_word.Goals.{then-bits-known-ne0+in_ok-reserve, else-bits-known-ne0}
 
@@ -21,5 +22,6 @@ returns-clause-room c =
       | then-bits-known-ne0+in_ok-reserve w ↦ λ _. subst Q (sym (ap (λ (m : Maps). m.first) w.self-is)) w.in_ok-reserve.ensures.room
       | else-bits-known-ne0 w ↦ λ some. absurd (some w.if-bits-known-ne0.false)
     ]) in
-    on_ok c.reserve-2.result c.reserve-2.ensures.room
+    on_ok_weaker c.reserve-2.result
     (λ room. word_room c.args.self.now c.if-bits-known-ne0.self.first c.reserve-2.new.self c.args.run c.args.freezes c.args.word c.bits_of-bits.result c.known.result told same first room)
+    c.reserve-2.ensures.room

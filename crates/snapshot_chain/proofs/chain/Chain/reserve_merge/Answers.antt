@@ -1,9 +1,10 @@
 -- The room is made beside the layers; what the chain holds stays.
 use Rattle.std.proofs.Common.{◌≡◌, nat_eq, Some, None, Ok, is_some, sym, ap, ◌∙◌}
 use Rattle.std.specs.List.{position}
+use Rattle.basics.proofs.Results.{if_err}
 use Rattle.snapshot_chain.specs.Chain.{snapshot_of}
 use Rattle.snapshot_chain.proofs.States.{live_in}
-use Rattle.snapshot_chain.proofs.LayerSteps.{refuse_live, refuse_unknown, only_memory}
+use Rattle.snapshot_chain.proofs.LayerSteps.{refuse_live, refuse_unknown}
 use Rattle.snapshot_chain.proofs.chain.Chain.reserve_merge.Goals as goal
 
 pub returns-in_default-clause-refused : goal.returns-in_default-clause-refused
@@ -29,4 +30,4 @@ returns-in_err-pages-clause-refused c =
     let at : position (nat_eq c.args.id) c.self.inside.ids.items ≡ Some c.in-Some.index = rw c.as_slice.ensures.value at (sym c.position_of.ensures ∙ c.in-Some.is) in
     refuse_live (is_some (snapshot_of c.args.id c.args.self.now)) c.from_residual.result
     (rw (← c.self.view_is) (live_in c.self.inside.capacity c.args.id c.self.inside.ids.items c.self.inside.layers.items c.self.invariant.long ∙ ap is_some at))
-    (only_memory c.from_residual.result c.from_residual.ensures.1)
+    (if_err _ c.from_residual.result c.from_residual.ensures.1)

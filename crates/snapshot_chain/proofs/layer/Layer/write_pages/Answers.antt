@@ -1,11 +1,11 @@
 -- The pages that need memory are put, and the rest is written over.
-use Rattle.snapshot_chain.specs.Layer.{HasSame}
-use Rattle.snapshot_chain.proofs.Slots.{on_err, slots_same, slots_within, written, written_within}
+use Rattle.basics.proofs.Results.{on_err}
+use Rattle.snapshot_chain.proofs.Slots.{slots_same, slots_within, written, written_within}
 use Rattle.snapshot_chain.proofs.layer.Layer.write_pages.Goals as goal
 
 pub returns-in_err-make_slots-clause-err : goal.returns-in_err-make_slots-clause-err
 returns-in_err-make_slots-clause-err c =
-    on_err (HasSame c.args.self.now c.make_slots.new.self) c.from_residual-in_err-make_slots.result (slots_same c.in_ok-grown.grown c.args.self.now c.make_slots.new.self c.make_slots.ensures.added)
+    on_err c.from_residual-in_err-make_slots.result (slots_same c.in_ok-grown.grown c.args.self.now c.make_slots.new.self c.make_slots.ensures.added)
 
 pub returns-in_err-make_slots-clause-within : goal.returns-in_err-make_slots-clause-within
 returns-in_err-make_slots-clause-within c = λ most le was. slots_within most c.in_ok-grown.grown c.args.self.now c.make_slots.new.self c.make_slots.ensures.added (c.in_ok-grown.ensures.within most le) was
