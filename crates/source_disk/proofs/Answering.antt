@@ -30,7 +30,8 @@ use Rattle.source_disk.specs.StandsFor.{StandsFor}
 use Rattle.source_disk.specs.Told.{contents_told, allocated_told, id_told, changes_told}
 use Rattle.source_disk.specs.Refusals.{read_refusal, snapshot_refusal, id_refusal, query_refusal}
 use Rattle.source_disk.proofs.Steps as steps
-use Rattle.source_disk.proofs.Taking.{pushed_step, on_ok}
+use Rattle.std.proofs.lemmas.Result.{on_ok_weaker}
+use Rattle.source_disk.proofs.Taking.{pushed_step}
 use Rattle.source_disk.proofs.Holding.{IsTold, live_as, present_as, told_as}
 
 -- ---- what is read
@@ -40,13 +41,13 @@ read_as : {T : Type 0} (d : SourceDiskState) (log : List Entry) (s first count :
     → OnOk result (IfSome (option_map (λ x. x.contents) o) (λ xs. buf ≡ slice_range xs first (first + count)))
     → OnOk result (buf ≡ slice_range (contents_told (Some s) d log) first (first + count))
 read_as d log s first count buf result None rest is refused ok = rw refused tt
-read_as d log s first count buf result (Some x) rest is refused ok = on_ok result ok (λ same. same ∙ ap (λ (xs : List Sector). slice_range xs first (first + count)) is.contents)
+read_as d log s first count buf result (Some x) rest is refused ok = on_ok_weaker result (λ same. same ∙ ap (λ (xs : List Sector). slice_range xs first (first + count)) is.contents) ok
 
 pub read_told : {T : Type 0} (d : SourceDiskState) (id : Option ℕ) (first count : ℕ) (buf : List Sector) (result : Result T ChainRefused) (log : List Entry) → StandsFor d log
     → IsRefusedBy (read_refusal id first count d) result → OnOk result (IfSome (contents_of id d) (λ xs. buf ≡ slice_range xs first (first + count)))
     → OnOk result (buf ≡ slice_range (contents_told id d log) first (first + count))
 read_told d None first count buf result log stands refused ok =
-    on_ok result ok (λ same. same ∙ ap (λ (xs : List Sector). slice_range xs first (first + count)) (present_as d log stands))
+    on_ok_weaker result (λ same. same ∙ ap (λ (xs : List Sector). slice_range xs first (first + count)) (present_as d log stands)) ok
 read_told d (Some s) first count buf result log stands refused ok =
     read_as d log s first count buf result (snapshot_of s d.chain) (chain.write_refusal d.chain first count) (told_as d log s stands) refused ok
 

@@ -3,6 +3,7 @@ use Rattle.std.proofs.Common.{◌≡◌, ℕ, ◌+◌, ◌<◌, ◌≤◌, List,
 use Rattle.std.specs.Option.{option_map, IsSomeAnd}
 use Rattle.std.specs.List.{All, cons_option}
 use Rattle.std.proofs.lemmas.Bool.{false≢true}
+use Rattle.std.proofs.lemmas.Option.{IfSome_then}
 use Rattle.std.proofs.lemmas.List.{append-nil}
 use Rattle.std.proofs.lemmas.List.Elements.{filter_map-append, All-push}
 use Rattle.std.proofs.lemmas.List.Sums.{sum_by-append, count_by-le-length}
@@ -39,12 +40,8 @@ pub record IsTold (d : SourceDiskState) (log : List Entry) (s : ℕ) (snapshot :
   pub contents : snapshot.contents ≡ contents_told (Some s) d log
   pub areas : areas_of (capacity_of d) snapshot.blocks ≡ allocated_told s d log
 
-if_some : {X : Type 0} {P Q : X → Type 0} (o : Option X) → IfSome o P → ((x : X) → P x → Q x) → IfSome o Q
-if_some None is more = tt
-if_some (Some x) is more = more x is
-
 pub told_as : (d : SourceDiskState) (log : List Entry) (s : ℕ) → StandsFor d log → IfSome (snapshot_of s d.chain) (IsTold d log s)
-told_as d log s stands = if_some (snapshot_of s d.chain) (stands.chain.frozen s) (λ x is. record {
+told_as d log s stands = IfSome_then (snapshot_of s d.chain) (stands.chain.frozen s) (λ x is. record {
   contents = is.contents ∙ frozen_told (capacity_of d) s (number_of d) log;
   areas = ap (areas_of (capacity_of d)) is.blocks ∙ areas_told (capacity_of d) s (number_of d) log;
 })

@@ -1,5 +1,5 @@
 -- What a disk that stands for a log stands for after one entry more, and that room is no part of it.
-use Rattle.std.proofs.Common.{◌≡◌, ℕ, ◌≤◌, List, [], ◌∷◌, ◌++◌, length, Bool, true, false, ◌||◌, cond, eqb, Option, Some, None, is_some, Result, Ok, Err, OnOk, subst, sym, ap, refl, ◌∙◌, arith}
+use Rattle.std.proofs.Common.{◌≡◌, ℕ, ◌≤◌, List, [], ◌∷◌, ◌++◌, length, Bool, true, false, ◌||◌, cond, eqb, Option, Some, None, is_some, subst, sym, ap, refl, ◌∙◌, arith}
 use Rattle.std.specs.List.{cons_option}
 use Rattle.std.proofs.lemmas.Bool.{eq-eqb, false≢true, or_parts}
 use Rattle.std.proofs.lemmas.List.{append-nil}
@@ -138,8 +138,3 @@ module _ (chain_room : chain_laws.RoomIsNoPart) (tracker_room : tracker_laws.Roo
   room_is_no_part old new log same stands =
       let P : SourceDiskState → Type 0 = λ d. StandsFor d log in
       filled new log (subst P (sym same) (emptied old log stands))
-
--- what follows from a fact of an accepted call
-pub on_ok : {T E : Type 0} {P Q : Type 0} (result : Result T E) → OnOk result P → (P → Q) → OnOk result Q
-on_ok (Ok answer) is more = more is
-on_ok (Err why) is more = tt

@@ -1,9 +1,10 @@
 -- Outside the areas that were touched before a snapshot nothing was written by then.
-use Rattle.std.proofs.Common.{◌≡◌, ℕ, ◌<◌, replicate, Bool, false, ◌&&◌, true, ltb, Some, sym, ap, ◌∙◌, arith}
+use Rattle.std.proofs.Common.{◌≡◌, ℕ, ◌<◌, replicate, false, ltb, Some, sym, ap, ◌∙◌, arith}
 use Rattle.std.specs.List.{slice_get}
-use Rattle.std.proofs.lemmas.Bool.{lt-ltb, false≢true}
+use Rattle.std.proofs.lemmas.Bool.{lt-ltb}
 use Rattle.std.proofs.lemmas.Option.{slice_get-get_or}
 use Rattle.std.proofs.lemmas.List.{get_or-replicate, length-replicate}
+use Rattle.basics.proofs.Truth.{second_fails}
 use Rattle.sector_model.specs.Sector.{zero_sector}
 use Rattle.sector_model.specs.Run.{in_blocks}
 use Rattle.sector_model.specs.declared.sector.Sector.{Sector}
@@ -19,13 +20,9 @@ zero_at c sector less =
     slice_get-get_or (replicate c zero_sector) sector zero_sector (let long = length-replicate c zero_sector in omega (arith, long, less))
     ∙ ap (λ (x : Sector). Some x) (get_or-replicate c sector zero_sector zero_sector less)
 
-second : (a b : Bool) → a ≡ true → (a && b) ≡ false → b ≡ false
-second true b is none = none
-second false b is none = absurd (false≢true is)
-
 pub untouched_is_zero : UntouchedIsZero
 untouched_is_zero disks d log s sector legal has less none =
     let blocks = touched (capacity_of d) (number_of d) 0 (mark s log) log in
-    let outside : in_blocks blocks sector ≡ false = second (ltb sector (capacity_of d)) (in_blocks blocks sector) (lt-ltb sector (capacity_of d) less) (sym (in_runs_of (in_blocks blocks) (capacity_of d) sector) ∙ none) in
+    let outside : in_blocks blocks sector ≡ false = second_fails (ltb sector (capacity_of d)) (in_blocks blocks sector) (lt-ltb sector (capacity_of d) less) (sym (in_runs_of (in_blocks blocks) (capacity_of d) sector) ∙ none) in
     untouched_stays disks (capacity_of d) (number_of d) 0 (mark s log) log sector legal has (omega arith) outside
     ∙ zero_at (capacity_of d) sector less
