@@ -1,5 +1,5 @@
 -- What a call of a machine leaves of its log and of its disks.
-use Rattle.std.proofs.Common.{◌≡◌, ℕ, ◌+◌, List, [], ◌∷◌, ◌++◌, length, take, drop, Bool, true, false, cond, ◌&&◌, leb, Option, Some, None, Bor, Result, Ok, Err, is_ok, is_err, OnOk, OnErr, IfOk, MatchResult, subst, sym, ap, refl, ◌∙◌, arith}
+use Rattle.std.proofs.Common.{◌≡◌, ℕ, ◌+◌, List, [], ◌∷◌, ◌++◌, length, take, drop, Bool, true, false, cond, ◌&&◌, leb, Option, Some, None, Bor, Result, Ok, Err, is_ok, OnOk, IfOk, MatchResult, subst, sym, ap, refl, ◌∙◌, arith}
 use Rattle.std.specs.List.{slice_get}
 use Rattle.std.specs.Slice.{IsItemAt}
 use Rattle.std.proofs.lemmas.Bool.{false≢true, lt-ltb}
@@ -25,14 +25,6 @@ use Rattle.source_vm.proofs.FactLemmas.{entry}
 use Rattle.source_vm.specs.Disks.{AreDisks, IsSound, StillDisks, DisksTake}
 
 -- ---- results
-
-pub on_ok : {T E P : Type 0} (r : Result T E) → is_err r ≡ false → OnOk r P → P
-on_ok (Ok x) is h = h
-on_ok (Err e) is h = absurd (false≢true (sym is))
-
-pub on_err : {T E P : Type 0} (r : Result T E) → is_err r ≡ true → OnErr r P → P
-on_err (Ok x) is h = absurd (false≢true is)
-on_err (Err e) is h = h
 
 pub when_ok : {T E P : Type 0} (r : Result T E) → is_ok r ≡ true → OnOk r P → P
 when_ok (Ok x) is h = h

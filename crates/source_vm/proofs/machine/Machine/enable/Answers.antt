@@ -6,7 +6,8 @@ use Rattle.log_model.proofs.Accepted.{enable_stands}
 use Rattle.source_disk.specs.SourceDisk.{SourceDiskState}
 use Rattle.source_vm.specs.Disks.{IsSound, DisksTake}
 use Rattle.source_vm.specs.MachineLog.{LogState}
-use Rattle.source_vm.proofs.MachineLemmas.{on_ok, sound_after, all_back}
+use Rattle.basics.proofs.Results.{where_ok}
+use Rattle.source_vm.proofs.MachineLemmas.{sound_after, all_back}
 use Rattle.source_vm.proofs.machine.Machine.enable.Goals as goal
 
 pub invariant_of-self-2 : goal.invariant_of-self-2
@@ -15,7 +16,7 @@ invariant_of-self-2 c =
     let disks : List SourceDiskState = c.self.inside.disks.items in
     let new : List SourceDiskState = c.enable_all.new.disks in
     let fits : FitsBehind (all_of log.capacities) log.entries c.args.who Enable = enable_stands log.capacities log.entries c.args.who (sym c.enable_refusal.ensures ∙ c.in_default.is) in
-    let roomy : c.reserve.new.self ≡ record log { room = true } = on_ok c.reserve.result (sym c.is_err.ensures.value ∙ c.if-is_err.false) c.reserve.ensures.ok in
+    let roomy : c.reserve.new.self ≡ record log { room = true } = where_ok c.reserve.result (sym c.is_err.ensures.value ∙ c.if-is_err.false) c.reserve.ensures.ok in
     let takes : DisksTake Enable disks new = subst (λ (xs : List SourceDiskState). DisksTake Enable xs new) c.deref_mut.ensures.value c.enable_all.ensures in
     let back : take c.self.inside.disks.len (new ++ drop (length new) disks) ≡ new =
     all_back c.self.inside.disks.len disks new (c.enable_all.auto.disks ∙ ap length c.deref_mut.ensures.value) (sym (ap length c.deref_mut.ensures.value) ∙ c.deref_mut.ensures.len) in

@@ -7,7 +7,8 @@ use Rattle.source_disk.specs.SourceDisk.{SourceDiskState}
 use Rattle.source_disk.proofs.Taking.{others_pass}
 use Rattle.source_vm.specs.MachineLog.{LogState}
 use Rattle.source_vm.proofs.DiskLemmas.{none_took}
-use Rattle.source_vm.proofs.MachineLemmas.{on_ok, sound_after}
+use Rattle.basics.proofs.Results.{where_ok}
+use Rattle.source_vm.proofs.MachineLemmas.{sound_after}
 use Rattle.source_vm.proofs.machine.Machine.power_off.Goals as goal
 
 pub invariant_of-self-2 : goal.invariant_of-self-2
@@ -15,7 +16,7 @@ invariant_of-self-2 c =
     let log : LogState = c.self.inside.log in
     let disks : List SourceDiskState = c.self.inside.disks.items in
     let fits : FitsBehind (all_of log.capacities) log.entries c.args.who Off = off_stands log.capacities log.entries c.args.who (sym c.power_off_refusal.ensures ∙ c.in_default.is) in
-    let roomy : c.reserve.new.self ≡ record log { room = true } = on_ok c.reserve.result (sym c.is_err.ensures.value ∙ c.if-is_err.false) c.reserve.ensures.ok in
+    let roomy : c.reserve.new.self ≡ record log { room = true } = where_ok c.reserve.result (sym c.is_err.ensures.value ∙ c.if-is_err.false) c.reserve.ensures.ok in
     sound_after c.self.inside.number log c.reserve.new.self c.push.new.self c.args.who Off disks disks roomy c.push.ensures fits c.self.invariant (none_took others_pass Off disks (λ k. refl))
 
 pub returns-clause-legal : goal.returns-clause-legal

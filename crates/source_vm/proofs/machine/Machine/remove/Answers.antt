@@ -13,7 +13,8 @@ use Rattle.source_disk.proofs.Holding.{holds_the_log}
 use Rattle.source_vm.specs.Disks.{IsSound, DisksTake, StillDisks, HasSnap}
 use Rattle.source_vm.specs.MachineLog.{LogState}
 use Rattle.source_vm.proofs.DiskLemmas.{all_have}
-use Rattle.source_vm.proofs.MachineLemmas.{on_ok, sound_after, sound_still, all_back}
+use Rattle.basics.proofs.Results.{where_ok}
+use Rattle.source_vm.proofs.MachineLemmas.{sound_after, sound_still, all_back}
 use Rattle.source_vm.proofs.machine.Machine.remove.Goals as goal
 
 -- a snapshot whose removal isn't refused is live
@@ -34,7 +35,7 @@ invariant_of-self-then-is_err-2 c =
     let log : LogState = c.self.inside.log in
     let disks : List SourceDiskState = c.self.inside.disks.items in
     let new : List SourceDiskState = c.reserve_merges.new.disks in
-    let roomy : c.reserve.new.self ≡ record log { room = true } = on_ok c.reserve.result (sym c.is_err.ensures.value ∙ c.if-is_err.false) c.reserve.ensures.ok in
+    let roomy : c.reserve.new.self ≡ record log { room = true } = where_ok c.reserve.result (sym c.is_err.ensures.value ∙ c.if-is_err.false) c.reserve.ensures.ok in
     let still : StillDisks disks new = subst (λ (xs : List SourceDiskState). StillDisks xs new) c.deref_mut.ensures.value c.reserve_merges.ensures.still in
     let back : take c.self.inside.disks.len (new ++ drop (length new) disks) ≡ new =
     all_back c.self.inside.disks.len disks new (c.reserve_merges.auto.disks ∙ ap length c.deref_mut.ensures.value) (sym (ap length c.deref_mut.ensures.value) ∙ c.deref_mut.ensures.len) in
@@ -49,7 +50,7 @@ merge_all-requires c =
     let same : length roomed ≡ length disks = c.reserve_merges.auto.disks ∙ ap length c.deref_mut.ensures.value in
     let met : c.deref_mut-2.result.now ≡ roomed = c.deref_mut-2.ensures.value ∙ all_back c.self.inside.disks.len disks roomed same len_is in
     subst (λ (xs : List SourceDiskState). All (HasMergeRoom c.args.id) xs) (sym met)
-    (on_ok c.reserve_merges.result (sym c.is_err-else-is_err.ensures.value ∙ c.if-is_err-2.false) c.reserve_merges.ensures.room)
+    (where_ok c.reserve_merges.result (sym c.is_err-else-is_err.ensures.value ∙ c.if-is_err-2.false) c.reserve_merges.ensures.room)
 
 pub invariant_of-self-2 : goal.invariant_of-self-2
 invariant_of-self-2 c =
@@ -58,7 +59,7 @@ invariant_of-self-2 c =
     let roomed : List SourceDiskState = c.reserve_merges.new.disks in
     let new : List SourceDiskState = c.merge_all.new.disks in
     let fits : FitsBehind (all_of log.capacities) log.entries c.args.who (Remove c.args.id) = remove_stands log.capacities log.entries c.args.who c.args.owner c.args.id (sym c.remove_refusal.ensures ∙ c.in_default.is) in
-    let roomy : c.reserve.new.self ≡ record log { room = true } = on_ok c.reserve.result (sym c.is_err.ensures.value ∙ c.if-is_err.false) c.reserve.ensures.ok in
+    let roomy : c.reserve.new.self ≡ record log { room = true } = where_ok c.reserve.result (sym c.is_err.ensures.value ∙ c.if-is_err.false) c.reserve.ensures.ok in
     let len_is : length disks ≡ c.self.inside.disks.len = sym (ap length c.deref_mut.ensures.value) ∙ c.deref_mut.ensures.len in
     let still : StillDisks disks roomed = subst (λ (xs : List SourceDiskState). StillDisks xs roomed) c.deref_mut.ensures.value c.reserve_merges.ensures.still in
     let same : length roomed ≡ length disks = c.reserve_merges.auto.disks ∙ ap length c.deref_mut.ensures.value in

@@ -13,7 +13,8 @@ use Rattle.source_disk.proofs.Taking.{others_pass}
 use Rattle.source_disk.proofs.Holding.{holds_the_log}
 use Rattle.source_vm.specs.MachineLog.{LogState}
 use Rattle.source_vm.proofs.DiskLemmas.{Took, one_took}
-use Rattle.source_vm.proofs.MachineLemmas.{on_ok, sound_after}
+use Rattle.basics.proofs.Results.{where_ok}
+use Rattle.source_vm.proofs.MachineLemmas.{sound_after}
 use Rattle.source_vm.proofs.machine.Machine.reset.Goals as goal
 
 others : (disk k : ℕ) → k ≢ disk → concerns k (Reset disk) ≡ false
@@ -38,7 +39,7 @@ invariant_of-self-2 c =
     let item : SourceDiskState = c.index_mut-tracked.result.now in
     let now : SourceDiskState = c.reset.new.self in
     let fits : FitsBehind (all_of log.capacities) log.entries c.args.who (Reset disk) = reset_stands log.capacities log.entries c.args.who disk (sym c.reset_refusal.ensures ∙ c.in_default.is) in
-    let roomy : c.reserve.new.self ≡ record log { room = true } = on_ok c.reserve.result (sym c.is_err.ensures.value ∙ c.if-is_err.false) c.reserve.ensures.ok in
+    let roomy : c.reserve.new.self ≡ record log { room = true } = where_ok c.reserve.result (sym c.is_err.ensures.value ∙ c.if-is_err.false) c.reserve.ensures.ok in
     let inside : disk < length disks = omega (arith, fits.0, c.self.invariant.stand.count) in
     let at : slice_get disks disk ≡ Some item = slice_get-get_or disks disk item inside ∙ ap Some (sym c.index_mut-tracked.ensures.value) in
     let number : number_of item ≡ disk = (c.self.invariant.stand.each disk item at).numbered in

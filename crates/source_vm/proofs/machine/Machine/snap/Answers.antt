@@ -10,7 +10,8 @@ use Rattle.source_disk.proofs.Holding.{next_is_free}
 use Rattle.source_vm.specs.Disks.{IsSound, DisksTake, StillDisks, CanFreeze}
 use Rattle.source_vm.specs.MachineLog.{LogState}
 use Rattle.source_vm.proofs.DiskLemmas.{all_can_freeze}
-use Rattle.source_vm.proofs.MachineLemmas.{on_ok, sound_after, sound_still, all_back, IsPushed}
+use Rattle.basics.proofs.Results.{where_ok}
+use Rattle.source_vm.proofs.MachineLemmas.{sound_after, sound_still, all_back, IsPushed}
 use Rattle.source_vm.proofs.machine.Machine.snap.Goals as goal
 
 pub invariant_of-self-then-is_err-2 : goal.invariant_of-self-then-is_err-2
@@ -18,7 +19,7 @@ invariant_of-self-then-is_err-2 c =
     let log : LogState = c.self.inside.log in
     let disks : List SourceDiskState = c.self.inside.disks.items in
     let new : List SourceDiskState = c.reserve_freezes.new.disks in
-    let roomy : c.reserve.new.self ≡ record log { room = true } = on_ok c.reserve.result (sym c.is_err.ensures.value ∙ c.if-is_err.false) c.reserve.ensures.ok in
+    let roomy : c.reserve.new.self ≡ record log { room = true } = where_ok c.reserve.result (sym c.is_err.ensures.value ∙ c.if-is_err.false) c.reserve.ensures.ok in
     let still : StillDisks disks new = subst (λ (xs : List SourceDiskState). StillDisks xs new) c.deref_mut.ensures.value c.reserve_freezes.ensures.still in
     let back : take c.self.inside.disks.len (new ++ drop (length new) disks) ≡ new =
     all_back c.self.inside.disks.len disks new (c.reserve_freezes.auto.disks ∙ ap length c.deref_mut.ensures.value) (sym (ap length c.deref_mut.ensures.value) ∙ c.deref_mut.ensures.len) in
@@ -30,13 +31,13 @@ freeze_all-requires c =
     let log : LogState = c.self.inside.log in
     let disks : List SourceDiskState = c.self.inside.disks.items in
     let roomed : List SourceDiskState = c.reserve_freezes.new.disks in
-    let roomy : c.reserve.new.self ≡ record log { room = true } = on_ok c.reserve.result (sym c.is_err.ensures.value ∙ c.if-is_err.false) c.reserve.ensures.ok in
+    let roomy : c.reserve.new.self ≡ record log { room = true } = where_ok c.reserve.result (sym c.is_err.ensures.value ∙ c.if-is_err.false) c.reserve.ensures.ok in
     let len_is : length disks ≡ c.self.inside.disks.len = sym (ap length c.deref_mut.ensures.value) ∙ c.deref_mut.ensures.len in
     let still : StillDisks disks roomed = subst (λ (xs : List SourceDiskState). StillDisks xs roomed) c.deref_mut.ensures.value c.reserve_freezes.ensures.still in
     let same : length roomed ≡ length disks = c.reserve_freezes.auto.disks ∙ ap length c.deref_mut.ensures.value in
     let back : take c.self.inside.disks.len (roomed ++ drop (length roomed) disks) ≡ roomed = all_back c.self.inside.disks.len disks roomed same len_is in
     let met : c.deref_mut-2.result.now ≡ roomed = c.deref_mut-2.ensures.value ∙ back in
-    let room : All (λ d. has_freeze_room d ≡ true) roomed = on_ok c.reserve_freezes.result (sym c.is_err-else-is_err.ensures.value ∙ c.if-is_err-2.false) c.reserve_freezes.ensures.room in
+    let room : All (λ d. has_freeze_room d ≡ true) roomed = where_ok c.reserve_freezes.result (sym c.is_err-else-is_err.ensures.value ∙ c.if-is_err-2.false) c.reserve_freezes.ensures.room in
     let id_is : c.snapped-snapped.result.id ≡ taken log.entries + 1 = ap (λ s. s.id) c.snapped-snapped.ensures ∙ ap (λ (r : LogState). taken r.entries + 1) roomy in
     subst (λ (xs : List SourceDiskState). All (CanFreeze c.snapped-snapped.result.id) xs) (sym met)
     (subst (λ (id : ℕ). All (CanFreeze id) roomed) (sym id_is)
@@ -50,7 +51,7 @@ invariant_of-self-2 c =
     let new : List SourceDiskState = c.freeze_all.new.disks in
     let act : Act = Snap (taken log.entries + 1) c.args.owner in
     let fits : FitsBehind (all_of log.capacities) log.entries c.args.who act = snap_stands log.capacities log.entries c.args.who c.args.must_be_off c.args.owner c.requires (sym c.snap_refusal.ensures ∙ c.in_default.is) in
-    let roomy : c.reserve.new.self ≡ record log { room = true } = on_ok c.reserve.result (sym c.is_err.ensures.value ∙ c.if-is_err.false) c.reserve.ensures.ok in
+    let roomy : c.reserve.new.self ≡ record log { room = true } = where_ok c.reserve.result (sym c.is_err.ensures.value ∙ c.if-is_err.false) c.reserve.ensures.ok in
     let len_is : length disks ≡ c.self.inside.disks.len = sym (ap length c.deref_mut.ensures.value) ∙ c.deref_mut.ensures.len in
     let still : StillDisks disks roomed = subst (λ (xs : List SourceDiskState). StillDisks xs roomed) c.deref_mut.ensures.value c.reserve_freezes.ensures.still in
     let same : length roomed ≡ length disks = c.reserve_freezes.auto.disks ∙ ap length c.deref_mut.ensures.value in
