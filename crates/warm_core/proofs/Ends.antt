@@ -20,7 +20,8 @@ use Rattle.warm_core.specs.Staged.{is_unfinished, IsBaseOf, open_blocks, disk_at
 use Rattle.warm_core.specs.World.{World, IsLive, MayLose, IsCompleteAt, StageIsSound, IsSound}
 use Rattle.warm_core.specs.Events.{MayComplete}
 use Rattle.warm_core.specs.Laws.{FinishedIsWhole, WholeAtOffPlace, FinishedSnapshotsGo}
-use Rattle.warm_core.proofs.Stages.{same_items, length-disk_at}
+use Rattle.basics.proofs.ItemAt.{same_items}
+use Rattle.warm_core.proofs.Stages.{length-disk_at}
 use Rattle.warm_core.proofs.Holding.{fillings_stay}
 
 -- ---- a stop

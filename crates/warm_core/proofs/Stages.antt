@@ -1,17 +1,17 @@
 -- What the steps of a stage leave of what is known of it and of its volume.
-use Rattle.std.proofs.Common.{◌≡◌, ℕ, ◌+◌, ◌-◌, ◌<◌, ◌≤◌, List, [], ◌∷◌, ◌++◌, length, take, drop, replicate, Bool, true, false, cond, ◌||◌, nat_eq, eqb, Option, Some, None, Ok, Err, refl, sym, ap, subst, ◌∙◌, arith, ◌⊎◌, inl, inr, IsSome, slice_index_or, unwrap_or, length-take, length-drop}
+use Rattle.std.proofs.Common.{◌≡◌, ℕ, ◌+◌, ◌-◌, ◌<◌, ◌≤◌, List, [], ◌∷◌, ◌++◌, length, take, drop, replicate, Bool, true, false, cond, ◌||◌, nat_eq, eqb, Option, Some, None, Ok, Err, refl, sym, ap, subst, ◌∙◌, arith, ◌⊎◌, inl, inr, IsSome, slice_index_or, length-take, length-drop}
 use Rattle.std.specs.List.{slice_get, slice_range}
 use Rattle.std.specs.Option.{is_none}
 use Rattle.std.proofs.lemmas.Bool.{cases_lt, false≢true}
-use Rattle.std.proofs.lemmas.Option.{unwrap_or-slice_get, same_Some, none-some}
-use Rattle.std.proofs.lemmas.List.{same_lists, length-replicate}
+use Rattle.std.proofs.lemmas.Option.{same_Some, none-some}
+use Rattle.std.proofs.lemmas.List.{length-replicate}
 use Rattle.sector_model.specs.Run.{end_of, in_blocks}
 use Rattle.sector_model.specs.Sector.{zero_sector}
 use Rattle.sector_model.specs.Disk.{fresh_disk}
 use Rattle.sector_model.specs.VolumeContents.{VolumeContents, IsSized, IsFlushed, is_loose, volume_written, volume_zeroed, volume_flushed, IsBrokenAt}
 use Rattle.sector_model.specs.declared.run.Run.{Run}
 use Rattle.sector_model.specs.declared.sector.Sector.{Sector}
-use Rattle.basics.proofs.ItemAt.{slice_get-take, slice_get-drop, slice_get-replicate}
+use Rattle.basics.proofs.ItemAt.{slice_get-take, slice_get-drop, slice_get-replicate, same_items}
 use Rattle.sector_model.proofs.Volumes.{loose_then, flushed_is_none_loose, written-sized, keep_their_size}
 use Rattle.change_id.specs.declared.ChangeId.{ChangeId}
 use Rattle.log_model.specs.declared.entry.Entry.{Entry}
@@ -222,10 +222,6 @@ zeroed-stands machine c d log base snap t v run ground stands may =
     (λ s low high. gap-is-zero machine c d log base snap t.full run.first run.count s ground may.full (may.in_gap s low high) low high (omega (arith, high, end, within, sized)))
 
 -- ---- a flush
-
-pub same_items : (xs ys : List Sector) → length xs ≡ length ys → ((s : ℕ) → s < length xs → slice_get xs s ≡ slice_get ys s) → xs ≡ ys
-same_items xs ys long same =
-    same_lists xs ys long (λ k x less. sym (unwrap_or-slice_get xs k x) ∙ ap (λ (o : Option Sector). unwrap_or o x) (same k less) ∙ unwrap_or-slice_get ys k x)
 
 -- a sector that a partial stage doesn't have to write is as at the base, and so as at the mark
 unwritten-same : (machine c d : ℕ) (log : List Entry) (base : Option Base) (snap : Snapped) (v : VolumeContents) (s : ℕ) → IsGround machine c d log base snap
