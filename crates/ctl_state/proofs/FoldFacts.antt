@@ -35,6 +35,15 @@ pub lists_join : (front rest : List Record)
 lists_join front rest = join_from 0 no_records front rest
     ∙ ap (λ n. then_after n (after front) rest) (zero-add (length front))
 
+-- behind a front that is strange no list comes to a value
+pub strange_no : (front rest : List Record) (v : CtlValue) (number : ℕ)
+    → after front ≡ Err number → after (front ++ rest) ≡ Ok v → ⊥
+strange_no front rest v number bad good =
+    let same : ◌≡◌ {A = Result CtlValue ℕ} (Ok v) (Err number) =
+    sym good ∙ lists_join front rest
+    ∙ ap (λ (a : Result CtlValue ℕ). then_after (length front) a rest) bad in
+    cc
+
 -- the others stay where one is changed, and where one is added behind them
 step_other : (v : CtlValue) (mig q : ℕ) (r : Record) → Some mig ≢ Some q
     → migration_in (after_step_in v mig r) q ≡ migration_in v q

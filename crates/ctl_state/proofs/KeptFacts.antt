@@ -10,7 +10,7 @@ use Rattle.std.specs.Ordering.{nat_cmp, is_eq}
 use Rattle.std.proofs.lemmas.Grind.{common_steps}
 use Rattle.std.proofs.lemmas.Bool.{or_parts, eqb-true, eq-eqb, ltb-true, lt-ltb}
 use Rattle.std.proofs.lemmas.Bool.Decides.{nat_tests, eqb_tells}
-use Rattle.std.proofs.lemmas.List.Sums.{sum_by-cons, sum_by-append}
+use Rattle.std.proofs.lemmas.List.Sums.{sum_by-cons, sum_by_push}
 use Rattle.std.proofs.lemmas.List.Folds.{find-append}
 use Rattle.log_model.proofs.Options.{none_is}
 use Rattle.plan_model.specs.declared.plan.Plan.{Plan}
@@ -223,14 +223,6 @@ next_waits q (x ∷ vms) zero vm h =
     ∙ ap (λ y. cond (q y) 1 0 + count_by q vms) same
 next_waits q (x ∷ vms) (suc started) vm h = next_waits q vms started vm h
 
-one_counted : {X : Type 0} (g : X → ℕ) (xs : List X) (x : X)
-    → sum_by g (xs ++ x ∷ []) ≡ sum_by g xs + g x
-one_counted g xs x =
-    let a = sum_by-append g xs (x ∷ []) in
-    let b = sum_by-cons g x [] in
-    let c : ◌≡◌ {A = ℕ} (sum_by g []) 0 = refl in
-    omega (arith, a, b, c)
-
 -- a machine that gets its migration has as much work as before, and had it in a plan
 start_counts : (plans : List Plan) (courses : List PlanCourse) (migrations : List Migration)
     (i vm v : ℕ) (p : Plan) (course : PlanCourse) (m : Migration)
@@ -246,7 +238,7 @@ start_counts plans courses migrations i vm v p course m hp hc next live machine 
     next_waits (λ other. other == v) p.vms course.started vm next
     ∙ ap (λ n. cond (vm == v) 1 0 + count_by (λ other. other == v) (drop n p.vms))
     (sym (add-one course.started)) in
-    let c = one_counted (λ (x : Migration). cond (works_on v x) 1 0) migrations m in
+    let c = sum_by_push (λ (x : Migration). cond (works_on v x) 1 0) migrations m in
     let a : ◌≡◌ {A = ℕ} (cond (works_on v m) 1 0) (cond (vm == v) 1 0) =
     ap (λ b. cond b 1 0) (works_live v m live ∙ ap (λ x. x == v) machine) in
     (omega (arith, s, w, c, a), omega (arith, s, w))
@@ -394,7 +386,7 @@ plan_counts : (plans : List Plan) (courses : List PlanCourse) (migrations : List
 unfolding work_on
 plan_counts plans courses migrations p v paired =
     let a = ap (sum_by (waits_in v)) (zip-append_one plans courses p new_course paired)
-    ∙ one_counted (waits_in v) (zip plans courses) (p, new_course) in
+    ∙ sum_by_push (waits_in v) (zip plans courses) (p, new_course) in
     omega (arith, a)
 
 plan_works : (b : Bool) (n c : ℕ) (live : Option ℕ) (old new : Option (Option ℕ))

@@ -6,6 +6,7 @@ use Rattle.std.specs.List.{sum_by, count_by, find, zip, list_any, AllByRecursion
 use Rattle.std.specs.Option.{option_map_or}
 use Rattle.std.proofs.lemmas.List.Sums.{sum_by-cons}
 use Rattle.std.proofs.lemmas.Bool.{lt-ltb, eqb-true, eq-eqb, false≢true}
+use Rattle.std.proofs.lemmas.Option.{none-some}
 use Rattle.std.specs.Str.{bytes_eq}
 use Rattle.basics.proofs.ItemAt.{slice_get-last}
 use Rattle.plan_model.specs.declared.plan.Plan.{Plan}
@@ -32,6 +33,10 @@ numbered_at {X} xs number x = by_test (number == 0)
         → (b ≡ false) × (slice_get xs (number - 1) ≡ Some x)
     by_test true h = absurd (cc)
     by_test false h = (refl, h)
+
+-- nothing has a number in an empty list
+pub none-numbered : {X : Type 0} (number : ℕ) (x : X) → numbered [] number ≡ Some x → ⊥
+none-numbered number x there = none-some x (numbered_at [] number x there).1
 
 -- a change behind the first element leaves that
 pub change_at-suc : {X : Type 0} (x : X) (xs : List X) (i : ℕ) (f : X → X)

@@ -1,6 +1,6 @@
 -- What is known of plan and course where a machine is the next of its plan, and of a plan that may be
 -- made.
-use Rattle.std.proofs.Common.{◌≡◌, ℕ, ◌==◌, Bool, true, false, ◌&&◌, not, Option, Some, None, Result, Ok, Err, is_err, OnOk, OnErr, refl, ap, sym, ◌∙◌}
+use Rattle.std.proofs.Common.{◌≡◌, ℕ, ◌==◌, Bool, true, false, ◌&&◌, not, Option, Some, None, Ok, refl, ap}
 use Rattle.std.specs.Prelude.{List, slice_get}
 use Rattle.std.specs.Option.{option_map_or}
 use Rattle.std.proofs.lemmas.Bool.{and_parts, eqb-true}
@@ -53,12 +53,3 @@ pub none_doubled : (b : Bool) (u : Unit {0})
     → b ≡ false
 none_doubled true u h = absurd (cc)
 none_doubled false u h = refl
-
--- what a call says of the outcome that it had
-pub where_ok : {T E : Type 0} (r : Result T E) (P : Type 0) → is_err r ≡ false → OnOk r P → P
-where_ok (Ok x) P e h = h
-where_ok (Err x) P e h = absurd (cc)
-
-pub where_err : {T E : Type 0} (r : Result T E) (P : Type 0) → is_err r ≡ true → OnErr r P → P
-where_err (Ok x) P e h = absurd (cc)
-where_err (Err x) P e h = h

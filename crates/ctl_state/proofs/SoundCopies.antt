@@ -4,6 +4,7 @@ use Rattle.std.specs.Prelude.{IsSome, IsSomeAnd, slice_get, slice_set}
 use Rattle.std.specs.List.{AllByRecursion}
 use Rattle.std.specs.Option.{option_map_or}
 use Rattle.std.proofs.lemmas.Bool.{and_parts}
+use Rattle.basics.proofs.Each.{each}
 use Rattle.change_id.specs.declared.ChangeId.{ChangeId}
 use Rattle.ctl_state.specs.declared.copies.DiskCopy.{DiskCopy}
 use Rattle.ctl_state.specs.Migration.{all_done, named_copies, named_copy, change_at}
@@ -12,14 +13,6 @@ use Rattle.ctl_state.specs.Migration.{all_done, named_copies, named_copy, change
 pub each-map : (P Q : DiskCopy → Type 0) (f : DiskCopy → DiskCopy) → ((c : DiskCopy) → P c → Q (f c)) → (copies : List DiskCopy) → AllByRecursion P copies → AllByRecursion Q (map f copies)
 each-map P Q f step [] h = tt
 each-map P Q f step (c ∷ copies) h = (step c h.0, each-map P Q f step copies h.1)
-
-pub each : (P Q : DiskCopy → Type 0) → ((c : DiskCopy) → P c → Q c) → (copies : List DiskCopy) → AllByRecursion P copies → AllByRecursion Q copies
-each P Q step [] h = tt
-each P Q step (c ∷ copies) h = (step c h.0, each P Q step copies h.1)
-
-pub each-two : (P Q R : DiskCopy → Type 0) → ((c : DiskCopy) → P c → Q c → R c) → (copies : List DiskCopy) → AllByRecursion P copies → AllByRecursion Q copies → AllByRecursion R copies
-each-two P Q R step [] h k = tt
-each-two P Q R step (c ∷ copies) h k = (step c h.0 k.0, each-two P Q R step copies h.1 k.1)
 
 pub each-named : (P Q : DiskCopy → Type 0) → ((c : DiskCopy) (id : ChangeId) → P c → Q (named_copy id c)) → (copies : List DiskCopy) (ids : List ChangeId) → length ids ≡ length copies → AllByRecursion P copies
     → AllByRecursion Q (named_copies copies ids)
@@ -56,7 +49,7 @@ change-rest P Q f stay copies i c (Some x) p k = (stay c p, k)
 pub each-change : (P Q : DiskCopy → Type 0) (f : DiskCopy → DiskCopy) → ((c : DiskCopy) → P c → Q c) → ((c : DiskCopy) → P c → Q (f c)) → (copies : List DiskCopy) (i : ℕ) → AllByRecursion P copies
     → AllByRecursion Q (change_at copies i f)
 each-change P Q f stay step [] i h = tt
-each-change P Q f stay step (c ∷ copies) zero h = (step c h.0, each P Q stay copies h.1)
+each-change P Q f stay step (c ∷ copies) zero h = (step c h.0, each stay copies h.1)
 each-change P Q f stay step (c ∷ copies) (suc i) h = change-rest P Q f stay copies i c (slice_get copies i) h.0 (each-change P Q f stay step copies i h.1)
 
 part-rest : {X : Type 0} (part : List DiskCopy → X) → (f : DiskCopy → DiskCopy) → ((c : DiskCopy) (one other : List DiskCopy) → part one ≡ part other → part (c ∷ one) ≡ part (c ∷ other)) → (copies : List DiskCopy) (i : ℕ) (c : DiskCopy)

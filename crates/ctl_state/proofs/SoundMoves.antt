@@ -6,6 +6,7 @@ use Rattle.std.specs.List.{AllByRecursion}
 use Rattle.std.proofs.lemmas.Bool.{eqb-true, false≢true}
 use Rattle.std.proofs.lemmas.List.{length-map}
 use Rattle.std.proofs.lemmas.Option.{none-some, same_Some}
+use Rattle.basics.proofs.Each.{each}
 use Rattle.change_id.specs.declared.ChangeId.{ChangeId}
 use Rattle.phase_table.specs.declared.phases.Phase.{Phase}
 use Rattle.phase_table.specs.declared.phases.Phase.TheVariants.{Started, CreateInitialSnapshot, StoreInitialIds, CreateVolumes, AddFirstCheckpoint, CopyDisks, CopyingPaused, RemovePreviousSnapshot, CreateSnapshot, StoreIds, AddCheckpoint, StorePowerState, PowerOffSource, WaitForPowerOff, RemovePenultimateSnapshot, CreateFinalSnapshot, AddFinalCheckpoint, CopyFinal, RemoveFinalSnapshot, Completed, Cancelled, Failed}
@@ -24,7 +25,7 @@ use Rattle.ctl_state.specs.Migration.{same_phase, next_of, moved, reached, all_d
 use Rattle.ctl_state.specs.Steps.{with_snapshot, without_snapshot}
 use Rattle.ctl_state.specs.Sound.{PhaseFacts, facts_in, HasCurrent, HaveCopied, is_from, GoesOnFrom, StandsBy, is_open, is_final_done, last_mark, FitsPhase, HasEnded, StandsNow, IsSound, phase_of_end}
 use Rattle.ctl_state.proofs.CopyFacts.{length-named}
-use Rattle.ctl_state.proofs.SoundCopies.{each, each-map, each-named, done-map, done-named}
+use Rattle.ctl_state.proofs.SoundCopies.{each-map, each-named, done-map, done-named}
 
 -- ---- a live migration in a known phase
 
@@ -103,11 +104,13 @@ any-mark false mark other last c d same h = subst (λ (base : Option CopyBase). 
 
 pub based : (unfinished ended : Bool) (mark : ℕ) (last : Option ℕ) (copies : List DiskCopy) → unfinished ≡ false → AllByRecursion (λ copy. StandsBy (unfinished && copy.done) ended mark last copy) copies → Based ended last copies
 based true ended mark last copies e h = absurd (false≢true (sym e))
-based false ended mark last copies e h = each _ _ (λ c stands. any-mark ended mark 0 last c c refl stands) copies h
+based false ended mark last copies e h =
+    each (λ c stands. any-mark ended mark 0 last c c refl stands) copies h
 
 pub unbased : (unfinished ended : Bool) (mark : ℕ) (last : Option ℕ) (copies : List DiskCopy) → unfinished ≡ false → Based ended last copies → AllByRecursion (λ copy. StandsBy (unfinished && copy.done) ended mark last copy) copies
 unbased true ended mark last copies e h = absurd (false≢true (sym e))
-unbased false ended mark last copies e h = each _ _ (λ c stands. any-mark ended 0 mark last c c refl stands) copies h
+unbased false ended mark last copies e h =
+    each (λ c stands. any-mark ended 0 mark last c c refl stands) copies h
 
 based-map : (f : DiskCopy → DiskCopy) → ((c : DiskCopy) → (f c).base ≡ c.base) → (ended : Bool) (last : Option ℕ) (copies : List DiskCopy) → Based ended last copies → Based ended last (map f copies)
 based-map f same ended last copies h = each-map _ _ f (λ c stands. any-mark ended 0 0 last c (f c) (same c) stands) copies h

@@ -6,6 +6,7 @@ use Rattle.std.specs.List.{AllByRecursion}
 use Rattle.std.specs.Option.{option_map_or}
 use Rattle.std.proofs.lemmas.Bool.{and_right, lt-ltb, false≢true}
 use Rattle.std.proofs.lemmas.List.{length-map}
+use Rattle.basics.proofs.Each.{each, each_both}
 use Rattle.basics.proofs.ItemAt.{slice_get-last}
 use Rattle.change_id.specs.declared.ChangeId.{ChangeId}
 use Rattle.checkpoints.specs.declared.checkpoint.Checkpoint.{Checkpoint}
@@ -23,7 +24,7 @@ use Rattle.ctl_state.specs.declared.copies.CopyBase.{CopyBase}
 use Rattle.ctl_state.specs.Migration.{same_phase, next_of, moved, reached, all_done, is_being_copied, fresh_copy, begun_copy, done_copy, change_at, sectors_written}
 use Rattle.ctl_state.specs.Steps.{finished_volume, with_checkpoint_done, with_stage_done}
 use Rattle.ctl_state.specs.Sound.{facts_in, HaveCopied, StandsNow, is_from, GoesOnFrom, IsDoneOn, StandsBy, is_open, is_final_done, last_mark, FitsPhase, IsSound}
-use Rattle.ctl_state.proofs.SoundCopies.{each, each-map, each-two, each-change, each-done, none-done, done-change, length-change}
+use Rattle.ctl_state.proofs.SoundCopies.{each-map, each-change, each-done, none-done, done-change, length-change}
 use Rattle.ctl_state.proofs.SoundMoves.{at, keeps, Based, based, unbased, closed}
 
 -- ---- lists that gain one
@@ -307,16 +308,20 @@ all-on-current : (unfinished ended : Bool) (mark : ℕ) (last : Option ℕ) (cop
     → AllByRecursion (λ copy. StandsBy (unfinished && copy.done) ended mark last copy) copies → AllByRecursion (IsDoneOn mark) copies
 all-on-current false ended mark last copies e done h = absurd (false≢true e)
 all-on-current true ended mark last copies e done h =
-    each-two _ _ _ (λ c is stands. subst (λ (b : Bool). StandsBy b ended mark last c) is stands) copies (each-done copies done) h
+    each_both (λ c is stands. subst (λ (b : Bool). StandsBy b ended mark last c) is stands)
+    copies (each-done copies done) h
 
 -- which is that of the checkpoint that is finished with it
 goes-on-from : (named : Bool) (mark : ℕ) (copies : List DiskCopy) → named ≡ true → AllByRecursion (λ c. is_some c.id ≡ named) copies → AllByRecursion (IsDoneOn mark) copies → Based false (Some mark) copies
 goes-on-from false mark copies e ids h = absurd (false≢true e)
 goes-on-from true mark copies e ids h =
-    each-two _ _ _ (λ c has on. subst (λ (base : Option CopyBase). GoesOnFrom (Some mark) base) (sym on) (refl, has)) copies ids h
+    each_both (λ c has on. subst (λ (base : Option CopyBase). GoesOnFrom (Some mark) base) (sym on)
+    (refl, has)) copies ids h
 
 ended-on : (mark : ℕ) (copies : List DiskCopy) → AllByRecursion (IsDoneOn mark) copies → Based true (Some mark) copies
-ended-on mark copies h = each _ _ (λ c on. subst (λ (base : Option CopyBase). IsSomeAnd base (λ b. Some mark ≡ Some b.mark)) (sym on) refl) copies h
+ended-on mark copies h = each (λ c on. subst
+    (λ (base : Option CopyBase). IsSomeAnd base (λ b. Some mark ≡ Some b.mark)) (sym on) refl)
+    copies h
 
 -- in a checkpoint that others follow
 pub finishes-copying : (m : Migration) (disk written : ℕ) → is_open m ≡ true → all_done (change_at m.copies disk (done_copy m.mark written)) ≡ true

@@ -24,7 +24,7 @@ use Rattle.ctl_state.specs.MayStand.{is_next_of, is_next, may_start, is_new_plan
 use Rattle.ctl_state.specs.Fold.{after_record, plan_of}
 use Rattle.ctl_state.specs.Sound.{StandsBy, FitsPhase, IsSound, IsMember, IsSoundValue}
 use Rattle.ctl_state.specs.SoundLaws.{RecordsKeepSound, ValuesAreSound}
-use Rattle.ctl_state.proofs.ListFacts.{length-change_at, numbered-before, numbered-added}
+use Rattle.ctl_state.proofs.ListFacts.{length-change_at, none-numbered, numbered-before, numbered-added}
 use Rattle.ctl_state.proofs.SoundSteps.{steps_keep_sound}
 use Rattle.ctl_state.proofs.Came.{Came, made, stepped, stayed, came, fronts}
 
@@ -76,50 +76,65 @@ next-by vm None course h = absurd (false≢true h)
 next-by vm (Some known) None h = absurd (false≢true h)
 next-by vm (Some known) (Some course) h = next-is known.vms vm course.started (slice_get known.vms course.started) refl h
 
--- ---- a step leaves whose it is
+-- ---- a step leaves whose it is, and the count of its disks
 
 pub record SameOne (old new : Migration) : Type 0 where
   pub number : new.number ≡ old.number
   pub plan : new.plan ≡ old.plan
   pub vm : new.vm ≡ old.vm
+  pub disks : new.disks ≡ old.disks
 
-same : (m : Migration) → SameOne m m
-same m = record { number = refl; plan = refl; vm = refl }
+pub same-one : (m : Migration) → SameOne m m
+same-one m = record { number = refl; plan = refl; vm = refl; disks = refl }
+
+pub same-further : (first second third : Migration) → SameOne first second
+    → SameOne second third → SameOne first third
+same-further first second third a b = record {
+  number = b.number ∙ a.number;
+  plan = b.plan ∙ a.plan;
+  vm = b.vm ∙ a.vm;
+  disks = b.disks ∙ a.disks;
+}
 
 one-of : (b : Bool) (m a c : Migration) → SameOne m a → SameOne m c → SameOne m (cond b a c)
 one-of true m a c h k = h
 one-of false m a c h k = k
 
 ends-same : (m : Migration) (how : Option How) → SameOne m (option_map_or (λ end. with_end end m) how m)
-ends-same m None = same m
-ends-same m (Some how) = record { number = refl; plan = refl; vm = refl }
+ends-same m None = same-one m
+ends-same m (Some how) = record { number = refl; plan = refl; vm = refl; disks = refl }
 
 stage-same : (m : Migration) (disk written : ℕ) → SameOne m (with_stage_done disk written m)
 stage-same m disk written =
     let copied = record m { copies = change_at m.copies disk (done_copy m.mark written) } in
     let finished = record copied { dv = finished_volume m.dv; marks = m.marks ++ m.mark ∷ []; written = m.written ++ sectors_written copied.copies ∷ [] } in
     one-of (all_done copied.copies) m (with_checkpoint_done copied) copied
-    (one-of (same_phase m.phase Phases.CopyFinal) m (moved finished Facts.Done) finished (record { number = refl; plan = refl; vm = refl }) (record { number = refl; plan = refl; vm = refl }))
-    (record { number = refl; plan = refl; vm = refl })
+    (one-of (same_phase m.phase Phases.CopyFinal) m (moved finished Facts.Done) finished
+    (record { number = refl; plan = refl; vm = refl; disks = refl })
+    (record { number = refl; plan = refl; vm = refl; disks = refl }))
+    (record { number = refl; plan = refl; vm = refl; disks = refl })
 
-step-same : (m : Migration) (r : Record) → SameOne m (after_step m r)
-step-same m (PlanMade plan name interval vms) = same m
-step-same m (MigrationStarted mig plan vm disks) = same m
-step-same m (Chosen mig way at) = record { number = refl; plan = refl; vm = refl }
-step-same m (SnapTaken mig snap mark) = record { number = refl; plan = refl; vm = refl }
-step-same m (IdsStored mig ids) = record { number = refl; plan = refl; vm = refl }
-step-same m (VolumesMade mig) = record { number = refl; plan = refl; vm = refl }
-step-same m (CheckpointAdded mig previous current last) = record { number = refl; plan = refl; vm = refl }
-step-same m (StageBegun mig disk) = record { number = refl; plan = refl; vm = refl }
+pub step-same : (m : Migration) (r : Record) → SameOne m (after_step m r)
+step-same m (PlanMade plan name interval vms) = same-one m
+step-same m (MigrationStarted mig plan vm disks) = same-one m
+step-same m (Chosen mig way at) = record { number = refl; plan = refl; vm = refl; disks = refl }
+step-same m (SnapTaken mig snap mark) =
+    record { number = refl; plan = refl; vm = refl; disks = refl }
+step-same m (IdsStored mig ids) = record { number = refl; plan = refl; vm = refl; disks = refl }
+step-same m (VolumesMade mig) = record { number = refl; plan = refl; vm = refl; disks = refl }
+step-same m (CheckpointAdded mig previous current last) =
+    record { number = refl; plan = refl; vm = refl; disks = refl }
+step-same m (StageBegun mig disk) = record { number = refl; plan = refl; vm = refl; disks = refl }
 step-same m (StageDone mig disk written) = stage-same m disk written
-step-same m (Paused mig at) = record { number = refl; plan = refl; vm = refl }
-step-same m (SnapRemoved mig snap) = record { number = refl; plan = refl; vm = refl }
-step-same m (CutoverSet plan has at) = same m
-step-same m (PowerStored mig on) = record { number = refl; plan = refl; vm = refl }
-step-same m (PoweredOff mig) = record { number = refl; plan = refl; vm = refl }
-step-same m (OffSeen mig off) = record { number = refl; plan = refl; vm = refl }
-step-same m (FinalSnapTaken mig snap mark place) = record { number = refl; plan = refl; vm = refl }
-step-same m (CancelAsked mig) = record { number = refl; plan = refl; vm = refl }
+step-same m (Paused mig at) = record { number = refl; plan = refl; vm = refl; disks = refl }
+step-same m (SnapRemoved mig snap) = record { number = refl; plan = refl; vm = refl; disks = refl }
+step-same m (CutoverSet plan has at) = same-one m
+step-same m (PowerStored mig on) = record { number = refl; plan = refl; vm = refl; disks = refl }
+step-same m (PoweredOff mig) = record { number = refl; plan = refl; vm = refl; disks = refl }
+step-same m (OffSeen mig off) = record { number = refl; plan = refl; vm = refl; disks = refl }
+step-same m (FinalSnapTaken mig snap mark place) =
+    record { number = refl; plan = refl; vm = refl; disks = refl }
+step-same m (CancelAsked mig) = record { number = refl; plan = refl; vm = refl; disks = refl }
 step-same m (Ended mig how place) = ends-same m (how_of how)
 
 -- ---- plans stay
@@ -269,13 +284,6 @@ records_keep_sound v r s may = record {
   plans = λ p plan there. plans-keep v r p plan s may there;
   paired = paired-keeps v r s.paired;
 }
-
-none-numbered : {X : Type 0} (n : ℕ) (x : X) → numbered [] n ≡ Some x → ⊥
-none-numbered {X} n x e = test (n == 0) e
-  where
-    test : (b : Bool) → cond b None (slice_get [] (n - 1)) ≡ Some x → ⊥
-    test true e = none-some x e
-    test false e = none-some x e
 
 nothing-sound : IsSoundValue no_records
 nothing-sound = record {

@@ -6,4 +6,5 @@ pub mod Kept
 pub mod Refused
 pub mod Replacing
 pub mod Logs
+pub mod In
 pub mod Found

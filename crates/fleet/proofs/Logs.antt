@@ -1,34 +1,16 @@
 -- One item of a list that is replaced, and with it one machine of a fleet.
 use Rattle.std.proofs.Common.{◌≡◌, ◌≢◌, ℕ, zero, suc, ◌+◌, ◌-◌, ◌<◌, ◌≤◌, Bool, true, false, cond, List, [], ◌∷◌, length, set, take, Option, Some, None, option_map, nat_le, refl, ap, ◌∙◌, sym, subst, slice_get, arith}
 use Rattle.std.proofs.Math.Seq.{take-length}
+use Rattle.std.proofs.lemmas.List.{set-set}
 use Rattle.std.proofs.lemmas.Option.{none-some, same_Some, slice_get_within}
+use Rattle.basics.proofs.ItemAt.{slice_get-set_same, slice_get-set_other}
 use Rattle.log_model.specs.declared.entry.Entry.{Entry}
 use Rattle.fleet.specs.Fleet.{VmState, FleetState, vm_of, with_vm_at, with_log, VmGoesOn, FleetGoesOn}
-
-set_here : {X : Type 0} (xs : List X) (i : ℕ) (x old : X) → slice_get xs i ≡ Some old
-    → slice_get (set xs i x) i ≡ Some x
-set_here [] i x old h = absurd (none-some old h)
-set_here (y ∷ xs) zero x old h = refl
-set_here (y ∷ xs) (suc i) x old h = set_here xs i x old h
-
-set_else : {X : Type 0} (xs : List X) (i j : ℕ) (x : X) → j ≢ i
-    → slice_get (set xs i x) j ≡ slice_get xs j
-set_else [] i j x h = refl
-set_else (y ∷ xs) zero zero x h = absurd (h refl)
-set_else (y ∷ xs) zero (suc j) x h = refl
-set_else (y ∷ xs) (suc i) zero x h = refl
-set_else (y ∷ xs) (suc i) (suc j) x h = set_else xs i j x (λ same. h (ap suc same))
 
 set_back : {X : Type 0} (xs : List X) (i : ℕ) (x : X) → slice_get xs i ≡ Some x → set xs i x ≡ xs
 set_back [] i x h = refl
 set_back (y ∷ xs) zero x h = ap (λ z. z ∷ xs) (sym (same_Some y x h))
 set_back (y ∷ xs) (suc i) x h = ap (λ l. y ∷ l) (set_back xs i x h)
-
-set_twice : {X : Type 0} (xs : List X) (i : ℕ) (x later : X)
-    → set (set xs i x) i later ≡ set xs i later
-set_twice [] i x later = refl
-set_twice (y ∷ xs) zero x later = refl
-set_twice (y ∷ xs) (suc i) x later = ap (λ l. y ∷ l) (set_twice xs i x later)
 
 module _ (number : ℕ) (vm : VmState) (fleet : FleetState) (is : vm_of number fleet ≡ Some vm) where
   at_least : nat_le 1 number ≡ true
@@ -42,16 +24,17 @@ module _ (number : ℕ) (vm : VmState) (fleet : FleetState) (is : vm_of number f
   at_place = sym (ap (λ b. cond b (slice_get fleet.vms (number - 1)) None) at_least) ∙ is
 
   pub found_changed : (new : VmState) → vm_of number (with_vm_at number new fleet) ≡ Some new
-  found_changed new = rw at_least (set_here fleet.vms (number - 1) new vm at_place)
+  found_changed new = rw at_least (slice_get-set_same fleet.vms (number - 1) new
+      (slice_get_within fleet.vms (number - 1) vm at_place))
 
   pub others_unchanged : (other : ℕ) (new : VmState) → other ≢ number
       → vm_of other (with_vm_at number new fleet) ≡ vm_of other fleet
   others_unchanged zero new differs = refl
   others_unchanged (suc other) new differs =
       let some : 1 ≤ number = grind (arith, at_least) in
-      let apart : suc other - 1 ≢ number - 1 = λ same. differs (omega (arith, some, same)) in
+      let apart : number - 1 ≢ suc other - 1 = λ same. differs (omega (arith, some, same)) in
       ap (λ o. cond (nat_le 1 (suc other)) o None)
-      (set_else fleet.vms (number - 1) (suc other - 1) new apart)
+      (slice_get-set_other fleet.vms (number - 1) (suc other - 1) new apart)
 
   pub same_is_nothing : with_vm_at number vm fleet ≡ fleet
   same_is_nothing =
@@ -60,7 +43,7 @@ module _ (number : ℕ) (vm : VmState) (fleet : FleetState) (is : vm_of number f
   pub later_counts : (new later : VmState)
       → with_vm_at number later (with_vm_at number new fleet) ≡ with_vm_at number later fleet
   later_counts new later =
-      ap (λ vms. record fleet { vms = vms }) (set_twice fleet.vms (number - 1) new later)
+      ap (λ vms. record fleet { vms = vms }) (set-set fleet.vms (number - 1) new later)
 
   pub log_is : (log : List Entry)
       → with_log number log fleet ≡ with_vm_at number (record vm { log = log }) fleet
@@ -114,7 +97,7 @@ later_log number log later fleet = by (vm_of number fleet) refl
 
 -- ---- a fleet in which one machine goes on
 
-vm_stays : (vm : VmState) → VmGoesOn vm vm
+pub vm_stays : (vm : VmState) → VmGoesOn vm vm
 vm_stays vm = record { name = refl; host = refl; capacities = refl; log = take-length vm.log }
 
 each_goes_on : (vms : List VmState) (place : ℕ) (new old : VmState)

@@ -1,6 +1,17 @@
-//! Laws of the definitions. Each function's contract is the law, and its body does nothing.
+//! Laws of the definitions, and of every fleet. Each function's contract is the law, and its body
+//! does nothing that counts.
 ghost use Rattle.fleet.specs.Laws.{GoesOnItself, GoesOnFurther, HostsGoOn, VmsGoOn, LogsGoOn, LiftGoesOn, LowerGoesOn, MayGoBackThen, LowersWhatWasLifted, SameLogIsNothing, LaterLogCounts, EmptyIsIn, HostsStayIn, VmsStayIn, LogsStayIn, InIsFound};
 ghost use Rattle.fleet.specs.Finding.{NamesLeadToHosts, NamesLeadToVms, NumbersAreWithin, LogIsFound, OthersStay, NumbersStay, HostsStay, CountStays, EarlierStay, NewIsFound, KnownNamesStay};
+ghost use Rattle.fleet.specs.Sound.{IsFleet};
+
+use crate::Fleet;
+
+/// What is true of every fleet: a look at it tells that.
+pub fn fleet_is_sound(fleet: &Fleet)
+    ensures { IsFleet fleet.now }
+{
+    let _ = fleet.vm_at(0);
+}
 
 /// A fleet goes on from itself, from what it went on from, and with each call: no host and no
 /// machine is lost or changed, and the log of each machine only grows.

@@ -13,8 +13,8 @@ mod vm;
 
 pub use fleet::Fleet;
 pub use laws::{
-    fleets_go_on, found_after_adding, lowers_what_was_lifted, machines_stay_in, names_lead_there,
-    others_stay,
+    fleet_is_sound, fleets_go_on, found_after_adding, lowers_what_was_lifted, machines_stay_in,
+    names_lead_there, others_stay,
 };
 pub use limits::{MAX_HOSTS, MAX_VMS};
 pub use refusals::FleetRefused;

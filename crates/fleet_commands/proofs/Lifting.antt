@@ -13,6 +13,7 @@ use Rattle.source_vm.specs.Machine.{MachineState, link_of, may_have_disks}
 use Rattle.fleet.specs.Fleet.{VmState, FleetState, vm_number, vm_of, vm_in, machine_of, with_vm_at, with_log}
 use Rattle.fleet.specs.Lending.{lifted, after_lift, after_lower, IsOver, MayGoBack}
 use Rattle.fleet.specs.Sound.{IsFleet}
+use Rattle.fleet.proofs.In.{IsIn, is_in}
 use Rattle.fleet.proofs.Logs.{at_place, found_changed, log_is, same_is_nothing}
 use Rattle.fleet.proofs.Found.{lowers_what_was_lifted}
 use Rattle.fleet.proofs.StaysSound.{IsVm-at}
@@ -21,33 +22,6 @@ use Rattle.answers.specs.declared.refusal.Refusal.{Refusal}
 use Rattle.answers.specs.declared.refusal.Refusal.TheVariants.{UnknownVm}
 
 -- ---- by number
-
--- a machine that is found is in
-pub record IsIn (number : ℕ) (vm : VmState) (m : MachineState) (fleet : FleetState) : Type 0 where
-  pub there : vm_of number fleet ≡ Some vm
-  pub within : vm.out ≡ false
-  pub same : m ≡ record { number = number; capacities = vm.capacities; log = vm.log }
-
-pub is_in : (number : ℕ) (m : MachineState) (fleet : FleetState)
-    → machine_of number fleet ≡ Some m → (vm : VmState) × IsIn number vm m fleet
-is_in number m fleet h = by (vm_of number fleet) refl h
-  where
-    by : (o : Option VmState) → vm_of number fleet ≡ o
-        → option_map {T = VmState} {U = MachineState}
-        (λ vm. record { number = number; capacities = vm.capacities; log = vm.log })
-        (option_and_then (λ vm. if vm.out then None else Some vm) o) ≡ Some m
-        → (vm : VmState) × IsIn number vm m fleet
-    by None is e = absurd (none-some m e)
-    by (Some vm) is e = in_or_out vm.out refl e
-      where
-        in_or_out : (out : Bool) → vm.out ≡ out
-            → option_map {T = VmState} {U = MachineState}
-            (λ v. record { number = number; capacities = v.capacities; log = v.log })
-            (if out then None else Some vm) ≡ Some m
-            → (v : VmState) × IsIn number v m fleet
-        in_or_out true out f = absurd (none-some m f)
-        in_or_out false out f =
-            (vm, record { there = is; within = out; same = sym (same_Some _ m f) })
 
 -- where nothing is lifted, the machine isn't found and nothing changes
 pub not_lifted : (number : ℕ) (fleet : FleetState) → lifted number fleet ≡ None

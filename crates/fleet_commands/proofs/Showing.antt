@@ -1,5 +1,5 @@
 -- What a machine shows: why it refuses to, and that a page stays within what a disk may have.
-use Rattle.std.proofs.Common.{◌≡◌, ℕ, ◌+◌, ◌<◌, ◌≤◌, ◌^◌, Bool, true, false, not, ◌&&◌, nat_lt, nat_le, List, [], ◌∷◌, ◌++◌, length, All, Option, Some, None, is_some, option_and_then, Result, Ok, Err, IsOk, IfOk, OnErr, cond, if◌then◌else◌, refl, ap, ◌∙◌, sym, subst, arith}
+use Rattle.std.proofs.Common.{◌≡◌, ℕ, ◌+◌, ◌<◌, ◌≤◌, ◌^◌, Bool, true, false, not, ◌&&◌, nat_lt, nat_le, List, [], ◌∷◌, ◌++◌, length, All, Option, Some, None, is_some, option_and_then, Result, Ok, Err, IsOk, IfOk, cond, if◌then◌else◌, refl, ap, ◌∙◌, sym, subst, arith}
 use Rattle.std.specs.List.{list_all}
 use Rattle.std.proofs.lemmas.Bool.{false≢true, and_parts, ltb-true, leb-true, eq-eqb}
 use Rattle.std.proofs.lemmas.Option.{none-some}
@@ -47,11 +47,6 @@ pub none_accepted : {T E : Type 0} (refusal : Option E) (result : Result T E)
     → IsRefusedBy refusal result → refusal ≡ None → IsOk result
 none_accepted None result refused is = refused
 none_accepted (Some why) result refused is = absurd (cc)
-
--- what is left where a call failed
-pub on_err : {T E : Type 0} (P : Type 0) (result : Result T E) → P → OnErr result P
-on_err P (Ok answer) left = tt
-on_err P (Err why) left = left
 
 -- ---- a snapshot that is taken where nobody else reaches the machine
 

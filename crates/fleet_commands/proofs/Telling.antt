@@ -1,5 +1,5 @@
 -- What a command is answered, by the refusal that stands below.
-use Rattle.std.proofs.Common.{◌≡◌, Option, Some, None, Result, Ok, Err, IfErr, OnErr, option_and_then, refl, ap, ◌∙◌, sym, subst}
+use Rattle.std.proofs.Common.{◌≡◌, Option, Some, None, Result, Ok, Err, IfErr, option_and_then, refl, ap, ◌∙◌, sym, subst}
 use Rattle.std.proofs.lemmas.Option.{none-some}
 use Rattle.basics.specs.Refusal.{IsRefusedOr}
 use Rattle.answers.specs.declared.refusal.Refusal.{Refusal}
@@ -21,8 +21,3 @@ told_some {T} {E} tell None free result why said refused is silent told =
     subst (λ (r : Result T E). IfErr r (λ answer. answer ≡ free)) is refused in
     absurd (none-some said (sym silent ∙ ap tell (sym same) ∙ told))
 told_some {T} {E} tell (Some stands) free result why said refused is silent told = cc
-
--- what holds anyway holds of what is refused
-pub on_err : {T E P : Type 0} (result : Result T E) → P → OnErr result P
-on_err (Ok answer) p = tt
-on_err (Err why) p = p

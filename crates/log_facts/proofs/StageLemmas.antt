@@ -10,6 +10,7 @@ use Rattle.std.proofs.lemmas.List.Elements.{All-weaker}
 use Rattle.std.proofs.lemmas.List.Folds.{list_any-append}
 use Rattle.std.proofs.lemmas.Map.Views.{All-set_contains}
 use Rattle.std.specs.Cmp.{nat_cmp_total}
+use Rattle.basics.proofs.Truth.{and_or}
 use Rattle.sector_model.specs.Disk.{Write as Replacement}
 use Rattle.sector_model.specs.declared.run.TheConstants.{BLOCK_SECTORS}
 use Rattle.sector_model.specs.Run.{block_count, meets, touches, touched_blocks, in_blocks, areas_of}
@@ -73,17 +74,14 @@ touched_last d b log e =
     ap (list_any (touches b)) (writes-append d log (e ∷ [])) ∙ list_any-append (touches b) (writes_of d log) (writes_of d (e ∷ []))
     ∙ ap (λ x. list_any (touches b) (writes_of d log) || x) (touched_one b (write_to d e.act))
 
-joined : (known was touched : Bool) → ((known && was) || (known && touched)) ≡ (known && (was || touched))
-joined true was touched = refl
-joined false was touched = refl
-
 pub touched_more : (c d b i : ℕ) (entries : List Entry) (e : Entry) (old new : Bool) → i < length entries → e ≡ get_or entries i e
     → old ≡ (ltb b (block_count c) && list_any (touches b) (writes_of d (take i entries)))
     → new ≡ (old || (ltb b (block_count c) && is_touched_by d b e))
     → new ≡ (ltb b (block_count c) && list_any (touches b) (writes_of d (take (i + 1) entries)))
 touched_more c d b i entries e old new less is was put =
     put ∙ ap (λ x. x || (ltb b (block_count c) && is_touched_by d b e)) was
-    ∙ joined (ltb b (block_count c)) (list_any (touches b) (writes_of d (take i entries))) (is_touched_by d b e)
+    ∙ and_or (ltb b (block_count c)) (list_any (touches b) (writes_of d (take i entries)))
+    (is_touched_by d b e)
     ∙ ap (λ x. ltb b (block_count c) && x) (sym (touched_last d b (take i entries) e))
     ∙ ap (λ (l : List Entry). ltb b (block_count c) && list_any (touches b) (writes_of d l)) (sym (taken_more entries i e less is))
 

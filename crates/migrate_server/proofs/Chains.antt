@@ -18,11 +18,11 @@ use Rattle.journal.specs.declared.refusal.JournalRefused.TheVariants.{DiskFault,
 use Rattle.journal.proofs.Crashes.{crashes_keep, never_strange, opens_one_of, reads_keep_them, reads_one_of, refuses_keep}
 use Rattle.record_codec.specs.declared.record.Record.{Record}
 use Rattle.ctl_state.specs.Value.{no_records}
+use Rattle.ctl_state.proofs.ListFacts.{none-numbered}
 use Rattle.restart.specs.Agrees.{Agrees}
 use Rattle.restart.specs.Laws.{TakenAgree, TakenAreNotStrange}
 use Rattle.restart.specs.Reopening.{SaysWhy, IsFoundStrange}
 use Rattle.restart.specs.Standing.{AreTaken}
-use Rattle.restart.proofs.There.{none_numbered}
 use Rattle.restart.specs.declared.refusal.ReopenRefused.{ReopenRefused}
 use Rattle.restart.specs.declared.refusal.ReopenRefused.TheVariants.{Journal, Strange, NoMemory}
 use Rattle.migrate_server.specs.Runs.{HoldsTogether, GoesOnFrom, ServesTogether, IsUnopened, Runs, FreshHoldsTogether, UnopenedHoldTogether, ServedHoldTogether, RunsFindOne, CrashesHoldTogether, NoneIsStrange, FleetAgrees, status_unopened}
@@ -113,7 +113,7 @@ nothing_taken fleet = record {
     come_to = refl;
     borne_out = λ front rest r v split come. absurd (no_split front rest r split);
   };
-  snapshots = λ mig m there. absurd (none_numbered mig m there);
+  snapshots = λ mig m there. absurd (none-numbered mig m there);
 }
   where
     no_split : (front rest : List Record) (r : Record) → [] ≡ front ++ r ∷ rest → ⊥

@@ -4,6 +4,7 @@ use Rattle.std.specs.Prelude.{MatchOption, IfSome, IsSome, IsSomeAnd, IsTrue, Al
 use Rattle.std.specs.Option.{option_map_or}
 use Rattle.std.proofs.lemmas.Bool.{false≢true, true≢false}
 use Rattle.std.proofs.lemmas.List.Elements.{All-cons}
+use Rattle.basics.proofs.Options.{none-is_some}
 use Rattle.target_volume.specs.VolumeName.{find_volume, with_volume}
 use Rattle.target_volume.specs.VolumeStore.{StoreState, StoredVolume}
 use Rattle.target_volume.specs.declared.volume_name.VolumeName.{VolumeName}
@@ -66,17 +67,15 @@ keeps_same : (volumes : Option Volumes) → Keeps volumes volumes
 keeps_same None = record { tells = λ is. is; kept = tt }
 keeps_same (Some volumes) = record { tells = λ is. is; kept = λ name is. refl }
 
-none_is_some : (o : Option StoredVolume) → o ≡ None → IsSome o → ⊥
-none_is_some None h is = false≢true is
-none_is_some (Some volume) h is = let e = h in cc
-
 -- a volume under a name that was free leaves each other one
 keeps_new : (name : VolumeName) (volume : StoredVolume) (old : StoreState) (volumes : Option Volumes) → old.volumes ≡ volumes → IfSome volumes (λ vs. find_volume name vs ≡ None)
     → Keeps volumes (option_map (with_volume name volume) volumes)
 keeps_new name volume old None is free = record { tells = λ t. t; kept = tt }
 keeps_new name volume old (Some volumes) is free = record {
   tells = λ t. refl;
-  kept = λ other there. find-with_other name other volume volumes (λ same. none_is_some (find_volume name volumes) free (subst (λ (n : VolumeName). IsSome (find_volume n volumes)) same there));
+  kept = λ other there. find-with_other name other volume volumes
+      (λ same. none-is_some (find_volume name volumes) free
+      (subst (λ (n : VolumeName). IsSome (find_volume n volumes)) same there));
 }
 
 keeps_made : (name : VolumeName) (volume : StoredVolume) (old : StoreState) → IsFree name old → Keeps old.volumes (with_new_volume name volume old).volumes

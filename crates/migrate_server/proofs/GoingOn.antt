@@ -15,7 +15,7 @@ use Rattle.source_vm.specs.Machine.{MachineState}
 use Rattle.fleet.specs.Fleet.{HostState, VmState, FleetState, host_place, with_vm, with_log, VmGoesOn, FleetGoesOn}
 use Rattle.fleet.specs.Laws.{GoesOnFurther, HostsGoOn, VmsGoOn}
 use Rattle.fleet.proofs.Found.{logs_go_on}
-use Rattle.fleet.proofs.Logs.{goes_on_itself}
+use Rattle.fleet.proofs.Logs.{goes_on_itself, vm_stays}
 use Rattle.answers.specs.Answer.{Answer}
 use Rattle.fleet_commands.specs.Machines.{machine_named, entry_of, after_act}
 use Rattle.fleet_commands.specs.commands.Deed.{act_of}
@@ -29,9 +29,6 @@ use Rattle.migrate_server.specs.Session.{State, power_deed, records_of, state_af
 use Rattle.migrate_server.proofs.EachCommand.{session_keeps}
 
 -- ---- the laws of a fleet
-
-vm_stays : (vm : VmState) → VmGoesOn vm vm
-vm_stays vm = record { name = refl; host = refl; capacities = refl; log = take-length vm.log }
 
 vm_further : (first second third : VmState) → VmGoesOn first second → VmGoesOn second third
     → VmGoesOn first third

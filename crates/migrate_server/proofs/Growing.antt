@@ -1,7 +1,7 @@
 -- Records that are taken over a fleet are taken over one that goes on from it, as long as what
 -- migrations own stays theirs: what a record says of a log is said of places that later entries
 -- leave as they are.
-use Rattle.std.proofs.Common.{◌≡◌, ℕ, zero, suc, ◌+◌, ◌-◌, ◌<◌, ◌≤◌, ◌==◌, Bool, true, false, ◌&&◌, ◌||◌, List, [], ◌∷◌, ◌++◌, length, take, drop, Option, Some, None, option_and_then, option_map, IsSomeAnd, cond, if◌then◌else◌, append_assoc, inl, inr, refl, sym, ap, subst, ◌∙◌, arith}
+use Rattle.std.proofs.Common.{◌≡◌, ℕ, zero, suc, ◌+◌, ◌-◌, ◌<◌, ◌≤◌, ◌==◌, Bool, true, false, ◌&&◌, ◌||◌, List, [], ◌∷◌, ◌++◌, length, take, drop, Option, Some, None, option_and_then, option_map, IsSomeAnd, cond, if◌then◌else◌, inl, inr, refl, sym, ap, subst, ◌∙◌, arith}
 use Rattle.std.specs.Prelude.{slice_get, IsSome, fold, unwrap_or}
 use Rattle.std.specs.List.{list_all, list_any}
 use Rattle.std.specs.Option.{ForSome, option_map_or}
@@ -46,24 +46,24 @@ use Rattle.ctl_state.specs.Migration.{all_done, change_at, current_snapshot, don
 use Rattle.ctl_state.specs.Sound.{Current, FitsPhase, HasCurrent, IsSound, StandsNow, facts_in, last_mark}
 use Rattle.ctl_state.specs.Sound.Current.{not_yet_added}
 use Rattle.ctl_state.specs.Steps.{after_step, finished_volume, how_of, new_migration, with_checkpoint_done, with_end, with_stage_done}
-use Rattle.ctl_state.specs.Value.{CtlValue, migration_in, no_records, numbered}
+use Rattle.ctl_state.specs.Value.{CtlValue, migration_in, no_records}
 use Rattle.ctl_state.proofs.Came.{Came, made, stepped, stayed, came, fronts}
 use Rattle.ctl_state.proofs.FoldFacts.{goes_on}
+use Rattle.ctl_state.proofs.ListFacts.{none-numbered}
 use Rattle.ctl_state.proofs.SoundMoves.{lives}
 use Rattle.ctl_state.proofs.SoundSteps.{goes-on}
-use Rattle.ctl_state.proofs.SoundValues.{values_are_sound}
+use Rattle.ctl_state.proofs.SoundValues.{step-same, values_are_sound}
 use Rattle.log_facts.specs.LogFacts.{facts_of}
 use Rattle.record_codec.specs.Record.{migration_of}
 use Rattle.restart.specs.BorneOut.{IsBorneOut, IsInLog, migration_before, names_machines}
 use Rattle.restart.specs.Machines.{facts_at, has_tracking, is_tracked, is_tracked_with}
 use Rattle.restart.specs.Standing.{AreBorneOut, AreTaken, StandOver}
-use Rattle.restart.proofs.Staying.{step_same}
 use Rattle.restart.proofs.StrangeNumbers.{next_may}
-use Rattle.restart.proofs.TakenOnes.{before_is}
+use Rattle.restart.proofs.TakenOnes.{before_is, front_borne}
 use Rattle.restart.proofs.There.{told_some}
+use Rattle.fleet.proofs.In.{is_in}
 use Rattle.fleet.proofs.Logs.{at_place, is_within}
 use Rattle.fleet.proofs.StaysSound.{IsVm-at}
-use Rattle.fleet_commands.proofs.Lifting.{is_in}
 use Rattle.phase_table.specs.declared.phases.Phase.TheVariants as Phases
 use Rattle.phase_table.specs.declared.table.Fact.TheVariants as Facts
 
@@ -353,18 +353,13 @@ came_known fleet v r mig n is old borne (made plan vm disks which may new) = λ 
     subst (IsKnown at.log) (sym new)
     (known_without at.log (new_migration mig plan vm disks) refl refl)
 came_known fleet v r mig n is old borne (stepped m there may new of) = λ at found.
-    let vm : m.vm ≡ n.vm = sym (ap (λ (x : Migration). x.vm) new ∙ (step_same m r).vm) in
+    let vm : m.vm ≡ n.vm = sym (ap (λ (x : Migration). x.vm) new ∙ (step-same m r).vm) in
     let here = ap (λ (k : ℕ). facts_at k fleet) vm ∙ found in
     let asks = told_some (facts_at m.vm fleet) (λ a. RecordAsks a m r) at
     (borne.logged m (before_is v r mig m of there)) here in
     subst (IsKnown at.log) (sym new)
     (step_known at m r (legal_facts fleet m.vm at is here) (old mig m there at here) asks)
 came_known fleet v r mig n is old borne (stayed there other) = old mig n there
-
-front_borne : (fleet : FleetState) (front rest : List Record) → AreBorneOut fleet (front ++ rest)
-    → AreBorneOut fleet front
-front_borne fleet front rest borne before behind r v split come = borne before (behind ++ rest) r v
-    (ap (λ (xs : List Record). xs ++ rest) split ∙ append_assoc before (r ∷ behind) rest) come
 
 abbrev Front : FleetState → List Record → CtlValue → Type 0
 Front fleet front w = IsStateOf w front × (AreBorneOut fleet front
@@ -379,18 +374,11 @@ one_front fleet is front w r old may = (
       (old.1 (front_borne fleet front (r ∷ []) borne)) (borne front [] r w refl old.0) (came w r mig n may there),
 )
 
-pub none_numbered : {X : Type 0} (n : ℕ) (x : X) → numbered [] n ≡ Some x → ⊥
-none_numbered {X} n x = test (n == 0)
-  where
-    test : (b : Bool) → cond b None (slice_get [] (n - 1)) ≡ Some x → ⊥
-    test true e = none-some x e
-    test false e = none-some x e
-
 pub all_known : (fleet : FleetState) (records : List Record) (v : CtlValue) → IsFleet fleet
     → StandOver fleet records v → (mig : ℕ) (m : Migration) → migration_in v mig ≡ Some m
     → Knows fleet m
 all_known fleet records v is stand = (fronts (Front fleet) (one_front fleet is)
-    (refl, λ borne mig m at. absurd (none_numbered mig m at)) records v stand.come_to).1
+    (refl, λ borne mig m at. absurd (none-numbered mig m at)) records v stand.come_to).1
     stand.borne_out
 
 -- ---- the whole fleet

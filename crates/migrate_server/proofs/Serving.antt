@@ -1,5 +1,5 @@
 -- Lines, their answers, and the session that they make.
-use Rattle.std.proofs.Common.{◌≡◌, ◌≢◌, ◌⊎◌, ℕ, suc, ◌+◌, ◌-◌, ◌<◌, ◌≤◌, Bool, true, false, MatchBool, cond, not, if◌then◌else◌, ◌==◌, List, [], ◌∷◌, ◌++◌, length, take, drop, Option, Some, None, Result, Ok, Err, inl, inr, refl, sym, ap, subst, append_assoc, ◌∙◌, arith}
+use Rattle.std.proofs.Common.{◌≡◌, ◌≢◌, ◌⊎◌, ℕ, suc, ◌+◌, ◌-◌, ◌<◌, ◌≤◌, Bool, true, false, cond, not, if◌then◌else◌, ◌==◌, List, [], ◌∷◌, ◌++◌, length, take, drop, Option, Some, None, Result, Ok, Err, inl, inr, refl, sym, ap, subst, append_assoc, ◌∙◌, arith}
 use Rattle.std.specs.Prelude.{IfSome, IsTrue, OnOk, OnErr, count_by, nat_le}
 use Rattle.std.proofs.KnownBytes.{Appends-nil, Appends-trans, Consumes-nil, Consumes-trans}
 use Rattle.std.proofs.lemmas.Bool.{false≢true, true≢false, false_from_ne_true, and_left, eqb-true, lt-leb, le-leb}
@@ -1070,14 +1070,6 @@ ended_without_reply old now after reader reader_after buffer Fault p t f =
     ended_at_fault old now after reader reader_after buffer p t f
 ended_without_reply old now after reader reader_after buffer (Unkept why) p t f =
     ended_unkept old now after reader reader_after buffer why p t f
-
-pub took_line : (A B : Type 0) (more : Bool) → more ≡ true → MatchBool more A B → A
-took_line A B true e h = h
-took_line A B false e h = cc
-
-pub took_none : (A B : Type 0) (more : Bool) → more ≡ false → MatchBool more A B → B
-took_none A B true e h = cc
-took_none A B false e h = h
 
 -- ---- the usage line
 

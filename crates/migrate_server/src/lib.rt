@@ -2,7 +2,7 @@
 #![tactic(auto)]
 
 ghost use Rattle.std.specs.Prelude.{◌≡◌, ◌<◌, ◌↔◌, length, IsTrue};
-ghost use Rattle.fleet.specs.Sound.{AllAreIn, IsFleet};
+ghost use Rattle.fleet.specs.Sound.{AllAreIn};
 ghost use Rattle.record_keeping.specs.Keeping.{keeping, IsReady};
 ghost use Rattle.migrate_server.specs.World.{world_of, desk_of, server_of};
 ghost use Rattle.migrate_server.specs.Serve.{status_of, AllWouldBeTaken};
@@ -145,13 +145,6 @@ fn run<S: Source, K: Sink, D: Disk, T: VolumeStore>(
             fleet,
         },
     }
-}
-
-/// What is true of every fleet: a look at it tells that.
-pub(crate) fn fleet_is_sound(fleet: &Fleet)
-    ensures { IsFleet fleet.now }
-{
-    let _ = fleet.vm_at(0);
 }
 
 /// Serves lines over a controller, and closes its journal.

@@ -18,7 +18,6 @@ ghost use Rattle.migrate_server.specs.EndsFor.{EndsFor};
 
 use crate::commands::moves::run_move;
 use crate::commands::plans::{run_cutover, run_plan, run_start};
-use crate::fleet_is_sound;
 use crate::line::{Line, meaning_of};
 use crate::line_buffer::LineBuffer;
 use crate::reader::{LineReader, NoLine};
@@ -27,7 +26,7 @@ use basics::{Name, NoMemory, Text};
 use cmd_json::Command;
 use ctl_state::Controller;
 use edge_traits::{Disk, Sink, Source};
-use fleet::Fleet;
+use fleet::{Fleet, fleet_is_sound};
 use fleet_commands::{
     Deed, QueryLine, ReadLine, WriteLine, run_deed, run_host, run_inventory, run_query, run_read,
     run_snapshot, run_vm, run_write,

@@ -16,13 +16,12 @@ ghost use Rattle.plan_commands.specs.commands.Plan.{plan_refusal, plan_records, 
 ghost use Rattle.plan_commands.specs.commands.Start.{start_refusal, start_records, start_reply};
 ghost use Rattle.plan_commands.specs.commands.Cutover.{cutover_refusal, cutover_records, cutover_reply};
 
-use crate::machines::fleet_is_sound;
 use crate::{Asked, ask_cutover, ask_plan, ask_start, numbers_suffice, what_is_asked_may_be_kept};
 use answers::Answer;
 use basics::Name;
 use ctl_state::Controller;
 use edge_traits::Disk;
-use fleet::Fleet;
+use fleet::{Fleet, fleet_is_sound};
 use plan_model::Moment;
 use record_keeping::{NotKept, keep_records};
 use std::alloc::Global;

@@ -1,6 +1,6 @@
 //! What plans ask of the machines of a fleet.
 ghost use Rattle.std.specs.Prelude.{◌≡◌, ◌<◌, Some, IfOk, length, slice_get};
-ghost use Rattle.fleet.specs.Sound.{AllAreIn, IsFleet};
+ghost use Rattle.fleet.specs.Sound.{AllAreIn};
 ghost use Rattle.plan_commands.specs.Machines.{known_of, disks_of, name_of, log_of};
 
 use basics::{Name, NoMemory};
@@ -9,13 +9,6 @@ use fleet::Fleet;
 use log_model::Entry;
 use plan_model::VmFact;
 use std::alloc::Global;
-
-/// What is true of every fleet: a look for a machine tells it.
-pub(crate) fn fleet_is_sound(fleet: &Fleet)
-    ensures { IsFleet fleet.now }
-{
-    let _ = fleet.vm_at(0);
-}
 
 /// What is known of each machine of a fleet, none of which may be out, in order of their numbers.
 pub(crate) fn known_of(

@@ -11,10 +11,9 @@ use Rattle.record_codec.specs.Record.{KeepsRule}
 use Rattle.journal.specs.Journal.{JournalState, append_refusal, after_append, Appends}
 use Rattle.journal.specs.declared.refusal.JournalRefused.{JournalRefused}
 use Rattle.ctl_state.specs.Fold.{after, after_record, IsStateOf}
-use Rattle.ctl_state.specs.Laws.{then_after}
 use Rattle.ctl_state.specs.MayStand.{record_may_stand}
 use Rattle.ctl_state.specs.Value.{CtlValue}
-use Rattle.ctl_state.proofs.FoldFacts.{goes_on, stops, lists_join}
+use Rattle.ctl_state.proofs.FoldFacts.{goes_on, stops, strange_no}
 use Rattle.record_keeping.specs.Keeping.{Keeping, keeping, IsReady, MayBeKept, Keeps, KeepsOne, KeepsFront, StopsAt, CutOff, IsUnfailed, FrontsMayBeKept}
 use Rattle.record_keeping.specs.declared.refusal.NotKept.{NotKept}
 use Rattle.record_keeping.specs.declared.refusal.NotKept.TheVariants.{Fault, Full, NoMemory}
@@ -97,11 +96,6 @@ kept_all added at start now end k =
     subst (λ (xs : List Record). Keeps xs start now) (take_all at added end) k.keeps
 
 -- ---- the next one may stand
-
-strange_no : (front rest : List Record) (next : CtlValue) (number : ℕ)
-    → after front ≡ Err number → after (front ++ rest) ≡ Ok next → ⊥
-strange_no front rest next number bad good =
-    let e = sym good ∙ lists_join front rest ∙ ap (λ a. then_after (length front) a rest) bad in cc
 
 stands_by : (may : Bool) (v : CtlValue) (front rest : List Record) (r : Record) (next : CtlValue)
     → record_may_stand v r ≡ may → IsStateOf v front → after ((front ++ r ∷ []) ++ rest) ≡ Ok next

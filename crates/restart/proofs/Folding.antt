@@ -1,7 +1,7 @@
 -- Records that stand, one more of them at a time, and the migrations that have their snapshots, one
 -- more at a time.
 use Rattle.std.proofs.Common.{◌≡◌, ℕ, ◌+◌, ◌-◌, ◌==◌, ◌<◌, ◌≤◌, Bool, true, false, cond, List, [], ◌∷◌, ◌++◌, length, take, drop, get_or, Some, None, Result, Ok, refl, ap, subst, sym, ◌∙◌, arith, below_more}
-use Rattle.std.specs.Prelude.{slice_get, IsTrue, MatchBool, ◌↔◌}
+use Rattle.std.specs.Prelude.{slice_get, IsTrue, ◌↔◌}
 use Rattle.std.proofs.lemmas.Bool.{eqb-true, false≢true}
 use Rattle.std.proofs.lemmas.List.{take_more, take_all, length-take-le}
 use Rattle.std.proofs.lemmas.Option.{same_Some, slice_get_within, slice_get_read}
@@ -144,11 +144,3 @@ one_lacks fleet v migrations place m all within is lacking = record {
 
 pub told_false : {P : Type 0} (said : Bool) → (IsTrue said ↔ P) → said ≡ false → ¬ P
 told_false said tells is holds = false≢true (sym is ∙ tells.1 holds)
-
-pub at_false : (P Q : Type 0) (said : Bool) → said ≡ false → MatchBool said P Q → Q
-at_false P Q true is h = absurd (false≢true (sym is))
-at_false P Q false is h = h
-
-pub at_true : (P Q : Type 0) (said : Bool) → said ≡ true → MatchBool said P Q → P
-at_true P Q true is h = h
-at_true P Q false is h = absurd (false≢true is)

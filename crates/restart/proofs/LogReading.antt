@@ -8,11 +8,11 @@ use Rattle.basics.specs.declared.refusal.NoMemory.{NoMemory}
 use Rattle.std.proofs.lemmas.Option.{same_Some}
 use Rattle.source_vm.specs.Machine.{MachineState}
 use Rattle.fleet.specs.Fleet.{FleetState, machine_of}
+use Rattle.fleet.proofs.In.{is_in}
 use Rattle.log_facts.specs.LogFacts.{facts_of}
 use Rattle.ctl_state.specs.Asks.{MachineFacts}
 use Rattle.restart.specs.Machines.{facts_at}
 use Rattle.restart.specs.ReadLogs.{FactsByVm, AreOf, GainsOnly}
-use Rattle.restart.proofs.There.{is_in}
 
 -- ---- logs of a fleet
 
@@ -27,7 +27,7 @@ still_of fleet vm machine old new found of gains k at here = elim (gains k at he
   | inl before ↦ of k at before
   | inr now ↦ (
       let same : k ≡ vm = now.0
-      ∙ ap (λ (m : MachineState). m.number) (is_in fleet vm machine found).is in
+      ∙ ap (λ (m : MachineState). m.number) (is_in vm machine fleet found).1.same in
       ap (λ (n : ℕ). facts_at n fleet) same ∙ facts_there fleet vm machine found
       ∙ ap (λ (x : MachineFacts). Some x) (sym now.1))
 ]

@@ -1,83 +1,21 @@
 -- What stays of plans and of migrations whatever records come behind them: the machines of a plan,
 -- and the machine of a migration with its number of disks.
-use Rattle.std.proofs.Common.{◌≡◌, ℕ, ◌==◌, Bool, true, false, cond, List, [], ◌∷◌, ◌++◌, Option, Some, None, Ok, refl, ap, subst, sym, ◌∙◌, append_assoc, option_map}
-use Rattle.std.specs.Option.{option_map_or}
+use Rattle.std.proofs.Common.{◌≡◌, ℕ, ◌==◌, Bool, true, false, List, [], ◌∷◌, ◌++◌, Some, Ok, refl, ap, subst, sym, ◌∙◌, append_assoc, option_map}
 use Rattle.std.proofs.lemmas.Bool.{eqb-true, eq-eqb, false≢true}
 use Rattle.std.proofs.lemmas.List.{append-nil}
 use Rattle.std.proofs.lemmas.Option.{none-some}
-use Rattle.phase_table.specs.declared.phases.Phase.TheVariants as Phases
-use Rattle.phase_table.specs.declared.table.Fact.TheVariants as Facts
 use Rattle.plan_model.specs.declared.plan.Plan.{Plan}
 use Rattle.record_codec.specs.declared.record.Record.{Record}
 use Rattle.record_codec.specs.declared.record.Record.TheVariants.{PlanMade, MigrationStarted, Chosen, SnapTaken, IdsStored, VolumesMade, CheckpointAdded, StageBegun, StageDone, Paused, SnapRemoved, CutoverSet, PowerStored, PoweredOff, OffSeen, FinalSnapTaken, CancelAsked, Ended}
 use Rattle.ctl_state.specs.declared.migration.Migration.{Migration}
-use Rattle.ctl_state.specs.declared.migration.How.{How}
-use Rattle.ctl_state.specs.Migration.{same_phase, moved, change_at, done_copy, all_done, sectors_written}
-use Rattle.ctl_state.specs.Steps.{new_migration, after_step, with_checkpoint_done, with_stage_done, finished_volume, with_end, how_of}
+use Rattle.ctl_state.specs.Steps.{new_migration, after_step}
 use Rattle.ctl_state.specs.Fold.{IsStateOf, after, after_record}
 use Rattle.ctl_state.specs.Value.{CtlValue, numbered, change_numbered, migration_in, plan_in}
 use Rattle.ctl_state.proofs.FoldFacts.{goes_on}
 use Rattle.ctl_state.proofs.ListFacts.{numbered-changed, numbered-other, numbered-before}
-use Rattle.ctl_state.proofs.SoundValues.{numbered-past, plan-stays}
+use Rattle.ctl_state.proofs.SoundValues.{SameOne, same-one, same-further, step-same, numbered-past, plan-stays}
 use Rattle.restart.proofs.Folding.{one_value}
 use Rattle.restart.proofs.StrangeNumbers.{next_may}
-
--- ---- one step
-
--- a migration of the same machine, with as many disks
-pub record SameMachine (old new : Migration) : Type 0 where
-  pub vm : new.vm ≡ old.vm
-  pub disks : new.disks ≡ old.disks
-
-pub same_machine : (m : Migration) → SameMachine m m
-same_machine m = record { vm = refl; disks = refl }
-
-pub same_further : (first second third : Migration) → SameMachine first second
-    → SameMachine second third → SameMachine first third
-same_further first second third a b = record { vm = b.vm ∙ a.vm; disks = b.disks ∙ a.disks }
-
-one_of : (b : Bool) (m x y : Migration) → SameMachine m x → SameMachine m y
-    → SameMachine m (cond b x y)
-one_of true m x y a b = a
-one_of false m x y a b = b
-
-end_same : (m : Migration) (how : Option How)
-    → SameMachine m (option_map_or (λ end. with_end end m) how m)
-end_same m None = same_machine m
-end_same m (Some how) = record { vm = refl; disks = refl }
-
-stage_same : (m : Migration) (disk written : ℕ) → SameMachine m (with_stage_done disk written m)
-stage_same m disk written =
-    let copied = record m { copies = change_at m.copies disk (done_copy m.mark written) } in
-    let finished = record copied {
-      dv = finished_volume m.dv;
-      marks = m.marks ++ m.mark ∷ [];
-      written = m.written ++ sectors_written copied.copies ∷ [];
-    } in
-    one_of (all_done copied.copies) m (with_checkpoint_done copied) copied
-    (one_of (same_phase m.phase Phases.CopyFinal) m (moved finished Facts.Done) finished
-    (record { vm = refl; disks = refl }) (record { vm = refl; disks = refl }))
-    (record { vm = refl; disks = refl })
-
-pub step_same : (m : Migration) (r : Record) → SameMachine m (after_step m r)
-step_same m (PlanMade plan name interval vms) = same_machine m
-step_same m (MigrationStarted mig plan vm disks) = same_machine m
-step_same m (Chosen mig way at) = record { vm = refl; disks = refl }
-step_same m (SnapTaken mig snap mark) = record { vm = refl; disks = refl }
-step_same m (IdsStored mig ids) = record { vm = refl; disks = refl }
-step_same m (VolumesMade mig) = record { vm = refl; disks = refl }
-step_same m (CheckpointAdded mig previous current last) = record { vm = refl; disks = refl }
-step_same m (StageBegun mig disk) = record { vm = refl; disks = refl }
-step_same m (StageDone mig disk written) = stage_same m disk written
-step_same m (Paused mig at) = record { vm = refl; disks = refl }
-step_same m (SnapRemoved mig snap) = record { vm = refl; disks = refl }
-step_same m (CutoverSet plan has at) = same_machine m
-step_same m (PowerStored mig on) = record { vm = refl; disks = refl }
-step_same m (PoweredOff mig) = record { vm = refl; disks = refl }
-step_same m (OffSeen mig off) = record { vm = refl; disks = refl }
-step_same m (FinalSnapTaken mig snap mark place) = record { vm = refl; disks = refl }
-step_same m (CancelAsked mig) = record { vm = refl; disks = refl }
-step_same m (Ended mig how place) = end_same m (how_of how)
 
 -- ---- one record
 
@@ -85,7 +23,7 @@ step_same m (Ended mig how place) = end_same m (how_of how)
 pub record Lasts (migrations : List Migration) (mig : ℕ) (m : Migration) : Type 0 where
   pub now : Migration
   pub there : numbered migrations mig ≡ Some now
-  pub same : SameMachine m now
+  pub same : SameOne m now
 
 own_lasts : (migrations : List Migration) (k mig : ℕ) (r : Record) (m : Migration)
     → numbered migrations mig ≡ Some m
@@ -100,13 +38,13 @@ own_lasts migrations k mig r m at = by (k == mig) refl
           (eqb-true k mig e)
           ∙ numbered-changed migrations mig (λ n. after_step n r)
           ∙ ap (option_map (λ n. after_step n r)) at;
-      same = step_same m r;
+      same = step-same m r;
     }
     by false e = record {
       now = m;
       there = numbered-other migrations k mig (λ n. after_step n r)
           (λ is. false≢true (sym e ∙ eq-eqb k mig is)) ∙ at;
-      same = same_machine m;
+      same = same-one m;
     }
 
 added_lasts : (migrations : List Migration) (mig : ℕ) (m added : Migration)
@@ -116,13 +54,13 @@ added_lasts migrations mig m added at = record {
   there = numbered-before migrations added mig
       (λ is. none-some m (sym (numbered-past migrations) ∙ ap (numbered migrations) (sym is) ∙ at))
       ∙ at;
-  same = same_machine m;
+  same = same-one m;
 }
 
 pub record_lasts : (v : CtlValue) (r : Record) (mig : ℕ) (m : Migration)
     → migration_in v mig ≡ Some m → Lasts (after_record v r).migrations mig m
 record_lasts v (PlanMade plan name interval vms) mig m at =
-    record { now = m; there = at; same = same_machine m }
+    record { now = m; there = at; same = same-one m }
 record_lasts v (MigrationStarted k plan vm disks) mig m at =
     added_lasts v.migrations mig m (new_migration k plan vm disks) at
 record_lasts v (Chosen k way moment) mig m at =
@@ -143,7 +81,7 @@ record_lasts v (Paused k moment) mig m at =
 record_lasts v (SnapRemoved k snap) mig m at =
     own_lasts v.migrations k mig (SnapRemoved k snap) m at
 record_lasts v (CutoverSet plan has moment) mig m at =
-    record { now = m; there = at; same = same_machine m }
+    record { now = m; there = at; same = same-one m }
 record_lasts v (PowerStored k on) mig m at =
     own_lasts v.migrations k mig (PowerStored k on) m at
 record_lasts v (PoweredOff k) mig m at = own_lasts v.migrations k mig (PoweredOff k) m at
@@ -166,7 +104,7 @@ pub record GoesOn (old new : CtlValue) : Type 0 where
 goes_itself : (old new : CtlValue) → old ≡ new → GoesOn old new
 goes_itself old new is = subst (GoesOn old) is (record {
   plans = λ number plan at. at;
-  migrations = λ mig m at. record { now = m; there = at; same = same_machine m };
+  migrations = λ mig m at. record { now = m; there = at; same = same-one m };
 })
 
 one_more_first : (v w : CtlValue) (r : Record) → GoesOn (after_record v r) w → GoesOn v w
@@ -178,7 +116,7 @@ one_more_first v w r behind = record {
       record {
         now = more.now;
         there = more.there;
-        same = same_further m one.now more.now one.same more.same;
+        same = same-further m one.now more.now one.same more.same;
       };
 }
 

@@ -1,26 +1,18 @@
 -- Records are strange at one number at most, and at none where they are taken: none of those that
 -- stand is rejected.
-use Rattle.std.proofs.Common.{◌≡◌, ℕ, ◌+◌, ◌≤◌, true, false, List, [], ◌∷◌, ◌++◌, length, Result, Ok, Err, refl, ap, subst, sym, ◌∙◌, inl, inr, append_assoc, length-append, arith}
+use Rattle.std.proofs.Common.{◌≡◌, ℕ, ◌+◌, ◌≤◌, true, false, List, [], ◌∷◌, ◌++◌, length, Ok, refl, ap, subst, sym, ◌∙◌, inl, inr, append_assoc, length-append, arith}
 use Rattle.std.specs.Prelude.{Bool}
 use Rattle.fleet.specs.Fleet.{FleetState}
 use Rattle.record_codec.specs.declared.record.Record.{Record}
 use Rattle.ctl_state.specs.Fold.{IsStateOf, after}
-use Rattle.ctl_state.specs.Laws.{then_after}
 use Rattle.ctl_state.specs.MayStand.{record_may_stand}
 use Rattle.ctl_state.specs.Value.{CtlValue, no_records, migration_in}
-use Rattle.ctl_state.proofs.FoldFacts.{lists_join, stops}
+use Rattle.ctl_state.proofs.FoldFacts.{stops, strange_no}
+use Rattle.ctl_state.proofs.ListFacts.{none-numbered}
 use Rattle.restart.specs.Standing.{StandOver, IsRejected, IsFirstStrange, LackASnapshot, HaveSnapshots}
 use Rattle.restart.specs.Laws.{StrangeAtOne, StrangeAmongThem, TakenAreNotStrange}
 use Rattle.restart.proofs.Splits.{same, earlier, later, two_splits}
 use Rattle.restart.proofs.Folding.{one_value}
-use Rattle.restart.proofs.There.{none_numbered}
-
-strange_no : (front rest : List Record) (w : CtlValue) (number : ℕ) → after front ≡ Err number
-    → after (front ++ rest) ≡ Ok w → ⊥
-strange_no front rest w number bad good =
-    let e : ◌≡◌ {A = Result CtlValue ℕ} (Ok w) (Err number) = sym good ∙ lists_join front rest
-    ∙ ap (λ (a : Result CtlValue ℕ). then_after (length front) a rest) bad in
-    cc
 
 -- each record of a list that comes to a value may stand behind those before it
 pub next_may : (front rest : List Record) (r : Record) (v w : CtlValue) → IsStateOf v front
@@ -83,7 +75,7 @@ strange_at_one fleet records one other (inr a) (inr b) = a.counted ∙ sym b.cou
 none_lack : (fleet : FleetState) (v : CtlValue) → IsStateOf v [] → LackASnapshot fleet v → ⊥
 none_lack fleet v come lack =
     let e : no_records ≡ v = one_value [] no_records v refl come in
-    none_numbered lack.mig lack.migration
+    none-numbered lack.mig lack.migration
     (ap (λ (x : CtlValue). migration_in x lack.mig) e ∙ lack.known)
 
 some_records : (fleet : FleetState) (records : List Record) (v : CtlValue) → IsStateOf v records

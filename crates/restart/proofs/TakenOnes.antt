@@ -12,6 +12,7 @@ use Rattle.log_model.specs.Marks.{tracking}
 use Rattle.source_vm.specs.Machine.{MachineState}
 use Rattle.fleet.specs.Fleet.{FleetState, machine_of}
 use Rattle.fleet.specs.Sound.{IsFleet}
+use Rattle.fleet.proofs.In.{is_in}
 use Rattle.fleet.proofs.Logs.{at_place}
 use Rattle.fleet.proofs.StaysSound.{IsVm-at}
 use Rattle.log_facts.specs.LogFacts.{facts_of}
@@ -27,15 +28,15 @@ use Rattle.ctl_state.specs.MayStand.{record_may_stand}
 use Rattle.ctl_state.specs.Value.{CtlValue, no_records, numbered, migration_in}
 use Rattle.ctl_state.proofs.FoldFacts.{goes_on}
 use Rattle.ctl_state.proofs.Came.{Came, made, stepped, stayed, came, fronts}
-use Rattle.ctl_state.proofs.ListFacts.{numbered-before, numbered-added}
-use Rattle.ctl_state.proofs.SoundValues.{values_are_sound}
+use Rattle.ctl_state.proofs.ListFacts.{none-numbered, numbered-before, numbered-added}
+use Rattle.ctl_state.proofs.SoundValues.{SameOne, step-same, values_are_sound}
 use Rattle.restart.specs.Machines.{facts_at, has_tracking, is_tracked, is_tracked_with}
 use Rattle.restart.specs.BorneOut.{names_machines, migration_before, IsBorneOut}
 use Rattle.restart.specs.Standing.{AreBorneOut, StandOver, AreTaken}
 use Rattle.restart.specs.Agrees.{PlansAsk, MigrationAsks}
 use Rattle.restart.specs.Laws.{TakenAgree}
-use Rattle.restart.proofs.There.{is_in, told_some, some_told, none_numbered}
-use Rattle.restart.proofs.Staying.{SameMachine, step_same, values_go_on}
+use Rattle.restart.proofs.There.{told_some, some_told}
+use Rattle.restart.proofs.Staying.{values_go_on}
 
 -- ---- the machines that records named
 
@@ -47,8 +48,8 @@ record AreThere (fleet : FleetState) (v : CtlValue) : Type 0 where
 
 none_there : (fleet : FleetState) → AreThere fleet no_records
 none_there fleet = record {
-  plans = λ number plan at. absurd (none_numbered number plan at);
-  migrations = λ mig m at. absurd (none_numbered mig m at);
+  plans = λ number plan at. absurd (none-numbered number plan at);
+  migrations = λ mig m at. absurd (none-numbered mig m at);
 }
 
 new_plan : (fleet : FleetState) (v : CtlValue) (new : Plan) → PlansAsk fleet v
@@ -89,7 +90,7 @@ plans_ask fleet v (Ended k how place) old named = old
 abbrev Tracked : FleetState → Migration → Type 0
 Tracked fleet m = is_tracked_with fleet m.vm m.disks ≡ true
 
-tracked_same : (fleet : FleetState) (old new : Migration) → SameMachine old new
+tracked_same : (fleet : FleetState) (old new : Migration) → SameOne old new
     → Tracked fleet old → Tracked fleet new
 tracked_same fleet old new same h =
     ap (λ (vm : ℕ). is_tracked_with fleet vm new.disks) same.vm
@@ -101,13 +102,13 @@ migration_asks : (fleet : FleetState) (v : CtlValue) (r : Record) (mig : ℕ) (n
 migration_asks fleet v r mig n old named (made plan vm disks is may new) =
     subst (Tracked fleet) (sym new) (ap (names_machines fleet) (sym is) ∙ named)
 migration_asks fleet v r mig n old named (stepped m there may is of) =
-    subst (Tracked fleet) (sym is) (tracked_same fleet m (after_step m r) (step_same m r)
+    subst (Tracked fleet) (sym is) (tracked_same fleet m (after_step m r) (step-same m r)
     (old mig m there))
 migration_asks fleet v r mig n old named (stayed there other) = old mig n there
 
 -- a front of records that are borne out is
-front_borne : (fleet : FleetState) (front rest : List Record) → AreBorneOut fleet (front ++ rest)
-    → AreBorneOut fleet front
+pub front_borne : (fleet : FleetState) (front rest : List Record)
+    → AreBorneOut fleet (front ++ rest) → AreBorneOut fleet front
 front_borne fleet front rest borne before behind r v split come = borne before (behind ++ rest) r v
     (ap (λ (xs : List Record). xs ++ rest) split ∙ append_assoc before (r ∷ behind) rest) come
 
@@ -155,15 +156,16 @@ of_machine : (fleet : FleetState) (vm disks : ℕ) (m : MachineState) → IsFlee
     → (has_tracking m && length m.capacities == disks) ≡ true → IsTrackedAt fleet vm disks
 of_machine fleet vm disks m is found both =
     let parts = and_parts (has_tracking m) (length m.capacities == disks) both in
-    let known = is_in fleet vm m found in
+    let known = is_in vm m fleet found in
     let legal =
-    (IsVm-at (vm - 1) known.vm fleet is (at_place vm known.vm fleet known.there)).legal in
+    (IsVm-at (vm - 1) known.0 fleet is (at_place vm known.0 fleet known.1.there)).legal in
     record {
       at = facts_of m;
       found = ap (option_map facts_of) found;
-      numbered = ap (λ (x : MachineState). x.number) known.is;
+      numbered = ap (λ (x : MachineState). x.number) known.1.same;
       sized = eqb-true (length m.capacities) disks parts.1;
-      legal = subst (λ (x : MachineState). Legal (all_of x.capacities) x.log) (sym known.is) legal;
+      legal = subst (λ (x : MachineState). Legal (all_of x.capacities) x.log)
+          (sym known.1.same) legal;
       tracked = parts.0;
     }
 

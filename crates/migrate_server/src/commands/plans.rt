@@ -11,12 +11,11 @@ ghost use Rattle.migrate_server.specs.Serve.{AllWouldBeTaken, IsUnanswered};
 ghost use Rattle.migrate_server.specs.Session.{serving, Answers};
 ghost use Rattle.migrate_server.specs.World.{server_of};
 
-use crate::fleet_is_sound;
 use answers::Answer;
 use basics::Name;
 use ctl_state::Controller;
 use edge_traits::Disk;
-use fleet::Fleet;
+use fleet::{Fleet, fleet_is_sound};
 use plan_commands::{
     carry_out_cutover, carry_out_plan, carry_out_start, plans_list_tracked_machines,
     what_is_asked_may_be_kept,

@@ -1,11 +1,12 @@
 -- What the link saw is what the fleet is left with, and what it told is what is answered.
 use Rattle.std.proofs.Common.{◌≡◌, Some, refl, ◌∙◌, sym}
+use Rattle.basics.proofs.Results.{on_err}
 use Rattle.log_model.specs.declared.refusals.LinkRefused.TheVariants.{NoMemory}
 use Rattle.source_vm.specs.Machine.{MachineState}
 use Rattle.fleet_commands.specs.Told.{link_told}
 use Rattle.fleet_commands.specs.Machines.{machine_named}
 use Rattle.fleet_commands.specs.commands.Deed.{act_of, refusal_by}
-use Rattle.fleet_commands.proofs.Telling.{told_none, told_some, on_err}
+use Rattle.fleet_commands.proofs.Telling.{told_none, told_some}
 use Rattle.fleet_commands.proofs.Lifting.{refused_as}
 use Rattle.fleet_commands.proofs.Acting.{acted_may_go_back, met_log, accepted_act, refused_act}
 use Rattle.fleet_commands.proofs.deed.run_deed.Goals as goal

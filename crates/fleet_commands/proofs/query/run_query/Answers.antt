@@ -1,5 +1,6 @@
 -- The machine goes back as it was, and its answer is told.
 use Rattle.std.proofs.Common.{◌≡◌, Some, Ok, Err, ap, ◌∙◌, sym, subst}
+use Rattle.basics.proofs.Results.{on_err}
 use Rattle.log_model.specs.Link.{LinkState, FollowsFrom}
 use Rattle.log_model.specs.declared.entry.TheConstants.{MIGRATION_CALLER}
 use Rattle.log_model.proofs.LinkLaws.{calls_follow}
@@ -8,7 +9,6 @@ use Rattle.fleet.specs.Lending.{after_lower}
 use Rattle.fleet_commands.specs.Machines.{machine_named}
 use Rattle.fleet_commands.specs.commands.Query.{PageAnswers}
 use Rattle.fleet_commands.proofs.Lifting.{may_go_back, goes_back_same}
-use Rattle.fleet_commands.proofs.Showing.{on_err}
 use Rattle.fleet_commands.proofs.Asking.{shown_fits, query_answers, query_refuses}
 use Rattle.fleet_commands.proofs.query.run_query.Goals as goal
 
@@ -34,7 +34,7 @@ returns-in_err-id-clause-err c =
     c.lower.ensures ∙ ap (after_lower c.ask-found.new.link) lent
     ∙ goes_back_same c.args.vm.now m c.args.fleet.now named c.ask-found.new.link
     (c.ask-found.ensures.same ∙ c.of-link.ensures) in
-    on_err (c.lower.new.self ≡ c.args.fleet.now) c.from_residual.result back
+    on_err c.from_residual.result back
 
 pub page_reply-requires-clause-within : goal.page_reply-requires-clause-within
 page_reply-requires-clause-within c =
@@ -65,8 +65,7 @@ returns-in_err-page_reply-in-Ok-2-clause-err c =
     c.lower.ensures ∙ ap (after_lower c.ask-found.new.link) lent
     ∙ goes_back_same c.args.vm.now m c.args.fleet.now named c.ask-found.new.link
     (c.ask-found.ensures.same ∙ c.of-link.ensures) in
-    on_err (c.lower.new.self ≡ c.args.fleet.now)
-    c.from_residual-in_err-page_reply-in-Ok-2.result back
+    on_err c.from_residual-in_err-page_reply-in-Ok-2.result back
 
 pub returns-in-Ok-2-clause-answer : goal.returns-in-Ok-2-clause-answer
 returns-in-Ok-2-clause-answer c =

@@ -1,8 +1,8 @@
 -- The machine goes back with the snapshot that it took, or as it was.
 use Rattle.std.proofs.Common.{◌≡◌, Some, ◌∙◌, sym}
+use Rattle.basics.proofs.Results.{on_err}
 use Rattle.source_vm.specs.Machine.{MachineState}
 use Rattle.fleet_commands.specs.Machines.{machine_named}
-use Rattle.fleet_commands.proofs.Showing.{on_err}
 use Rattle.fleet_commands.proofs.Snapping.{snapshot_answers, taken_may_go_back, nothing_taken, snapshot_refuses}
 use Rattle.fleet_commands.proofs.snapshot.run_snapshot.Goals as goal
 
@@ -27,7 +27,7 @@ returns-in_err-ok_or-in-Err-clause-err c =
     let back : c.lower.new.self ≡ c.args.fleet.now =
     rw (c.lower.ensures, lent) (nothing_taken c.args.vm.now m c.args.fleet.now named
     c.snap-taken.new.link c.snap-taken.result adds refused c.in-Err.why c.in-Err.is) in
-    on_err (c.lower.new.self ≡ c.args.fleet.now) c.from_residual-in_err-ok_or-in-Err.result back
+    on_err c.from_residual-in_err-ok_or-in-Err.result back
 
 pub returns-in-Ok-clause-answer : goal.returns-in-Ok-clause-answer
 returns-in-Ok-clause-answer c =

@@ -1,6 +1,7 @@
 -- What the machine added is what the fleet is left with, and what it told is what is answered.
 use Rattle.std.proofs.Common.{◌≡◌, replicate, Some, refl, ◌∙◌, sym}
 use Rattle.std.proofs.lemmas.List.{length-replicate}
+use Rattle.basics.proofs.Results.{on_err}
 use Rattle.sector_model.specs.Sector.{filled}
 use Rattle.log_model.specs.declared.refusals.WriteRefused.TheVariants.{NoMemory}
 use Rattle.log_model.specs.Refusals.{write_refusal}
@@ -8,7 +9,7 @@ use Rattle.source_vm.specs.Machine.{MachineState}
 use Rattle.fleet_commands.specs.Told.{write_told}
 use Rattle.fleet_commands.specs.Machines.{machine_named}
 use Rattle.fleet_commands.specs.commands.Write.{fill_act}
-use Rattle.fleet_commands.proofs.Telling.{told_none, told_some, on_err}
+use Rattle.fleet_commands.proofs.Telling.{told_none, told_some}
 use Rattle.fleet_commands.proofs.Lifting.{refused_as}
 use Rattle.fleet_commands.proofs.Acting.{added_may_go_back, accepted_addition, refused_addition}
 use Rattle.fleet_commands.proofs.write.run_write.Goals as goal

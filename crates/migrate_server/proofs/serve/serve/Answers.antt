@@ -1,9 +1,10 @@
 use Rattle.std.proofs.Common.{sym, subst}
 use Rattle.std.proofs.lemmas.Result.{err_from_is_err_and}
+use Rattle.basics.proofs.Truth.{at_true, at_false}
 use Rattle.migrate_server.specs.Reader.{ReaderState}
 use Rattle.migrate_server.specs.Serve.{TellsQuit}
 use Rattle.migrate_server.specs.World.{desk_of, server_of}
-use Rattle.migrate_server.proofs.Serving.{Progress, progress_start, progress_line, ended_at_once, ended_whole_input, ended_by_quit, ended_without_line, ended_without_reply, all_in_now, budget_falls, took_line, took_none}
+use Rattle.migrate_server.proofs.Serving.{Progress, progress_start, progress_line, ended_at_once, ended_whole_input, ended_by_quit, ended_without_line, ended_without_reply, all_in_now, budget_falls}
 use Rattle.migrate_server.proofs.serve.serve.Goals as goal
 
 pub returns-in_default-clause-served : goal.returns-in_default-clause-served
@@ -31,12 +32,12 @@ pub returns-then-not-branch-clause-served : goal.returns-then-not-branch-clause-
 returns-then-not-branch-clause-served g c =
     let old = desk_of (g.S.Source.state c.args.input.now) (g.K.Sink.state c.args.out.now) (server_of c.args.fleet.now c.args.controller.now.journal (g.T.VolumeStore.state c.args.controller.now.store)) in
     let now = desk_of (g.S.Source.state c.loop-line.input) (g.K.Sink.state c.loop-line.out) (server_of c.loop-line.fleet c.loop-line.controller.journal (g.T.VolumeStore.state c.loop-line.controller.store)) in
-    let end = took_none _ _ c.in_ok-next.field-0 c.if-not-branch.true c.in_ok-next.ensures.taken in
+    let end = at_false _ _ c.in_ok-next.field-0 c.if-not-branch.true c.in_ok-next.ensures.taken in
     (ended_whole_input old now (g.S.Source.state c.next.new.source) c.loop-line.reader c.next.new.self c.loop-line.invariant.progress end).serves
 
 pub loop-line-smaller : goal.loop-line-smaller
 loop-line-smaller g c =
-    let line = took_line _ _ c.in_ok-next.field-0 c.if-not-branch.false c.in_ok-next.ensures.taken in
+    let line = at_true _ _ c.in_ok-next.field-0 c.if-not-branch.false c.in_ok-next.ensures.taken in
     budget_falls (g.S.Source.state c.loop-line.input) (g.S.Source.state c.next.new.source) c.loop-line.reader c.next.new.self c.next.new.line line
 
 pub loop-line-preserved : goal.loop-line-preserved
@@ -44,7 +45,7 @@ loop-line-preserved g c =
     let old = desk_of (g.S.Source.state c.args.input.now) (g.K.Sink.state c.args.out.now) (server_of c.args.fleet.now c.args.controller.now.journal (g.T.VolumeStore.state c.args.controller.now.store)) in
     let now = desk_of (g.S.Source.state c.loop-line.input) (g.K.Sink.state c.loop-line.out) (server_of c.loop-line.fleet c.loop-line.controller.journal (g.T.VolumeStore.state c.loop-line.controller.store)) in
     let after = desk_of (g.S.Source.state c.next.new.source) (g.K.Sink.state c.serve_line.new.out) (server_of c.serve_line.new.fleet c.serve_line.new.controller.journal (g.T.VolumeStore.state c.serve_line.new.controller.store)) in
-    let line = took_line _ _ c.in_ok-next.field-0 c.if-not-branch.false c.in_ok-next.ensures.taken in
+    let line = at_true _ _ c.in_ok-next.field-0 c.if-not-branch.false c.in_ok-next.ensures.taken in
     let goes = subst (λ told. TellsQuit told line.text) c.if-quits.false (c.in_ok-quits.ensures.quits line.text line.held) in
     record {
       progress = progress_line old now after c.loop-line.reader c.next.new.self c.next.new.line c.loop-line.invariant.progress line (c.in_ok-quits.ensures.served line.text line.held) goes;
@@ -57,7 +58,7 @@ returns-then-quits-clause-served g c =
     let old = desk_of (g.S.Source.state c.args.input.now) (g.K.Sink.state c.args.out.now) (server_of c.args.fleet.now c.args.controller.now.journal (g.T.VolumeStore.state c.args.controller.now.store)) in
     let now = desk_of (g.S.Source.state c.loop-line.input) (g.K.Sink.state c.loop-line.out) (server_of c.loop-line.fleet c.loop-line.controller.journal (g.T.VolumeStore.state c.loop-line.controller.store)) in
     let after = desk_of (g.S.Source.state c.next.new.source) (g.K.Sink.state c.serve_line.new.out) (server_of c.serve_line.new.fleet c.serve_line.new.controller.journal (g.T.VolumeStore.state c.serve_line.new.controller.store)) in
-    let line = took_line _ _ c.in_ok-next.field-0 c.if-not-branch.false c.in_ok-next.ensures.taken in
+    let line = at_true _ _ c.in_ok-next.field-0 c.if-not-branch.false c.in_ok-next.ensures.taken in
     let asks = subst (λ told. TellsQuit told line.text) c.if-quits.true (c.in_ok-quits.ensures.quits line.text line.held) in
     (ended_by_quit old now after c.loop-line.reader c.next.new.self c.next.new.line c.loop-line.invariant.progress line (c.in_ok-quits.ensures.served line.text line.held) asks).serves
 
@@ -66,7 +67,7 @@ returns-in_err-quits-clause-served g c =
     let old = desk_of (g.S.Source.state c.args.input.now) (g.K.Sink.state c.args.out.now) (server_of c.args.fleet.now c.args.controller.now.journal (g.T.VolumeStore.state c.args.controller.now.store)) in
     let now = desk_of (g.S.Source.state c.loop-line.input) (g.K.Sink.state c.loop-line.out) (server_of c.loop-line.fleet c.loop-line.controller.journal (g.T.VolumeStore.state c.loop-line.controller.store)) in
     let after = desk_of (g.S.Source.state c.next.new.source) (g.K.Sink.state c.serve_line.new.out) (server_of c.serve_line.new.fleet c.serve_line.new.controller.journal (g.T.VolumeStore.state c.serve_line.new.controller.store)) in
-    let line = took_line _ _ c.in_ok-next.field-0 c.if-not-branch.false c.in_ok-next.ensures.taken in
+    let line = at_true _ _ c.in_ok-next.field-0 c.if-not-branch.false c.in_ok-next.ensures.taken in
     let ended = ended_without_reply old now after c.loop-line.reader c.next.new.self c.next.new.line c.in_err-quits.field-0.0 c.loop-line.invariant.progress line (c.in_err-quits.ensures.lacks line.text line.held) in
     let p = err_from_is_err_and c.from_residual-in_err-quits.result c.from_residual-in_err-quits.ensures.1 in
     rw (p.1, p.2) ended.serves

@@ -1,5 +1,6 @@
 use Rattle.std.proofs.Common.{inl}
-use Rattle.restart.proofs.Folding.{stand_to_more, strange_at, at_false, at_true}
+use Rattle.basics.proofs.Truth.{at_true, at_false}
+use Rattle.restart.proofs.Folding.{stand_to_more, strange_at}
 use Rattle.restart.proofs.standing.fold_records.Goals as goal
 
 pub returns-then-not-branch : goal.returns-then-not-branch

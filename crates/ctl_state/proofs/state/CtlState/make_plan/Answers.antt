@@ -2,6 +2,7 @@ use Rattle.std.proofs.Common.{◌≡◌, ℕ, ◌+◌, ◌==◌, Bool, true, fal
 use Rattle.std.specs.List.{list_any}
 use Rattle.std.proofs.lemmas.Bool.{and_parts, not-true}
 use Rattle.basics.specs.declared.refusal.NoMemory.{NoMemory}
+use Rattle.basics.proofs.Results.{where_ok, where_err}
 use Rattle.plan_model.specs.declared.plan.Plan.{Plan}
 use Rattle.plan_model.specs.Plans.{is_taken}
 use Rattle.ctl_state.specs.declared.plans.PlanCourse.{PlanCourse}
@@ -11,7 +12,7 @@ use Rattle.ctl_state.specs.MayStand.{is_new_plan, are_free, has_double}
 use Rattle.ctl_state.specs.Kept.{IsKept, AreNames}
 use Rattle.ctl_state.specs.Work.{HasNone, Joins, Leaves}
 use Rattle.ctl_state.proofs.KeptFacts.{kept_plan, kept_work, kept_names, taken_back, free_in_map}
-use Rattle.ctl_state.proofs.NextFacts.{none_doubled, where_ok, where_err}
+use Rattle.ctl_state.proofs.NextFacts.{none_doubled}
 use Rattle.ctl_state.proofs.state.CtlState.make_plan.Goals as goal
 
 pub add_plan-added-requires-clause-new : goal.add_plan-added-requires-clause-new
@@ -46,11 +47,10 @@ invariant_of-self-2 c =
     let p = plan_of c.args.plan c.args.name.now c.args.interval vms in
     let r = c.add_plan-added.result in
     let ok = sym c.is_err.ensures.value ∙ c.if-is_err.false in
-    let plans = where_ok r (c.add_plan-added.new.plans.items ≡ kept.plans.items ++ p ∷ []) ok
-    c.add_plan-added.ensures.plan in
-    let courses = where_ok r
-    (c.add_plan-added.new.courses.items ≡ kept.courses.items ++ new_course ∷ []) ok
-    c.add_plan-added.ensures.course in
+    let plans : c.add_plan-added.new.plans.items ≡ kept.plans.items ++ p ∷ [] =
+    where_ok r ok c.add_plan-added.ensures.plan in
+    let courses : c.add_plan-added.new.courses.items ≡ kept.courses.items ++ new_course ∷ [] =
+    where_ok r ok c.add_plan-added.ensures.course in
     let A : List Plan → Type 0 = λ ps. IsKept ps c.add_plan-added.new.courses.items
     kept.migrations.items c.add_plan-added.new.names c.put_to_work.new.work in
     let B : List PlanCourse → Type 0 = λ cs. IsKept (kept.plans.items ++ p ∷ []) cs
@@ -85,10 +85,10 @@ invariant_of-self-then-is_err c =
     leaves in
     let r = c.add_plan-added.result in
     let failed = sym c.is_err.ensures.value ∙ c.if-is_err.true in
-    let plans = where_err r (c.add_plan-added.new.plans.items ≡ kept.plans.items) failed
-    c.add_plan-added.ensures.plans_kept in
-    let courses = where_err r (c.add_plan-added.new.courses.items ≡ kept.courses.items) failed
-    c.add_plan-added.ensures.courses_kept in
+    let plans : c.add_plan-added.new.plans.items ≡ kept.plans.items =
+    where_err r failed c.add_plan-added.ensures.plans_kept in
+    let courses : c.add_plan-added.new.courses.items ≡ kept.courses.items =
+    where_err r failed c.add_plan-added.ensures.courses_kept in
     let A : List Plan → Type 0 = λ ps. IsKept ps c.add_plan-added.new.courses.items
     kept.migrations.items c.add_plan-added.new.names c.take_from_work.new.work in
     let B : List PlanCourse → Type 0 = λ cs. IsKept kept.plans.items cs kept.migrations.items
