@@ -8,9 +8,14 @@ use Rattle.change_id.proofs.SpellingLemmas.{same_identifier, joined, divided-spe
 
 -- a text that is cut at its first slash into the texts of a UUID and of a number
 pub spelled_by_parts : (text : List ℕ) (uuid seq : ℕ) → uuid < 2 ^ 128 → 1 ≤ seq → seq < 2 ^ 64
-    → Contains text slash → uuid_part text ≡ uuid_text uuid → number_part text ≡ decimal seq → Spells text (record { uuid = uuid; seq = seq })
+    → Contains text slash → uuid_part text ≡ uuid_text uuid → number_part text ≡ decimal seq
+    → Spells text (record { uuid = uuid; seq = seq })
 spelled_by_parts text uuid seq uuid_fits counted seq_fits divided front back = record {
-  identifier = record { ranges = record { uuid_fits = uuid_fits; seq_fits = seq_fits }; counted = counted };
+  identifier = record {
+    ranges = record { uuid_fits = uuid_fits; seq_fits = seq_fits };
+    counted =
+        counted;
+  };
   spelled = joined text uuid seq divided front back;
 }
 
@@ -19,14 +24,24 @@ has_slash : (text : List ℕ) (id : ChangeId) → Spells text id → Contains te
 has_slash text id s = rw s.spelled (divided-spelling id.uuid id.seq)
 
 has_uuid : (text : List ℕ) (id : ChangeId) → Spells text id → IsUuidText (uuid_part text)
-has_uuid text id s =
-    (id.uuid, s.identifier.ranges.uuid_fits, ap uuid_part s.spelled ∙ uuid_part-spelling id.uuid id.seq)
+has_uuid text id s = (
+  id.uuid,
+  s.identifier.ranges.uuid_fits,
+  ap uuid_part s.spelled
+      ∙ uuid_part-spelling id.uuid id.seq,
+)
 
 has_number : (text : List ℕ) (id : ChangeId) → Spells text id → IsNumberText (number_part text)
-has_number text id s =
-    (id.seq, s.identifier.counted, s.identifier.ranges.seq_fits, ap number_part s.spelled ∙ number_part-spelling id.uuid id.seq)
+has_number text id s = (
+  id.seq,
+  s.identifier.counted,
+  s.identifier.ranges.seq_fits,
+  ap number_part s.spelled
+      ∙ number_part-spelling id.uuid id.seq,
+)
 
-pub one_answer : (text : List ℕ) (a b : Result ChangeId IdRefused) → IsAnswer text a → IsAnswer text b → a ≡ b
+pub one_answer : (text : List ℕ) (a b : Result ChangeId IdRefused) → IsAnswer text a
+    → IsAnswer text b → a ≡ b
 one_answer text (Ok x) (Ok y) p q =
     ap Ok (same_identifier x y p.identifier q.identifier (sym p.spelled ∙ q.spelled))
 one_answer text (Ok x) (Err Form) p q = absurd (q (has_slash text x p))

@@ -7,7 +7,9 @@ use Rattle.std.proofs.lemmas.Nat.{be_bytes_8, from_be_bytes-to_be_bytes_8}
 use Rattle.std.specs.Int.{w64, w128, byte_at, bytes_high_first, to_be_bytes, from_be_bytes}
 
 -- the number, by its two halves
-from_halves : (bytes : List ℕ) → from_be_bytes w128 bytes ≡ from_be_bytes w64 (take 8 bytes) * 2 ^ 64 + from_be_bytes w64 (drop 8 bytes)
+from_halves : (bytes : List ℕ)
+    → from_be_bytes w128 bytes ≡ from_be_bytes w64 (take 8 bytes) * 2 ^ 64 + from_be_bytes w64
+    (drop 8 bytes)
 from_halves bytes =
     let f0 = get_or-take 8 bytes 0 0 (omega arith) in
     let f1 = get_or-take 8 bytes 1 0 (omega arith) in
@@ -55,7 +57,8 @@ low_byte_7 : (n : ℕ) → n / 72057594037927936 % 256 ≡ n % 2 ^ 64 / 72057594
 low_byte_7 n = omega arith
 
 -- the bytes, by the number's two halves
-to_halves : (n : ℕ) → to_be_bytes w128 n ≡ to_be_bytes w64 (n / 2 ^ 64) ++ to_be_bytes w64 (n % 2 ^ 64)
+to_halves : (n : ℕ) → to_be_bytes w128 n
+    ≡ to_be_bytes w64 (n / 2 ^ 64) ++ to_be_bytes w64 (n % 2 ^ 64)
 to_halves n =
     let h7 = high_byte n (2 ^ 64) 72057594037927936 in
     let h6 = high_byte n (2 ^ 64) 281474976710656 in
@@ -64,7 +67,9 @@ to_halves n =
     let h3 = high_byte n (2 ^ 64) 16777216 in
     let h2 = high_byte n (2 ^ 64) 65536 in
     let h1 = high_byte n (2 ^ 64) 256 in
-    λ i. h7 i ∷ h6 i ∷ h5 i ∷ h4 i ∷ h3 i ∷ h2 i ∷ h1 i ∷ n / 2 ^ 64 % 256 ∷ low_byte_7 n i ∷ low_byte_6 n i ∷ low_byte_5 n i ∷ low_byte_4 n i ∷ low_byte_3 n i ∷ low_byte_2 n i ∷ low_byte_1 n i ∷ low_byte_0 n i ∷ []
+    λ i. h7 i ∷ h6 i ∷ h5 i ∷ h4 i ∷ h3 i ∷ h2 i ∷ h1 i ∷ n / 2 ^ 64 % 256 ∷ low_byte_7 n i ∷
+    low_byte_6 n i ∷ low_byte_5 n i ∷ low_byte_4 n i ∷ low_byte_3 n i ∷ low_byte_2 n i ∷
+    low_byte_1 n i ∷ low_byte_0 n i ∷ []
 
 half_fits : (bytes : List ℕ) → ((i : ℕ) → get_or bytes i 0 < 256) → from_be_bytes w64 bytes < 2 ^ 64
 half_fits bytes fit = omega (arith, fit 0, fit 1, fit 2, fit 3, fit 4, fit 5, fit 6, fit 7)
@@ -76,7 +81,8 @@ remainder_back : (h l : ℕ) → l < 2 ^ 64 → (h * 2 ^ 64 + l) % 2 ^ 64 ≡ l
 remainder_back h l fits = omega arith
 
 -- the bytes of what bytes make are those bytes
-pub to_be_bytes-from_be_bytes : (bytes : List ℕ) → length bytes ≡ 16 → ((i : ℕ) → get_or bytes i 0 < 256)
+pub to_be_bytes-from_be_bytes : (bytes : List ℕ) → length bytes ≡ 16
+    → ((i : ℕ) → get_or bytes i 0 < 256)
     → to_be_bytes w128 (from_be_bytes w128 bytes) ≡ bytes
 to_be_bytes-from_be_bytes bytes len fit =
     let high = take 8 bytes in
@@ -90,11 +96,14 @@ to_be_bytes-from_be_bytes bytes len fit =
       | inl under ↦ rw (get_or-take 8 bytes i 0 under) (fit i)
       | inr over ↦ rw (get_or_past high i 0 (omega arith)) (omega arith)
     ] in
-    let low_fit : (i : ℕ) → get_or low i 0 < 256 = λ i. rw (get_or-drop 8 bytes i 0) (fit (8 + i)) in
+    let low_fit : (i : ℕ) → get_or low i 0 < 256 =
+    λ i. rw (get_or-drop 8 bytes i 0) (fit (8 + i)) in
     let l_fits : l < 2 ^ 64 = half_fits low low_fit in
     let whole = from_halves bytes in
-    let quotient : from_be_bytes w128 bytes / 2 ^ 64 ≡ h = ap (λ (m : ℕ). m / 2 ^ 64) whole ∙ quotient_back h l l_fits in
-    let remainder : from_be_bytes w128 bytes % 2 ^ 64 ≡ l = ap (λ (m : ℕ). m % 2 ^ 64) whole ∙ remainder_back h l l_fits in
+    let quotient : from_be_bytes w128 bytes / 2 ^ 64 ≡ h =
+    ap (λ (m : ℕ). m / 2 ^ 64) whole ∙ quotient_back h l l_fits in
+    let remainder : from_be_bytes w128 bytes % 2 ^ 64 ≡ l =
+    ap (λ (m : ℕ). m % 2 ^ 64) whole ∙ remainder_back h l l_fits in
     to_halves (from_be_bytes w128 bytes)
     ∙ (λ i. to_be_bytes w64 (quotient i) ++ to_be_bytes w64 (remainder i))
     ∙ (λ i. be_bytes_8 high h high_len high_fit refl i ++ be_bytes_8 low l low_len low_fit refl i)
@@ -106,9 +115,11 @@ from_be_bytes-to_be_bytes n fits =
     let high = to_be_bytes w64 (n / 2 ^ 64) in
     let low = to_be_bytes w64 (n % 2 ^ 64) in
     let h : from_be_bytes w64 (take 8 (to_be_bytes w128 n)) ≡ n / 2 ^ 64 =
-    ap (λ (bs : List ℕ). from_be_bytes w64 (take 8 bs)) (to_halves n) ∙ from_be_bytes-to_be_bytes_8 (n / 2 ^ 64) (omega arith) in
+    ap (λ (bs : List ℕ). from_be_bytes w64 (take 8 bs)) (to_halves n)
+    ∙ from_be_bytes-to_be_bytes_8 (n / 2 ^ 64) (omega arith) in
     let l : from_be_bytes w64 (drop 8 (to_be_bytes w128 n)) ≡ n % 2 ^ 64 =
-    ap (λ (bs : List ℕ). from_be_bytes w64 (drop 8 bs)) (to_halves n) ∙ from_be_bytes-to_be_bytes_8 (n % 2 ^ 64) (omega arith) in
+    ap (λ (bs : List ℕ). from_be_bytes w64 (drop 8 bs)) (to_halves n)
+    ∙ from_be_bytes-to_be_bytes_8 (n % 2 ^ 64) (omega arith) in
     from_halves (to_be_bytes w128 n) ∙ (λ i. h i * 2 ^ 64 + l i) ∙ omega arith
 
 byte_fits : (k n : ℕ) → byte_at k n < 256

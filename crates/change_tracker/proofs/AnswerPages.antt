@@ -13,12 +13,17 @@ use Rattle.change_tracker.specs.History.{TrackStep, reading, freezes, runs_betwe
 use Rattle.change_tracker.specs.Laws.{AnswerPagesJoin}
 
 -- an answer is the areas of some blocks
-of_blocks : (machine disk capacity snapshot : ℕ) (since : Since) (steps : List TrackStep) (areas : List Run) → answered machine disk capacity snapshot since steps ≡ Ok areas
+of_blocks : (machine disk capacity snapshot : ℕ) (since : Since) (steps : List TrackStep)
+    (areas : List Run) → answered machine disk capacity snapshot since steps ≡ Ok areas
     → (blocks : List ℕ) × (areas ≡ areas_of capacity blocks)
-of_blocks machine disk capacity snapshot All steps areas found = (met_blocks capacity (runs_between 0 (history.mark freezes snapshot steps) steps), cc)
+of_blocks machine disk capacity snapshot All steps areas found =
+    (met_blocks capacity (runs_between 0 (history.mark freezes snapshot steps) steps), cc)
 of_blocks machine disk capacity snapshot (From id) steps areas found = (
-  met_blocks capacity (runs_between (unwrap_or (history.mark_of_id reading machine disk id steps) 0) (history.mark freezes snapshot steps) steps),
-  sym (ok_part (history.accepts reading machine disk snapshot id steps) (areas_between capacity (unwrap_or (history.mark_of_id reading machine disk id steps) 0) (history.mark freezes snapshot steps) steps) areas
+  met_blocks capacity (runs_between (unwrap_or (history.mark_of_id reading machine disk id steps) 0)
+      (history.mark freezes snapshot steps) steps),
+  sym (ok_part (history.accepts reading machine disk snapshot id steps)
+      (areas_between capacity (unwrap_or (history.mark_of_id reading machine disk id steps) 0)
+      (history.mark freezes snapshot steps) steps) areas
       (history.in_force reading machine disk steps) found),
 )
 

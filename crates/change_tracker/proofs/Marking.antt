@@ -17,51 +17,68 @@ use Rattle.change_tracker.proofs.Walks.{Lowest, lowest, no_bits}
 
 -- ---- a longer window from the beginning has more
 
-of_longer : (p e f : ℕ) (x : Touch) → e ≤ f → is_of (window 0 e) p x ≡ true → is_of (window 0 f) p x ≡ true
+of_longer : (p e f : ℕ) (x : Touch) → e ≤ f → is_of (window 0 e) p x ≡ true
+    → is_of (window 0 f) p x ≡ true
 of_longer p e f x le is =
     let parts = and_parts _ _ is in
     let inside = and_parts _ _ parts.0 in
-    and_from _ _ (and_from _ _ inside.0 (lt-ltb x.freezes f (omega (arith, ltb-true x.freezes e inside.1, le)))) parts.1
+    and_from _ _ (and_from _ _ inside.0
+    (lt-ltb x.freezes f (omega (arith, ltb-true x.freezes e inside.1, le)))) parts.1
 
-any_longer : (p e f : ℕ) (xs : List Touch) → e ≤ f → list_any (is_of (window 0 e) p) xs ≡ true → list_any (is_of (window 0 f) p) xs ≡ true
+any_longer : (p e f : ℕ) (xs : List Touch) → e ≤ f → list_any (is_of (window 0 e) p) xs ≡ true
+    → list_any (is_of (window 0 f) p) xs ≡ true
 any_longer p e f [] le is = is
-any_longer p e f (x ∷ xs) le is = either (is_of (window 0 e) p x) (is_of (window 0 f) p x) (list_any (is_of (window 0 f) p) xs) (of_longer p e f x le) (λ rest. any_longer p e f xs le rest) is
+any_longer p e f (x ∷ xs) le is =
+    either (is_of (window 0 e) p x) (is_of (window 0 f) p x) (list_any (is_of (window 0 f) p) xs)
+    (of_longer p e f x le) (λ rest. any_longer p e f xs le rest) is
   where
-    either : (a b d : Bool) {c : Bool} → (a ≡ true → b ≡ true) → (c ≡ true → d ≡ true) → (a || c) ≡ true → (b || d) ≡ true
+    either : (a b d : Bool) {c : Bool} → (a ≡ true → b ≡ true) → (c ≡ true → d ≡ true)
+        → (a || c) ≡ true → (b || d) ≡ true
     either true b d f g h = ap (λ x. x || d) (f refl)
     either false true d f g h = refl
     either false false d f g h = g h
 
-at_longer : (p e f : ℕ) (o : Option WordState) → e ≤ f → touched_in (window 0 e) p o ≡ true → touched_in (window 0 f) p o ≡ true
+at_longer : (p e f : ℕ) (o : Option WordState) → e ≤ f → touched_in (window 0 e) p o ≡ true
+    → touched_in (window 0 f) p o ≡ true
 at_longer p e f None le is = is
 at_longer p e f (Some x) le is = any_longer p e f (x.latest ∷ x.earlier) le is
 
-pub longer : (t : TouchState) (b e f : ℕ) → e ≤ f → is_touched t (window 0 e) b ≡ true → is_touched t (window 0 f) b ≡ true
+pub longer : (t : TouchState) (b e f : ℕ) → e ≤ f → is_touched t (window 0 e) b ≡ true
+    → is_touched t (window 0 f) b ≡ true
 longer t b e f le is = at_longer (b % 64) e f (word_of t (b / 64)) le is
 
 -- ---- the bits of a word that are new among the first touches
 
 pub record Told (maps : Maps) (run : Run) (freezes word bits known : ℕ) : Type 0 where
   pub met : (p : ℕ) → p < 64 → has_bit bits p ≡ meets (64 * word + p) run.first run.count
-  pub old : (p : ℕ) → has_bit known p ≡ touched_in (window 0 (freezes + 1)) p (word_of maps.first word)
+  pub old : (p : ℕ) → has_bit known p
+      ≡ touched_in (window 0 (freezes + 1)) p (word_of maps.first word)
   pub fits : known < 2 ^ 64
 
 place_is : (b word : ℕ) → b / 64 ≡ word → 64 * word + b % 64 ≡ b
 place_is b word is = omega (arith, is)
 
-pub new_has : (maps : Maps) (run : Run) (freezes word bits known b : ℕ) → Told maps run freezes word bits known → b / 64 ≡ word
-    → has_bit (bit_and bits (bit_not w64 known)) (b % 64) ≡ (meets b run.first run.count && not (is_touched maps.first (window 0 (freezes + 1)) b))
+pub new_has : (maps : Maps) (run : Run) (freezes word bits known b : ℕ)
+    → Told maps run freezes word bits known → b / 64 ≡ word
+    → has_bit (bit_and bits (bit_not w64 known)) (b % 64)
+    ≡ (meets b run.first run.count && not (is_touched maps.first (window 0 (freezes + 1)) b))
 new_has maps run freezes word bits known b told is =
     and_has bits (bit_not w64 known) (b % 64)
-    ∙ (λ i. (told.met (b % 64) (omega arith) ∙ ap (λ n. meets n run.first run.count) (place_is b word is)) i
-    && (not_has known (b % 64) told.fits (omega arith) ∙ ap not (told.old (b % 64) ∙ ap (λ n. touched_in (window 0 (freezes + 1)) (b % 64) (word_of maps.first n)) (sym is))) i)
+    ∙ (λ i. (told.met (b % 64) (omega arith)
+    ∙ ap (λ n. meets n run.first run.count) (place_is b word is)) i
+    && (not_has known (b % 64) told.fits (omega arith)
+    ∙ ap not (told.old (b % 64)
+    ∙ ap (λ n. touched_in (window 0 (freezes + 1)) (b % 64) (word_of maps.first n)) (sym is)))
+    i)
 
 pub new_fits : (bits known : ℕ) → bits < 2 ^ 64 → bit_and bits (bit_not w64 known) < 2 ^ 64
 new_fits bits known less = omega (arith, less, and_le_l bits (bit_not w64 known))
 
 -- the block of the lowest new bit
-pub a_new_block : (maps : Maps) (run : Run) (freezes word bits known : ℕ) → Told maps run freezes word bits known → bits < 2 ^ 64 → bit_and bits (bit_not w64 known) ≢ 0
-    → (b : ℕ) × (b / 64 ≡ word) × (is_met_in word run b ≡ true) × (is_touched maps.first (window 0 (freezes + 1)) b ≡ false)
+pub a_new_block : (maps : Maps) (run : Run) (freezes word bits known : ℕ)
+    → Told maps run freezes word bits known → bits < 2 ^ 64 → bit_and bits (bit_not w64 known) ≢ 0
+    → (b : ℕ) × (b / 64 ≡ word) × (is_met_in word run b ≡ true)
+    × (is_touched maps.first (window 0 (freezes + 1)) b ≡ false)
 a_new_block maps run freezes word bits known told less some =
     let n : ℕ = bit_and bits (bit_not w64 known) in
     let k : ℕ = trailing_zeros w64 n in
@@ -70,10 +87,17 @@ a_new_block maps run freezes word bits known told less some =
     let b : ℕ = 64 * word + k in
     let at : b / 64 ≡ word = omega (arith, inside) in
     let place : b % 64 ≡ k = omega (arith, inside) in
-    let parts = and_parts _ _ (sym (new_has maps run freezes word bits known b told at) ∙ ap (has_bit n) place ∙ low.here) in
-    (b, at, and_from _ _ (eq-eqb (b / 64) word at) parts.0, not-true (is_touched maps.first (window 0 (freezes + 1)) b) parts.1)
+    let parts = and_parts _ _ (sym (new_has maps run freezes word bits known b told at)
+    ∙ ap (has_bit n) place ∙ low.here) in (
+      b,
+      at,
+      and_from _ _ (eq-eqb (b / 64) word at) parts.0,
+      not-true
+          (is_touched maps.first (window 0 (freezes + 1)) b) parts.1,
+    )
 
-pub room_for_new : (maps : Maps) (run : Run) (freezes word bits known : ℕ) → Told maps run freezes word bits known → bits < 2 ^ 64 → bit_and bits (bit_not w64 known) ≢ 0
+pub room_for_new : (maps : Maps) (run : Run) (freezes word bits known : ℕ)
+    → Told maps run freezes word bits known → bits < 2 ^ 64 → bit_and bits (bit_not w64 known) ≢ 0
     → HasRoomWhere (is_met_in word run) maps freezes → HasRoom maps.first word freezes
 room_for_new maps run freezes word bits known told less some room =
     let new = a_new_block maps run freezes word bits known told less some in
@@ -81,16 +105,30 @@ room_for_new maps run freezes word bits known told less some room =
     subst P new.1 ((room new.0 new.2).first new.3)
 
 -- a word from the run's first one up to its last one has a block that the run meets
-pub a_met_block : (run : Run) (word : ℕ) → 0 < run.count → run.first / 128 / 64 ≤ word → word ≤ (run.first + run.count - 1) / 128 / 64
+pub a_met_block : (run : Run) (word : ℕ) → 0 < run.count → run.first / 128 / 64 ≤ word
+    → word ≤ (run.first + run.count - 1) / 128 / 64
     → (b : ℕ) × (b / 64 ≡ word) × (is_met_in word run b ≡ true)
 a_met_block run word some from upto = elim (cases_lt (run.first / 128) (64 * word)) [
-  | inl before ↦ let at : 64 * word / 64 ≡ word = omega arith in
-      (64 * word, at, and_from _ _ (eq-eqb (64 * word / 64) word at) (met_iff (64 * word) run.first run.count some ∙ and_from _ _ (le-leb (run.first / 128) (64 * word) (omega arith)) (le-leb (64 * word) ((run.first + run.count - 1) / 128) (omega arith))))
-  | inr late ↦ let at : run.first / 128 / 64 ≡ word = omega arith in
-      (run.first / 128, at, and_from _ _ (eq-eqb (run.first / 128 / 64) word at) (met_iff (run.first / 128) run.first run.count some ∙ and_from _ _ (le-leb (run.first / 128) (run.first / 128) (omega arith)) (le-leb (run.first / 128) ((run.first + run.count - 1) / 128) (omega arith))))
+  | inl before ↦ let at : 64 * word / 64 ≡ word = omega arith in (
+    64 * word,
+    at,
+    and_from _ _ (eq-eqb (64 * word / 64) word at)
+        (met_iff (64 * word) run.first run.count some
+        ∙ and_from _ _ (le-leb (run.first / 128) (64 * word) (omega arith))
+        (le-leb (64 * word) ((run.first + run.count - 1) / 128) (omega arith))),
+  )
+  | inr late ↦ let at : run.first / 128 / 64 ≡ word = omega arith in (
+    run.first / 128,
+    at,
+    and_from _ _ (eq-eqb (run.first / 128 / 64) word at)
+        (met_iff (run.first / 128) run.first run.count some
+        ∙ and_from _ _ (le-leb (run.first / 128) (run.first / 128) (omega arith))
+        (le-leb (run.first / 128) ((run.first + run.count - 1) / 128) (omega arith))),
+  )
 ]
 
-pub room_for_changes : (maps : Maps) (run : Run) (freezes word : ℕ) → 0 < run.count → run.first / 128 / 64 ≤ word → word ≤ (run.first + run.count - 1) / 128 / 64
+pub room_for_changes : (maps : Maps) (run : Run) (freezes word : ℕ) → 0 < run.count
+    → run.first / 128 / 64 ≤ word → word ≤ (run.first + run.count - 1) / 128 / 64
     → HasRoomWhere (is_met_in word run) maps freezes → HasRoom maps.changes word freezes
 room_for_changes maps run freezes word some from upto room =
     let met = a_met_block run word some from upto in
@@ -99,7 +137,8 @@ room_for_changes maps run freezes word some from upto room =
 
 -- ---- one word is marked
 
-fold_new : (o k m i : Bool) → (i ≡ true → k ≡ true → o ≡ true) → (o || (i && (m && not k))) ≡ (o || (i && m))
+fold_new : (o k m i : Bool) → (i ≡ true → k ≡ true → o ≡ true)
+    → (o || (i && (m && not k))) ≡ (o || (i && m))
 fold_new true k m i h = refl
 fold_new false k m false h = refl
 fold_new false true m true h = absurd (false≢true (h refl refl))
@@ -115,56 +154,91 @@ none_new false false m none = refl
 pub record FirstAdded (old new : TouchState) (word freezes bits : ℕ) : Type 0 where
   pub is : IsAdded old new word freezes bits
 
-pub none_added : (old : TouchState) (word freezes bits : ℕ) → bits ≡ 0 → IsAdded old old word freezes bits
+pub none_added : (old : TouchState) (word freezes bits : ℕ) → bits ≡ 0
+    → IsAdded old old word freezes bits
 none_added old word freezes bits none = λ w b.
-    sym (none_new (is_touched old w b) (is_inside w freezes) (eqb (b / 64) word && has_bit bits (b % 64)) (and_right (eqb (b / 64) word) (has_bit bits (b % 64)) (no_bits bits (b % 64) none)))
+    sym (none_new (is_touched old w b) (is_inside w freezes)
+    (eqb (b / 64) word && has_bit bits (b % 64))
+    (and_right (eqb (b / 64) word) (has_bit bits (b % 64)) (no_bits bits (b % 64) none)))
 
-pub first_marked : (maps : Maps) (new : TouchState) (run : Run) (freezes word bits known : ℕ) → Told maps run freezes word bits known
+pub first_marked : (maps : Maps) (new : TouchState) (run : Run) (freezes word bits known : ℕ)
+    → Told maps run freezes word bits known
     → IsAdded maps.first new word freezes (bit_and bits (bit_not w64 known))
-    → (end b : ℕ) → is_touched new (window 0 end) b ≡ (is_touched maps.first (window 0 end) b || (ltb freezes end && is_met_in word run b))
+    → (end b : ℕ) → is_touched new (window 0 end) b
+    ≡ (is_touched maps.first (window 0 end) b || (ltb freezes end && is_met_in word run b))
 first_marked maps new run freezes word bits known told added end b =
     added (window 0 end) b ∙ (elim (cases_eq (b / 64) word) [
       | inl at ↦
-          ap (λ x. is_touched maps.first (window 0 end) b || ((leb 0 freezes && ltb freezes end) && (x && has_bit (bit_and bits (bit_not w64 known)) (b % 64)))) (eq-eqb (b / 64) word at)
-          ∙ ap (λ x. is_touched maps.first (window 0 end) b || ((x && ltb freezes end) && has_bit (bit_and bits (bit_not w64 known)) (b % 64))) (le-leb 0 freezes (omega arith))
-          ∙ ap (λ x. is_touched maps.first (window 0 end) b || (ltb freezes end && x)) (new_has maps run freezes word bits known b told at)
-          ∙ fold_new (is_touched maps.first (window 0 end) b) (is_touched maps.first (window 0 (freezes + 1)) b) (meets b run.first run.count) (ltb freezes end)
-          (λ early touched. longer maps.first b (freezes + 1) end (omega (arith, ltb-true freezes end early)) touched)
-          ∙ ap (λ x. is_touched maps.first (window 0 end) b || (ltb freezes end && (x && meets b run.first run.count))) (sym (eq-eqb (b / 64) word at))
+          ap (λ x. is_touched maps.first (window 0 end) b ||
+          ((leb 0 freezes && ltb freezes end) &&
+          (x && has_bit (bit_and bits (bit_not w64 known)) (b % 64)))) (eq-eqb (b / 64) word at)
+          ∙ ap (λ x. is_touched maps.first (window 0 end) b ||
+          ((x && ltb freezes end) && has_bit (bit_and bits (bit_not w64 known)) (b % 64)))
+          (le-leb 0 freezes (omega arith))
+          ∙ ap (λ x. is_touched maps.first (window 0 end) b || (ltb freezes end && x))
+          (new_has maps run freezes word bits known b told at)
+          ∙ fold_new (is_touched maps.first (window 0 end) b)
+          (is_touched maps.first (window 0 (freezes + 1)) b) (meets b run.first run.count)
+          (ltb freezes end)
+          (λ early touched. longer maps.first b (freezes + 1) end
+          (omega (arith, ltb-true freezes end early)) touched)
+          ∙ ap (λ x. is_touched maps.first (window 0 end) b ||
+          (ltb freezes end && (x && meets b run.first run.count)))
+          (sym (eq-eqb (b / 64) word at))
       | inr other ↦
-          ap (λ x. is_touched maps.first (window 0 end) b || ((leb 0 freezes && ltb freezes end) && (x && has_bit (bit_and bits (bit_not w64 known)) (b % 64)))) (ne_eqb (b / 64) word other)
-          ∙ none_new (is_touched maps.first (window 0 end) b) (leb 0 freezes && ltb freezes end) false refl
-          ∙ sym (ap (λ x. is_touched maps.first (window 0 end) b || (ltb freezes end && (x && meets b run.first run.count))) (ne_eqb (b / 64) word other) ∙ none_new (is_touched maps.first (window 0 end) b) (ltb freezes end) false refl)
+          ap (λ x. is_touched maps.first (window 0 end) b ||
+          ((leb 0 freezes && ltb freezes end) &&
+          (x && has_bit (bit_and bits (bit_not w64 known)) (b % 64))))
+          (ne_eqb (b / 64) word other)
+          ∙ none_new (is_touched maps.first (window 0 end) b) (leb 0 freezes && ltb freezes end)
+          false refl
+          ∙ sym (ap (λ x. is_touched maps.first (window 0 end) b ||
+          (ltb freezes end && (x && meets b run.first run.count))) (ne_eqb (b / 64) word other)
+          ∙ none_new (is_touched maps.first (window 0 end) b) (ltb freezes end) false refl)
     ])
 
-pub changes_marked : (old new : TouchState) (run : Run) (freezes word bits : ℕ) → ((p : ℕ) → p < 64 → has_bit bits p ≡ meets (64 * word + p) run.first run.count)
+pub changes_marked : (old new : TouchState) (run : Run) (freezes word bits : ℕ)
+    → ((p : ℕ) → p < 64 → has_bit bits p ≡ meets (64 * word + p) run.first run.count)
     → IsAdded old new word freezes bits
-    → (w : Window) (b : ℕ) → is_touched new w b ≡ (is_touched old w b || (is_inside w freezes && is_met_in word run b))
+    → (w : Window) (b : ℕ)
+    → is_touched new w b ≡ (is_touched old w b || (is_inside w freezes && is_met_in word run b))
 changes_marked old new run freezes word bits told added w b =
-    added w b ∙ ap (λ x. is_touched old w b || (is_inside w freezes && x)) (elim (cases_eq (b / 64) word) [
-      | inl at ↦ ap (λ x. eqb (b / 64) word && x) (told (b % 64) (omega arith) ∙ ap (λ n. meets n run.first run.count) (place_is b word at))
-      | inr other ↦ ap (λ x. x && has_bit bits (b % 64)) (ne_eqb (b / 64) word other) ∙ sym (ap (λ x. x && meets b run.first run.count) (ne_eqb (b / 64) word other))
+    added w b ∙ ap (λ x. is_touched old w b || (is_inside w freezes && x))
+    (elim (cases_eq (b / 64) word) [
+      | inl at ↦ ap (λ x. eqb (b / 64) word && x) (told (b % 64) (omega arith)
+          ∙ ap (λ n. meets n run.first run.count) (place_is b word at))
+      | inr other ↦ ap (λ x. x && has_bit bits (b % 64)) (ne_eqb (b / 64) word other)
+          ∙ sym (ap (λ x. x && meets b run.first run.count) (ne_eqb (b / 64) word other))
     ])
 
 -- ---- rooms
 
-pub room_kept : (freezes b : ℕ) (old new : Maps) → (is_touched new.first (window 0 (freezes + 1)) b ≡ false → is_touched old.first (window 0 (freezes + 1)) b ≡ false) → KeepsPlaces freezes old new → HasBlockRoom old freezes b → HasBlockRoom new freezes b
+pub room_kept : (freezes b : ℕ) (old new : Maps)
+    → (is_touched new.first (window 0 (freezes + 1)) b ≡ false
+    → is_touched old.first (window 0 (freezes + 1)) b ≡ false) → KeepsPlaces freezes old new
+    → HasBlockRoom old freezes b → HasBlockRoom new freezes b
 room_kept freezes b old new less kept room = record {
   first = λ none. kept.first (b / 64) (room.first (less none));
   changes = kept.changes (b / 64) room.changes;
 }
 
 -- the places of one word were made
-pub word_room : (old : Maps) (first changes : TouchState) (run : Run) (freezes word bits known : ℕ) → Told old run freezes word bits known → HasSame old.first first
-    → (bit_and bits (bit_not w64 known) ≢ 0 → HasRoom first word freezes) → HasRoom changes word freezes → HasRoomWhere (is_met_in word run) (record { first = first; changes = changes }) freezes
+pub word_room : (old : Maps) (first changes : TouchState) (run : Run) (freezes word bits known : ℕ)
+    → Told old run freezes word bits known → HasSame old.first first
+    → (bit_and bits (bit_not w64 known) ≢ 0 → HasRoom first word freezes)
+    → HasRoom changes word freezes
+    → HasRoomWhere (is_met_in word run) (record { first = first; changes = changes }) freezes
 word_room old first changes run freezes word bits known told same first_room change_room = λ b met.
     let parts = and_parts _ _ met in
     let at : b / 64 ≡ word = eqb-true (b / 64) word parts.0 in
     record {
       first = λ none. (let P : ℕ → Type 0 = λ n. HasRoom first n freezes in
-          subst P (sym at) (first_room (λ empty. false≢true (sym (no_bits (bit_and bits (bit_not w64 known)) (b % 64) empty) ∙ new_has old run freezes word bits known b told at
+          subst P (sym at) (first_room
+          (λ empty. false≢true (sym (no_bits (bit_and bits (bit_not w64 known)) (b % 64) empty)
+          ∙ new_has old run freezes word bits known b told at
           ∙ and_from _ _ parts.1 (ap not (sym (same (window 0 (freezes + 1)) b) ∙ none))))));
-      changes = (let P : ℕ → Type 0 = λ n. HasRoom changes n freezes in subst P (sym at) change_room);
+      changes = (let P : ℕ → Type 0 = λ n. HasRoom changes n freezes in
+          subst P (sym at) change_room);
     }
 
 -- ---- one word more
@@ -173,34 +247,54 @@ word_room old first changes run freezes word bits known told same first_room cha
 abbrev pub met_before : (word : ℕ) (run : Run) (b : ℕ) → Bool
 met_before word run b = ltb (b / 64) word && meets b run.first run.count
 
-met_in_range : (run : Run) (b : ℕ) → 0 < run.count → meets b run.first run.count ≡ true → (run.first / 128 ≤ b) × (b ≤ (run.first + run.count - 1) / 128)
+met_in_range : (run : Run) (b : ℕ) → 0 < run.count → meets b run.first run.count ≡ true
+    → (run.first / 128 ≤ b) × (b ≤ (run.first + run.count - 1) / 128)
 met_in_range run b some met =
     let parts = and_parts _ _ (sym (met_iff b run.first run.count some) ∙ met) in
     (leb-true (run.first / 128) b parts.0, leb-true b ((run.first + run.count - 1) / 128) parts.1)
 
-pub none_met_before : (run : Run) (b : ℕ) → 0 < run.count → met_before (run.first / 128 / 64) run b ≡ false
+pub none_met_before : (run : Run) (b : ℕ) → 0 < run.count
+    → met_before (run.first / 128 / 64) run b ≡ false
 none_met_before run b some = by (meets b run.first run.count) refl
   where
-    by : (m : Bool) → meets b run.first run.count ≡ m → (ltb (b / 64) (run.first / 128 / 64) && meets b run.first run.count) ≡ false
-    by true is = let range = met_in_range run b some is in ap (λ x. x && meets b run.first run.count) (le-ltb (b / 64) (run.first / 128 / 64) (omega (arith, range.0)))
-    by false is = ap (λ x. ltb (b / 64) (run.first / 128 / 64) && x) is ∙ and_right (ltb (b / 64) (run.first / 128 / 64)) false refl
+    by : (m : Bool) → meets b run.first run.count ≡ m
+        → (ltb (b / 64) (run.first / 128 / 64) && meets b run.first run.count) ≡ false
+    by true is = let range = met_in_range run b some is in
+        ap (λ x. x && meets b run.first run.count)
+        (le-ltb (b / 64) (run.first / 128 / 64) (omega (arith, range.0)))
+    by false is = ap (λ x. ltb (b / 64) (run.first / 128 / 64) && x) is
+        ∙ and_right (ltb (b / 64) (run.first / 128 / 64)) false refl
 
-pub all_met_before : (run : Run) (b word : ℕ) → 0 < run.count → word ≡ (run.first + run.count - 1) / 128 / 64 + 1 → met_before word run b ≡ meets b run.first run.count
+pub all_met_before : (run : Run) (b word : ℕ) → 0 < run.count
+    → word ≡ (run.first + run.count - 1) / 128 / 64 + 1
+    → met_before word run b ≡ meets b run.first run.count
 all_met_before run b word some is = by (meets b run.first run.count) refl
   where
-    by : (m : Bool) → meets b run.first run.count ≡ m → (ltb (b / 64) word && meets b run.first run.count) ≡ meets b run.first run.count
-    by true met = let range = met_in_range run b some met in ap (λ x. x && meets b run.first run.count) (lt-ltb (b / 64) word (omega (arith, range.1, is)))
-    by false not_met = ap (λ x. ltb (b / 64) word && x) not_met ∙ and_right (ltb (b / 64) word) false refl ∙ sym not_met
+    by : (m : Bool) → meets b run.first run.count ≡ m
+        → (ltb (b / 64) word && meets b run.first run.count) ≡ meets b run.first run.count
+    by true met = let range = met_in_range run b some met in
+        ap (λ x. x && meets b run.first run.count)
+        (lt-ltb (b / 64) word (omega (arith, range.1, is)))
+    by false not_met = ap (λ x. ltb (b / 64) word && x) not_met
+        ∙ and_right (ltb (b / 64) word) false refl ∙ sym not_met
 
-pub met_before_more : (run : Run) (word b : ℕ) → met_before (word + 1) run b ≡ (met_before word run b || is_met_in word run b)
+pub met_before_more : (run : Run) (word b : ℕ)
+    → met_before (word + 1) run b ≡ (met_before word run b || is_met_in word run b)
 met_before_more run word b = elim (cases_lt (b / 64) word) [
-  | inl early ↦ ap (λ x. x && meets b run.first run.count) (lt-ltb (b / 64) (word + 1) (omega (arith, early)))
-      ∙ sym ((λ i. (lt-ltb (b / 64) word early i && meets b run.first run.count) || (ne_eqb (b / 64) word (λ e. absurd (omega (arith, early, e))) i && meets b run.first run.count)) ∙ or_false (meets b run.first run.count))
+  | inl early ↦ ap (λ x. x && meets b run.first run.count)
+      (lt-ltb (b / 64) (word + 1) (omega (arith, early)))
+      ∙ sym ((λ i. (lt-ltb (b / 64) word early i && meets b run.first run.count) ||
+      (ne_eqb (b / 64) word (λ e. absurd (omega (arith, early, e))) i && meets b run.first
+      run.count)) ∙ or_false (meets b run.first run.count))
   | inr late ↦ elim (cases_eq (b / 64) word) [
-    | inl here ↦ ap (λ x. x && meets b run.first run.count) (lt-ltb (b / 64) (word + 1) (omega (arith, here)))
-        ∙ sym (λ i. (le-ltb (b / 64) word late i && meets b run.first run.count) || (eq-eqb (b / 64) word here i && meets b run.first run.count))
-    | inr other ↦ ap (λ x. x && meets b run.first run.count) (le-ltb (b / 64) (word + 1) (omega (arith, late, other)))
-        ∙ sym (λ i. (le-ltb (b / 64) word late i && meets b run.first run.count) || (ne_eqb (b / 64) word other i && meets b run.first run.count))
+    | inl here ↦ ap (λ x. x && meets b run.first run.count)
+        (lt-ltb (b / 64) (word + 1) (omega (arith, here)))
+        ∙ sym (λ i. (le-ltb (b / 64) word late i && meets b run.first run.count) ||
+        (eq-eqb (b / 64) word here i && meets b run.first run.count))
+    | inr other ↦ ap (λ x. x && meets b run.first run.count)
+        (le-ltb (b / 64) (word + 1) (omega (arith, late, other)))
+        ∙ sym (λ i. (le-ltb (b / 64) word late i && meets b run.first run.count) ||
+        (ne_eqb (b / 64) word other i && meets b run.first run.count))
   ]
 ]
   where
@@ -214,26 +308,39 @@ spread false true a b = refl
 spread false false a b = refl
 
 -- what is touched by one test and then by another
-pub touched_then : (p q r : ℕ → Bool) (freezes : ℕ) (a b c : Maps) → IsTouchedWhere p freezes a b → IsTouchedWhere q freezes b c → ((n : ℕ) → r n ≡ (p n || q n)) → IsTouchedWhere r freezes a c
+pub touched_then : (p q r : ℕ → Bool) (freezes : ℕ) (a b c : Maps) → IsTouchedWhere p freezes a b
+    → IsTouchedWhere q freezes b c → ((n : ℕ) → r n ≡ (p n || q n)) → IsTouchedWhere r freezes a c
 touched_then p q r freezes a b c early late same = record {
-  first = λ end n. late.first end n ∙ ap (λ x. x || (ltb freezes end && q n)) (early.first end n) ∙ spread (is_touched a.first (window 0 end) n) (ltb freezes end) (p n) (q n)
+  first = λ end n. late.first end n ∙ ap (λ x. x || (ltb freezes end && q n)) (early.first end n)
+      ∙ spread (is_touched a.first (window 0 end) n) (ltb freezes end) (p n) (q n)
       ∙ ap (λ x. is_touched a.first (window 0 end) n || (ltb freezes end && x)) (sym (same n));
-  changes = λ w n. late.changes w n ∙ ap (λ x. x || (is_inside w freezes && q n)) (early.changes w n) ∙ spread (is_touched a.changes w n) (is_inside w freezes) (p n) (q n)
+  changes = λ w n. late.changes w n
+      ∙ ap (λ x. x || (is_inside w freezes && q n)) (early.changes w n)
+      ∙ spread (is_touched a.changes w n) (is_inside w freezes) (p n) (q n)
       ∙ ap (λ x. is_touched a.changes w n || (is_inside w freezes && x)) (sym (same n));
 }
 
-pub touched_same : (p q : ℕ → Bool) (freezes : ℕ) (a b : Maps) → IsTouchedWhere p freezes a b → ((n : ℕ) → p n ≡ q n) → IsTouchedWhere q freezes a b
+pub touched_same : (p q : ℕ → Bool) (freezes : ℕ) (a b : Maps) → IsTouchedWhere p freezes a b
+    → ((n : ℕ) → p n ≡ q n) → IsTouchedWhere q freezes a b
 touched_same p q freezes a b is same = record {
-  first = λ end n. is.first end n ∙ ap (λ x. is_touched a.first (window 0 end) n || (ltb freezes end && x)) (same n);
-  changes = λ w n. is.changes w n ∙ ap (λ x. is_touched a.changes w n || (is_inside w freezes && x)) (same n);
+  first = λ end n. is.first end n
+      ∙ ap (λ x. is_touched a.first (window 0 end) n || (ltb freezes end && x)) (same n);
+  changes = λ w n. is.changes w n
+      ∙ ap (λ x. is_touched a.changes w n || (is_inside w freezes && x)) (same n);
 }
 
-pub touched_none : (p : ℕ → Bool) (freezes : ℕ) (a : Maps) → ((n : ℕ) → p n ≡ false) → IsTouchedWhere p freezes a a
+pub touched_none : (p : ℕ → Bool) (freezes : ℕ) (a : Maps) → ((n : ℕ) → p n ≡ false)
+    → IsTouchedWhere p freezes a a
 touched_none p freezes a none = record {
-  first = λ end n. sym (none_new (is_touched a.first (window 0 end) n) (ltb freezes end) (p n) (none n));
+  first = λ end n. sym (none_new (is_touched a.first (window 0 end) n) (ltb freezes end) (p n)
+      (none n));
   changes = λ w n. sym (none_new (is_touched a.changes w n) (is_inside w freezes) (p n) (none n));
 }
 
 -- a block that isn't touched by now wasn't before
-pub untouched_before : (p : ℕ → Bool) (freezes : ℕ) (a b : Maps) (end n : ℕ) → IsTouchedWhere p freezes a b → is_touched b.first (window 0 end) n ≡ false → is_touched a.first (window 0 end) n ≡ false
-untouched_before p freezes a b end n is none = (or_parts (is_touched a.first (window 0 end) n) (ltb freezes end && p n) (sym (is.first end n) ∙ none)).0
+pub untouched_before : (p : ℕ → Bool) (freezes : ℕ) (a b : Maps) (end n : ℕ)
+    → IsTouchedWhere p freezes a b → is_touched b.first (window 0 end) n ≡ false
+    → is_touched a.first (window 0 end) n ≡ false
+untouched_before p freezes a b end n is none =
+    (or_parts (is_touched a.first (window 0 end) n) (ltb freezes end && p n)
+    (sym (is.first end n) ∙ none)).0

@@ -26,7 +26,8 @@ pub place_known : (s : ℕ) (h : List TrackStep) → list_any (freezes s) h ≡ 
 place_known s [] some = absurd (false≢true some)
 place_known s (x ∷ h) some = by (freezes s x) refl (λ later. place_known s h later)
   where
-    by : (b : Bool) → freezes s x ≡ b → (list_any (freezes s) h ≡ true → mark s h < length h) → cond (not (freezes s x)) (1 + mark s h) 0 < suc (length h)
+    by : (b : Bool) → freezes s x ≡ b → (list_any (freezes s) h ≡ true → mark s h < length h)
+        → cond (not (freezes s x)) (1 + mark s h) 0 < suc (length h)
     by true is rest = rw is (omega arith)
     by false is rest = rw is (omega (arith, rest (rw is at some)))
 
@@ -34,15 +35,19 @@ pub place_none : (s : ℕ) (h : List TrackStep) → list_any (freezes s) h ≡ f
 place_none s [] none = refl
 place_none s (x ∷ h) none = by (freezes s x) refl (λ later. place_none s h later)
   where
-    by : (b : Bool) → freezes s x ≡ b → (list_any (freezes s) h ≡ false → mark s h ≡ length h) → cond (not (freezes s x)) (1 + mark s h) 0 ≡ suc (length h)
+    by : (b : Bool) → freezes s x ≡ b → (list_any (freezes s) h ≡ false → mark s h ≡ length h)
+        → cond (not (freezes s x)) (1 + mark s h) 0 ≡ suc (length h)
     by true is rest = absurd (false≢true (sym none ∙ ap (λ b. b || list_any (freezes s) h) is))
     by false is rest = rw is (let last = rest (rw is at none) in omega (arith, last))
 
-pub place_new : (s : ℕ) (h : List TrackStep) (x : TrackStep) → list_any (freezes s) h ≡ false → freezes s x ≡ true → mark s (h ++ x ∷ []) ≡ length h
+pub place_new : (s : ℕ) (h : List TrackStep) (x : TrackStep) → list_any (freezes s) h ≡ false
+    → freezes s x ≡ true → mark s (h ++ x ∷ []) ≡ length h
 place_new s [] x none here = rw here refl
 place_new s (y ∷ h) x none here = by (freezes s y) refl (λ later. place_new s h x later here)
   where
-    by : (b : Bool) → freezes s y ≡ b → (list_any (freezes s) h ≡ false → mark s (h ++ x ∷ []) ≡ length h) → cond (not (freezes s y)) (1 + mark s (h ++ x ∷ [])) 0 ≡ suc (length h)
+    by : (b : Bool) → freezes s y ≡ b
+        → (list_any (freezes s) h ≡ false → mark s (h ++ x ∷ []) ≡ length h)
+        → cond (not (freezes s y)) (1 + mark s (h ++ x ∷ [])) 0 ≡ suc (length h)
     by true is rest = absurd (false≢true (sym none ∙ ap (λ b. b || list_any (freezes s) h) is))
     by false is rest = rw is (let last = rest (rw is at none) in omega (arith, last))
 
@@ -61,7 +66,8 @@ pub counts_mark : (o : Option ℕ) (r : Run) → history.counted_after reading o
 counts_mark None r = refl
 counts_mark (Some n) r = refl
 
-pub counts_freeze : (o : Option ℕ) (id : ℕ) → history.counted_after reading o (Frozen id) ≡ option_map (λ n. n + 1) o
+pub counts_freeze : (o : Option ℕ) (id : ℕ)
+    → history.counted_after reading o (Frozen id) ≡ option_map (λ n. n + 1) o
 counts_freeze None id = refl
 counts_freeze (Some n) id = refl
 
@@ -75,19 +81,25 @@ counts_reset (Some n) = refl
 
 -- ---- runs between two places
 
-pub runs_stay : (from end : ℕ) (h more : List TrackStep) → end ≤ length h → runs_between from end (h ++ more) ≡ runs_between from end h
-runs_stay from end h more le = ap (λ (xs : List TrackStep). filter_map run_in (drop from xs)) (take-append-le end h more le)
+pub runs_stay : (from end : ℕ) (h more : List TrackStep) → end ≤ length h
+    → runs_between from end (h ++ more) ≡ runs_between from end h
+runs_stay from end h more le =
+    ap (λ (xs : List TrackStep). filter_map run_in (drop from xs)) (take-append-le end h more le)
 
 pub runs_push : (from : ℕ) (h : List TrackStep) (x : TrackStep) → from ≤ length h
-    → runs_between from (length (h ++ x ∷ [])) (h ++ x ∷ []) ≡ runs_between from (length h) h ++ filter_map run_in (x ∷ [])
+    → runs_between from (length (h ++ x ∷ [])) (h ++ x ∷ [])
+    ≡ runs_between from (length h) h ++ filter_map run_in (x ∷ [])
 runs_push from h x le =
-    ap (λ (xs : List TrackStep). filter_map run_in (drop from xs)) (take_all (length (h ++ x ∷ [])) (h ++ x ∷ []) (omega arith))
+    ap (λ (xs : List TrackStep). filter_map run_in (drop from xs))
+    (take_all (length (h ++ x ∷ [])) (h ++ x ∷ []) (omega arith))
     ∙ ap (λ (xs : List TrackStep). filter_map run_in xs) (drop-append-le from h (x ∷ []) le)
     ∙ filter_map-append run_in (drop from h) (x ∷ [])
-    ∙ ap (λ (xs : List TrackStep). filter_map run_in (drop from xs) ++ filter_map run_in (x ∷ [])) (sym (take_all (length h) h (omega arith)))
+    ∙ ap (λ (xs : List TrackStep). filter_map run_in (drop from xs) ++ filter_map run_in (x ∷ []))
+    (sym (take_all (length h) h (omega arith)))
 
 pub runs_none : (n : ℕ) (h : List TrackStep) → runs_between n n h ≡ []
-runs_none n h = ap (λ (xs : List TrackStep). filter_map run_in xs) (drop_all n (take n h) (short n h))
+runs_none n h = ap (λ (xs : List TrackStep). filter_map run_in xs)
+    (drop_all n (take n h) (short n h))
   where
     short : (n : ℕ) (h : List TrackStep) → length (take n h) ≤ n
     short zero h = omega arith
@@ -99,9 +111,13 @@ runs_none n h = ap (λ (xs : List TrackStep). filter_map run_in xs) (drop_all n 
 abbrev pub force : (machine disk : ℕ) → List TrackStep → Option ChangeId
 force machine disk h = history.in_force reading machine disk h
 
-pub force_some : (machine disk : ℕ) (h : List TrackStep) → 1 ≤ number_of h → force machine disk h ≡ Some (record { uuid = packed machine disk (epoch_of h); seq = number_of h })
+pub force_some : (machine disk : ℕ) (h : List TrackStep) → 1 ≤ number_of h
+    → force machine disk h
+    ≡ Some (record { uuid = packed machine disk (epoch_of h); seq = number_of h })
 force_some machine disk h some =
-    in_force-made reading machine disk (record { uuid = packed machine disk (epoch_of h); seq = number_of h }) h (record { counted = some; uuid = refl; seq = refl })
+    in_force-made reading machine disk
+    (record { uuid = packed machine disk (epoch_of h); seq = number_of h }) h
+    (record { counted = some; uuid = refl; seq = refl })
 
 abbrev pub place_of_id : (machine disk : ℕ) → ChangeId → List TrackStep → Option ℕ
 place_of_id machine disk id h = history.mark_of_id reading machine disk id h

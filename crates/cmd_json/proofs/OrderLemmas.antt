@@ -144,7 +144,8 @@ taken_at : (o : Ordering) (name k : List ℕ) (d : Data) (ms : Members)
     (member k d (without name ms))) ≡ None
 taken_at Less name k d ms is h rest = rw is rest
 taken_at Equal name k d ms is h rest =
-    let same : name ≡ k = (bytes_eq-Decides name k).0 (sym (is_eq-slice_cmp name k) ∙ ap is_eq is) in
+    let same : name ≡ k =
+    (bytes_eq-Decides name k).0 (sym (is_eq-slice_cmp name k) ∙ ap is_eq is) in
     unfound name ms (subst (λ (n : List ℕ). IsBefore n ms) (sym same) h.0)
 taken_at Greater name k d ms is h rest = rw is rest
 
@@ -160,7 +161,8 @@ others_at : (o : Ordering) (name other k : List ℕ) (d : Data) (ms : Members)
 others_at Less name other k d ms is apart rest =
     ap (λ found. match_ordering (slice_cmp nat_cmp other k) found (Some d) found) rest
 others_at Equal name other k d ms is apart rest = skipped _ other k d ms refl
-    (λ same. apart (same ∙ sym ((bytes_eq-Decides name k).0 (sym (is_eq-slice_cmp name k) ∙ ap is_eq is))))
+    (λ same. apart (same ∙ sym
+    ((bytes_eq-Decides name k).0 (sym (is_eq-slice_cmp name k) ∙ ap is_eq is))))
 others_at Greater name other k d ms is apart rest =
     ap (λ found. match_ordering (slice_cmp nat_cmp other k) found (Some d) found) rest
 

@@ -14,7 +14,8 @@ use Rattle.ctl_state.specs.declared.copies.DiskCopy.{DiskCopy}
 use Rattle.ctl_state.specs.Migration.{named_copy, named_copies, fresh_copy, unnamed_copy, sectors_written}
 
 -- one more is named
-pub name_next : (copies : List DiskCopy) (ids : List ChangeId) (i : ℕ) (c : DiskCopy) (id : ChangeId)
+pub name_next : (copies : List DiskCopy) (ids : List ChangeId) (i : ℕ) (c : DiskCopy)
+    (id : ChangeId)
     → i < length copies → i < length ids
     → take (suc i) (set copies i (named_copy (get_or ids i id) (get_or copies i c)))
     ++ named_copies (drop (suc i) (set copies i (named_copy (get_or ids i id) (get_or copies i c))))

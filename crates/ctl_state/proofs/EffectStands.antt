@@ -58,16 +58,20 @@ no-clean number e = cc
 no-phase : (number : ℕ) → PhaseJob number ∷ [] ≡ Clean number ∷ [] → ⊥
 no-phase number e = cc
 
-no-copy-clean : (number disk : ℕ) (rest : List Job) → Copy number disk ∷ rest ≡ Clean number ∷ [] → ⊥
+no-copy-clean : (number disk : ℕ) (rest : List Job) → Copy number disk ∷ rest ≡ Clean number ∷ []
+    → ⊥
 no-copy-clean number disk rest e = cc
 
-copies-none : (number : ℕ) (disks : List ℕ) → map (λ disk. Copy number disk) disks ≡ PhaseJob number ∷ [] → ⊥
+copies-none : (number : ℕ) (disks : List ℕ)
+    → map (λ disk. Copy number disk) disks ≡ PhaseJob number ∷ [] → ⊥
 copies-none number [] e = nothing-there (PhaseJob number) e
 copies-none number (d ∷ disks) e = no-copy number d (map (λ disk. Copy number disk) disks) e
 
-copies-not-clean : (number : ℕ) (disks : List ℕ) → map (λ disk. Copy number disk) disks ≡ Clean number ∷ [] → ⊥
+copies-not-clean : (number : ℕ) (disks : List ℕ)
+    → map (λ disk. Copy number disk) disks ≡ Clean number ∷ [] → ⊥
 copies-not-clean number [] e = nothing-there (Clean number) e
-copies-not-clean number (d ∷ disks) e = no-copy-clean number d (map (λ disk. Copy number disk) disks) e
+copies-not-clean number (d ∷ disks) e =
+    no-copy-clean number d (map (λ disk. Copy number disk) disks) e
 
 pub record IsPhaseJob (v : CtlValue) (now : Moment) (m : Migration) : Type 0 where
   pub live : is_live m ≡ true
@@ -76,41 +80,50 @@ pub record IsPhaseJob (v : CtlValue) (now : Moment) (m : Migration) : Type 0 whe
   pub not_waiting : is_waiting v now m ≡ false
 
 abbrev jobs_by : (live cancel copying waiting : Bool) (number : ℕ) (disks : List ℕ) → List Job
-jobs_by live cancel copying waiting number disks = cond (not live) [] (cond cancel (Clean number ∷ [])
+jobs_by live cancel copying waiting number disks =
+    cond (not live) [] (cond cancel (Clean number ∷ [])
     (cond copying (map (λ disk. Copy number disk) disks) (cond waiting [] (PhaseJob number ∷ []))))
 
-by-phase-job : (live cancel copying waiting : Bool) (number : ℕ) (disks : List ℕ) → jobs_by live cancel copying waiting number disks ≡ PhaseJob number ∷ []
+by-phase-job : (live cancel copying waiting : Bool) (number : ℕ) (disks : List ℕ)
+    → jobs_by live cancel copying waiting number disks ≡ PhaseJob number ∷ []
     → (live ≡ true) × (cancel ≡ false) × (copying ≡ false) × (waiting ≡ false)
-by-phase-job false cancel copying waiting number disks e = absurd (nothing-there (PhaseJob number) e)
+by-phase-job false cancel copying waiting number disks e =
+    absurd (nothing-there (PhaseJob number) e)
 by-phase-job true true copying waiting number disks e = absurd (no-clean number e)
 by-phase-job true false true waiting number disks e = absurd (copies-none number disks e)
 by-phase-job true false false true number disks e = absurd (nothing-there (PhaseJob number) e)
 by-phase-job true false false false number disks e = (refl, refl, refl, refl)
 
-by-clean-job : (live cancel copying waiting : Bool) (number : ℕ) (disks : List ℕ) → jobs_by live cancel copying waiting number disks ≡ Clean number ∷ [] → cancel ≡ true
+by-clean-job : (live cancel copying waiting : Bool) (number : ℕ) (disks : List ℕ)
+    → jobs_by live cancel copying waiting number disks ≡ Clean number ∷ [] → cancel ≡ true
 by-clean-job false cancel copying waiting number disks e = absurd (nothing-there (Clean number) e)
 by-clean-job true true copying waiting number disks e = refl
 by-clean-job true false true waiting number disks e = absurd (copies-not-clean number disks e)
 by-clean-job true false false true number disks e = absurd (nothing-there (Clean number) e)
 by-clean-job true false false false number disks e = absurd (no-phase number e)
 
-pub phase-job : (v : CtlValue) (now : Moment) (m : Migration) → jobs_of v now m ≡ PhaseJob m.number ∷ [] → IsPhaseJob v now m
+pub phase-job : (v : CtlValue) (now : Moment) (m : Migration)
+    → jobs_of v now m ≡ PhaseJob m.number ∷ [] → IsPhaseJob v now m
 phase-job v now m e =
-    let by = by-phase-job (is_live m) m.cancel (is_copying m) (is_waiting v now m) m.number (disks_left m) e in
+    let by = by-phase-job (is_live m) m.cancel (is_copying m) (is_waiting v now m) m.number
+    (disks_left m) e in
     record { live = by.0; not_cancelled = by.1; not_copying = by.2; not_waiting = by.3 }
 
-removal-works : (b : Bool) (says calls : PhaseWork) → is_work says ≡ true → is_work calls ≡ true → is_work (cond b says calls) ≡ true
+removal-works : (b : Bool) (says calls : PhaseWork) → is_work says ≡ true → is_work calls ≡ true
+    → is_work (cond b says calls) ≡ true
 removal-works true says calls s c = s
 removal-works false says calls s c = c
 
-works : (p : Phase) (machine : ℕ) (task : PhaseTask) → is_end p ≡ false → same_phase p CopyFinal ≡ false → is_work (work_in p machine task) ≡ true
+works : (p : Phase) (machine : ℕ) (task : PhaseTask) → is_end p ≡ false
+    → same_phase p CopyFinal ≡ false → is_work (work_in p machine task) ≡ true
 unfolding same_phase
 works CopyFinal machine task live copy = absurd (false≢true (sym copy))
 works Completed machine task live copy = absurd (false≢true (sym live))
 works Cancelled machine task live copy = absurd (false≢true (sym live))
 works Failed machine task live copy = absurd (false≢true (sym live))
 works RemovePreviousSnapshot machine task live copy = removal-works (task.snap == 0) _ _ refl refl
-works RemovePenultimateSnapshot machine task live copy = removal-works (task.snap == 0) _ _ refl refl
+works RemovePenultimateSnapshot machine task live copy =
+    removal-works (task.snap == 0) _ _ refl refl
 works _ machine task live copy = refl
 
 not-final : (b c : Bool) → cond b true c ≡ false → b ≡ false
@@ -119,12 +132,15 @@ not-final false c e = refl
 
 pub tasks_tell_jobs : TasksTellJobs
 tasks_tell_jobs v now m = record {
-  of_phase = λ e. ap (λ (b : Bool). nat_lt 0 (how_number (cond b Hows.Cancelled Hows.Completed))) (phase-job v now m e).not_cancelled;
+  of_phase = λ e. ap (λ (b : Bool). nat_lt 0 (how_number (cond b Hows.Cancelled Hows.Completed)))
+      (phase-job v now m e).not_cancelled;
   of_clean_up = λ e. ap (λ (b : Bool). nat_lt 0 (how_number (cond b Hows.Cancelled Hows.Completed)))
-      (by-clean-job (is_live m) m.cancel (is_copying m) (is_waiting v now m) m.number (disks_left m) e);
+      (by-clean-job (is_live m) m.cancel (is_copying m) (is_waiting v now m) m.number (disks_left m)
+      e);
   has_job = λ s e machine.
       let job = phase-job v now m e in
-      let works_so = works m.phase machine (task_of v now m) (live-fits m.how m job.live s.now).live (not-final (same_phase m.phase CopyFinal) _ job.not_copying) in
+      let works_so = works m.phase machine (task_of v now m) (live-fits m.how m job.live s.now).live
+      (not-final (same_phase m.phase CopyFinal) _ job.not_copying) in
       or_right (is_clean_up (task_of v now m)) _ works_so;
   of_failure = λ how h. lt-ltb 0 (how_number how) h;
 }

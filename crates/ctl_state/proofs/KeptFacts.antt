@@ -24,7 +24,8 @@ use Rattle.ctl_state.specs.MayStand.{has_double}
 use Rattle.ctl_state.specs.Work.{Work, is_in, HasNone, HasSame, Joins, Leaves, Begins}
 use Rattle.ctl_state.proofs.ListFacts.{numbered_at, length-change_at, all-change_at, sum-change_at, sum-change_same, sum-zip_change, sum-zip_same, zip-append_one, find-change_same, find-change_passed, find-uncounted, any-counted, any-same}
 
--- what holds of a list, and of it with one element changed, holds of it with that of a number changed
+-- what holds of a list, and of it with one element changed, holds of it with that of a number
+-- changed
 pub by_number : {X : Type 0} (P : List X → Type 0) (xs : List X) (number : ℕ) (f : X → X)
     → P xs → P (change_at xs (number - 1) f) → P (change_numbered xs number f)
 by_number P xs number f same changed =

@@ -219,20 +219,26 @@ any-found {X} p (x ∷ xs) = elim (p x) as
 
 -- ---- the others, where one is changed or one is added behind them
 
-get-changed : {X : Type 0} (xs : List X) (i : ℕ) (f : X → X) → slice_get (change_at xs i f) i ≡ option_map f (slice_get xs i)
+get-changed : {X : Type 0} (xs : List X) (i : ℕ) (f : X → X)
+    → slice_get (change_at xs i f) i ≡ option_map f (slice_get xs i)
 get-changed [] i f = refl
 get-changed (x ∷ xs) zero f = refl
-get-changed {X} (x ∷ xs) (suc i) f = ap (λ (ys : List X). slice_get ys (suc i)) (change_at-suc x xs i f) ∙ get-changed xs i f
+get-changed {X} (x ∷ xs) (suc i) f =
+    ap (λ (ys : List X). slice_get ys (suc i)) (change_at-suc x xs i f) ∙ get-changed xs i f
 
-get-other : {X : Type 0} (xs : List X) (i j : ℕ) (f : X → X) → (i ≡ j → ⊥) → slice_get (change_at xs i f) j ≡ slice_get xs j
+get-other : {X : Type 0} (xs : List X) (i j : ℕ) (f : X → X) → (i ≡ j → ⊥)
+    → slice_get (change_at xs i f) j ≡ slice_get xs j
 get-other [] i j f other = refl
 get-other (x ∷ xs) zero zero f other = absurd (other refl)
 get-other (x ∷ xs) zero (suc j) f other = refl
-get-other {X} (x ∷ xs) (suc i) zero f other = ap (λ (ys : List X). slice_get ys 0) (change_at-suc x xs i f)
+get-other {X} (x ∷ xs) (suc i) zero f other =
+    ap (λ (ys : List X). slice_get ys 0) (change_at-suc x xs i f)
 get-other {X} (x ∷ xs) (suc i) (suc j) f other =
-    ap (λ (ys : List X). slice_get ys (suc j)) (change_at-suc x xs i f) ∙ get-other xs i j f (λ e. other (omega (arith, e)))
+    ap (λ (ys : List X). slice_get ys (suc j)) (change_at-suc x xs i f)
+    ∙ get-other xs i j f (λ e. other (omega (arith, e)))
 
-get-before : {X : Type 0} (xs : List X) (x : X) (j : ℕ) → (j ≡ length xs → ⊥) → slice_get (xs ++ x ∷ []) j ≡ slice_get xs j
+get-before : {X : Type 0} (xs : List X) (x : X) (j : ℕ) → (j ≡ length xs → ⊥)
+    → slice_get (xs ++ x ∷ []) j ≡ slice_get xs j
 get-before [] x zero other = absurd (other refl)
 get-before [] x (suc j) other = refl
 get-before (y ∷ xs) x zero other = refl
@@ -240,42 +246,56 @@ get-before (y ∷ xs) x (suc j) other = get-before xs x j (λ e. other (omega (a
 
 -- ---- by number
 
-by-zero : {X : Type 0} (xs ys : List X) (n : ℕ) → ((n ≡ 0 → ⊥) → slice_get xs (n - 1) ≡ slice_get ys (n - 1)) → numbered xs n ≡ numbered ys n
+by-zero : {X : Type 0} (xs ys : List X) (n : ℕ)
+    → ((n ≡ 0 → ⊥) → slice_get xs (n - 1) ≡ slice_get ys (n - 1)) → numbered xs n ≡ numbered ys n
 by-zero {X} xs ys n same = test (n == 0) refl
   where
-    test : (b : Bool) → (n == 0) ≡ b → cond b None (slice_get xs (n - 1)) ≡ cond b None (slice_get ys (n - 1))
+    test : (b : Bool) → (n == 0) ≡ b
+        → cond b None (slice_get xs (n - 1)) ≡ cond b None (slice_get ys (n - 1))
     test true e = refl
     test false e = same (λ z. false≢true (sym e ∙ eq-eqb n 0 z))
 
-change-zero : {X : Type 0} (xs : List X) (n m : ℕ) (f : X → X) → (n ≡ m → ⊥) → (m ≡ 0 → ⊥) → slice_get (change_numbered xs n f) (m - 1) ≡ slice_get xs (m - 1)
+change-zero : {X : Type 0} (xs : List X) (n m : ℕ) (f : X → X) → (n ≡ m → ⊥) → (m ≡ 0 → ⊥)
+    → slice_get (change_numbered xs n f) (m - 1) ≡ slice_get xs (m - 1)
 change-zero {X} xs n m f other some = test (n == 0) refl
   where
-    test : (b : Bool) → (n == 0) ≡ b → slice_get (cond b xs (change_at xs (n - 1) f)) (m - 1) ≡ slice_get xs (m - 1)
+    test : (b : Bool) → (n == 0) ≡ b
+        → slice_get (cond b xs (change_at xs (n - 1) f)) (m - 1) ≡ slice_get xs (m - 1)
     test true e = refl
     test false e =
         let there : n ≡ 0 → ⊥ = λ z. false≢true (sym e ∙ eq-eqb n 0 z) in
         get-other xs (n - 1) (m - 1) f (λ same. other (omega (arith, same, there, some)))
 
 -- a change by one number leaves the others
-pub numbered-other : {X : Type 0} (xs : List X) (n m : ℕ) (f : X → X) → (n ≡ m → ⊥) → numbered (change_numbered xs n f) m ≡ numbered xs m
-numbered-other xs n m f other = by-zero (change_numbered xs n f) xs m (λ some. change-zero xs n m f other some)
+pub numbered-other : {X : Type 0} (xs : List X) (n m : ℕ) (f : X → X) → (n ≡ m → ⊥)
+    → numbered (change_numbered xs n f) m ≡ numbered xs m
+numbered-other xs n m f other =
+    by-zero (change_numbered xs n f) xs m (λ some. change-zero xs n m f other some)
 
-pub numbered-changed : {X : Type 0} (xs : List X) (n : ℕ) (f : X → X) → numbered (change_numbered xs n f) n ≡ option_map f (numbered xs n)
+pub numbered-changed : {X : Type 0} (xs : List X) (n : ℕ) (f : X → X)
+    → numbered (change_numbered xs n f) n ≡ option_map f (numbered xs n)
 numbered-changed {X} xs n f = test (n == 0)
   where
-    test : (b : Bool) → cond b None (slice_get (cond b xs (change_at xs (n - 1) f)) (n - 1)) ≡ option_map f (cond b None (slice_get xs (n - 1)))
+    test : (b : Bool) → cond b None (slice_get (cond b xs (change_at xs (n - 1) f)) (n - 1))
+        ≡ option_map f (cond b None (slice_get xs (n - 1)))
     test true = refl
     test false = get-changed xs (n - 1) f
 
-pub numbered-before : {X : Type 0} (xs : List X) (x : X) (m : ℕ) → (m ≡ length xs + 1 → ⊥) → numbered (xs ++ x ∷ []) m ≡ numbered xs m
-numbered-before xs x m other = by-zero (xs ++ x ∷ []) xs m (λ some. get-before xs x (m - 1) (λ e. other (omega (arith, e, some))))
+pub numbered-before : {X : Type 0} (xs : List X) (x : X) (m : ℕ) → (m ≡ length xs + 1 → ⊥)
+    → numbered (xs ++ x ∷ []) m ≡ numbered xs m
+numbered-before xs x m other =
+    by-zero (xs ++ x ∷ []) xs m
+    (λ some. get-before xs x (m - 1) (λ e. other (omega (arith, e, some))))
 
-pub numbered-added : {X : Type 0} (xs : List X) (x : X) → numbered (xs ++ x ∷ []) (length xs + 1) ≡ Some x
+pub numbered-added : {X : Type 0} (xs : List X) (x : X)
+    → numbered (xs ++ x ∷ []) (length xs + 1) ≡ Some x
 numbered-added {X} xs x = test (length xs + 1 == 0) refl
   where
-    test : (b : Bool) → (length xs + 1 == 0) ≡ b → cond b None (slice_get (xs ++ x ∷ []) (length xs + 1 - 1)) ≡ Some x
+    test : (b : Bool) → (length xs + 1 == 0) ≡ b
+        → cond b None (slice_get (xs ++ x ∷ []) (length xs + 1 - 1)) ≡ Some x
     test true e = absurd (omega (arith, eqb-true (length xs + 1) 0 e))
-    test false e = let at : length xs + 1 - 1 ≡ length xs = omega arith in ap (slice_get (xs ++ x ∷ [])) at ∙ slice_get-last xs x
+    test false e = let at : length xs + 1 - 1 ≡ length xs = omega arith in
+        ap (slice_get (xs ++ x ∷ [])) at ∙ slice_get-last xs x
 
 -- ---- names
 

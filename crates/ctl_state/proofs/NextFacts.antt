@@ -1,4 +1,5 @@
--- What is known of plan and course where a machine is the next of its plan, and of a plan that may be
+-- What is known of plan and course where a machine is the next of its plan, and of a plan that may
+-- be
 -- made.
 use Rattle.std.proofs.Common.{◌≡◌, ℕ, ◌==◌, Bool, true, false, ◌&&◌, not, Option, Some, None, Ok, refl, ap}
 use Rattle.std.specs.Prelude.{List, slice_get}

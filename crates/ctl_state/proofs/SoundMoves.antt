@@ -42,7 +42,8 @@ ends-in-end Hows.Cancelled = refl
 ends-in-end Hows.FailedVolume = refl
 ends-in-end Hows.FailedSpent = refl
 
-lives-by : (how : Option How) (m : Migration) → StandsNow how m → is_end m.phase ≡ false → how ≡ None
+lives-by : (how : Option How) (m : Migration) → StandsNow how m → is_end m.phase ≡ false
+    → how ≡ None
 lives-by None m h live = refl
 lives-by (Some how) m h live = absurd (false≢true (sym live ∙ ap is_end h.phase ∙ ends-in-end how))
 
@@ -51,17 +52,21 @@ lives m s live = lives-by m.how m s.now live
 
 pub is-at : (m : Migration) (p : Phase) → is_end p ≡ false → IsSound m → m.phase ≡ p → m ≡ at p m
 is-at m p live s e =
-    ap (λ (q : Phase). record m { phase = q }) e ∙ ap (λ (how : Option How). record m { phase = p; how = how }) (lives m s (ap is_end e ∙ live))
+    ap (λ (q : Phase). record m { phase = q }) e
+    ∙ ap (λ (how : Option How). record m { phase = p; how = how })
+    (lives m s (ap is_end e ∙ live))
 
 -- a step of one that is in the phase, by that of one written out
-pub by-phase : (m : Migration) (p : Phase) (step : Migration → Migration) → is_end p ≡ false → IsSound m → m.phase ≡ p → (IsSound (at p m) → IsSound (step (at p m))) → IsSound (step m)
+pub by-phase : (m : Migration) (p : Phase) (step : Migration → Migration) → is_end p ≡ false
+    → IsSound m → m.phase ≡ p → (IsSound (at p m) → IsSound (step (at p m))) → IsSound (step m)
 by-phase m p step live s e k =
     let same = is-at m p live s e in
     subst (λ (x : Migration). IsSound (step x)) (sym same) (k (subst IsSound same s))
 
 -- ---- what stays
 
-pub keeps : (m n : Migration) → IsSound m → n.disks ≡ m.disks → length n.copies ≡ length m.copies → n.dv ≡ m.dv → n.marks ≡ m.marks → n.written ≡ m.written → StandsNow n.how n → IsSound n
+pub keeps : (m n : Migration) → IsSound m → n.disks ≡ m.disks → length n.copies ≡ length m.copies
+    → n.dv ≡ m.dv → n.marks ≡ m.marks → n.written ≡ m.written → StandsNow n.how n → IsSound n
 keeps m n s disks copies dv marks written now = record {
   some_disks = subst (λ (k : ℕ). 1 ≤ k) (sym disks) s.some_disks;
   few_disks = let few = s.few_disks in omega (arith, few, disks);
@@ -73,15 +78,22 @@ keeps m n s disks copies dv marks written now = record {
 }
 
 -- a phase with the same row that stands on the same side of each border
-pub move : (p q : Phase) (m : Migration) → facts_in q ≡ facts_in p → is_end q ≡ false → is_from AddFirstCheckpoint q ≡ is_from AddFirstCheckpoint p → is_from CopyDisks q ≡ is_from CopyDisks p
-    → is_from CopyingPaused q ≡ is_from CopyingPaused p → is_from PowerOffSource q ≡ is_from PowerOffSource p → is_from AddFinalCheckpoint q ≡ is_from AddFinalCheckpoint p → is_from CopyFinal q ≡ is_from CopyFinal p
+pub move : (p q : Phase) (m : Migration) → facts_in q ≡ facts_in p → is_end q ≡ false
+    → is_from AddFirstCheckpoint q ≡ is_from AddFirstCheckpoint p
+    → is_from CopyDisks q ≡ is_from CopyDisks p
+    → is_from CopyingPaused q ≡ is_from CopyingPaused p
+    → is_from PowerOffSource q ≡ is_from PowerOffSource p
+    → is_from AddFinalCheckpoint q ≡ is_from AddFinalCheckpoint p
+    → is_from CopyFinal q ≡ is_from CopyFinal p
     → IsSound (at p m) → IsSound (at q m)
 move p q m row live volumes added paused power placed final s =
     let f : FitsPhase (at p m) = s.now in
     keeps (at p m) (at q m) s refl refl refl refl refl (record {
       live = live;
-      current = subst (λ (facts : PhaseFacts). HasCurrent facts.current (reached m) m.snap) (sym row) f.current;
-      named = subst (λ (facts : PhaseFacts). AllByRecursion (λ copy. is_some copy.id ≡ facts.named) m.copies) (sym row) f.named;
+      current = subst (λ (facts : PhaseFacts). HasCurrent facts.current (reached m) m.snap)
+          (sym row) f.current;
+      named = subst (λ (facts : PhaseFacts). AllByRecursion (λ copy. is_some copy.id ≡ facts.named)
+          m.copies) (sym row) f.named;
       copied = subst (λ (facts : PhaseFacts). HaveCopied facts.copied m.copies) (sym row) f.copied;
       volumes = f.volumes ∙ sym volumes;
       added = f.added ∙ sym added;
@@ -98,43 +110,67 @@ move p q m row live volumes added paused power placed final s =
 abbrev pub Based : (ended : Bool) (last : Option ℕ) → List DiskCopy → Type 0
 Based ended last copies = AllByRecursion (λ copy. StandsBy false ended 0 last copy) copies
 
-any-mark : (ended : Bool) (mark other : ℕ) (last : Option ℕ) (c d : DiskCopy) → d.base ≡ c.base → StandsBy false ended mark last c → StandsBy false ended other last d
-any-mark true mark other last c d same h = subst (λ (base : Option CopyBase). IsSomeAnd base (λ b. last ≡ Some b.mark)) (sym same) h
-any-mark false mark other last c d same h = subst (λ (base : Option CopyBase). GoesOnFrom last base) (sym same) h
+any-mark : (ended : Bool) (mark other : ℕ) (last : Option ℕ) (c d : DiskCopy) → d.base ≡ c.base
+    → StandsBy false ended mark last c → StandsBy false ended other last d
+any-mark true mark other last c d same h =
+    subst (λ (base : Option CopyBase). IsSomeAnd base (λ b. last ≡ Some b.mark)) (sym same) h
+any-mark false mark other last c d same h =
+    subst (λ (base : Option CopyBase). GoesOnFrom last base) (sym same) h
 
-pub based : (unfinished ended : Bool) (mark : ℕ) (last : Option ℕ) (copies : List DiskCopy) → unfinished ≡ false → AllByRecursion (λ copy. StandsBy (unfinished && copy.done) ended mark last copy) copies → Based ended last copies
+pub based : (unfinished ended : Bool) (mark : ℕ) (last : Option ℕ) (copies : List DiskCopy)
+    → unfinished ≡ false → AllByRecursion
+    (λ copy. StandsBy (unfinished && copy.done) ended mark last copy) copies
+    → Based ended last copies
 based true ended mark last copies e h = absurd (false≢true (sym e))
 based false ended mark last copies e h =
     each (λ c stands. any-mark ended mark 0 last c c refl stands) copies h
 
-pub unbased : (unfinished ended : Bool) (mark : ℕ) (last : Option ℕ) (copies : List DiskCopy) → unfinished ≡ false → Based ended last copies → AllByRecursion (λ copy. StandsBy (unfinished && copy.done) ended mark last copy) copies
+pub unbased : (unfinished ended : Bool) (mark : ℕ) (last : Option ℕ) (copies : List DiskCopy)
+    → unfinished ≡ false → Based ended last copies
+    → AllByRecursion (λ copy. StandsBy (unfinished && copy.done) ended mark last copy) copies
 unbased true ended mark last copies e h = absurd (false≢true (sym e))
 unbased false ended mark last copies e h =
     each (λ c stands. any-mark ended 0 mark last c c refl stands) copies h
 
-based-map : (f : DiskCopy → DiskCopy) → ((c : DiskCopy) → (f c).base ≡ c.base) → (ended : Bool) (last : Option ℕ) (copies : List DiskCopy) → Based ended last copies → Based ended last (map f copies)
-based-map f same ended last copies h = each-map _ _ f (λ c stands. any-mark ended 0 0 last c (f c) (same c) stands) copies h
+based-map : (f : DiskCopy → DiskCopy) → ((c : DiskCopy) → (f c).base ≡ c.base)
+    → (ended : Bool) (last : Option ℕ) (copies : List DiskCopy) → Based ended last copies
+    → Based ended last (map f copies)
+based-map f same ended last copies h =
+    each-map _ _ f (λ c stands. any-mark ended 0 0 last c (f c) (same c) stands) copies h
 
-based-named : (ids : List ChangeId) (ended : Bool) (last : Option ℕ) (copies : List DiskCopy) → length ids ≡ length copies → Based ended last copies → Based ended last (named_copies copies ids)
-based-named ids ended last copies e h = each-named _ _ (λ c id stands. any-mark ended 0 0 last c (named_copy id c) refl stands) copies ids e h
+based-named : (ids : List ChangeId) (ended : Bool) (last : Option ℕ) (copies : List DiskCopy)
+    → length ids ≡ length copies → Based ended last copies
+    → Based ended last (named_copies copies ids)
+based-named ids ended last copies e h =
+    each-named _ _ (λ c id stands. any-mark ended 0 0 last c (named_copy id c) refl stands) copies
+    ids e h
 
 -- where no disk is left, no checkpoint is open
-pub closed : (p : Phase) (m : Migration) → is_from CopyDisks p ≡ true → all_done m.copies ≡ true → FitsPhase (at p m) → is_open m ≡ false
-closed p m from done f = f.unfinished ∙ ap (λ (b : Bool). b && not (all_done m.copies)) from ∙ ap not done
+pub closed : (p : Phase) (m : Migration) → is_from CopyDisks p ≡ true → all_done m.copies ≡ true
+    → FitsPhase (at p m) → is_open m ≡ false
+closed p m from done f = f.unfinished ∙ ap (λ (b : Bool). b && not (all_done m.copies)) from
+    ∙ ap not done
 
 -- ---- a snapshot is taken
 
-unnamed-stand : (m : Migration) (snap mark : ℕ) → is_open m ≡ false → AllByRecursion (λ copy. StandsBy (is_open m && copy.done) (is_final_done m) m.mark (last_mark m.marks) copy) m.copies
-    → AllByRecursion (λ copy. StandsBy (is_open m && copy.done) (is_final_done m) mark (last_mark m.marks) copy) (map unnamed_copy m.copies)
+unnamed-stand : (m : Migration) (snap mark : ℕ) → is_open m ≡ false
+    → AllByRecursion (λ copy. StandsBy (is_open m && copy.done) (is_final_done m) m.mark
+    (last_mark m.marks) copy) m.copies
+    → AllByRecursion (λ copy. StandsBy (is_open m && copy.done) (is_final_done m) mark
+    (last_mark m.marks) copy) (map unnamed_copy m.copies)
 unnamed-stand m snap mark shut stand =
     unbased (is_open m) (is_final_done m) mark (last_mark m.marks) (map unnamed_copy m.copies) shut
-    (based-map unnamed_copy (λ c. refl) (is_final_done m) (last_mark m.marks) m.copies (based (is_open m) (is_final_done m) m.mark (last_mark m.marks) m.copies shut stand))
+    (based-map unnamed_copy (λ c. refl) (is_final_done m) (last_mark m.marks) m.copies
+    (based (is_open m) (is_final_done m) m.mark (last_mark m.marks) m.copies shut stand))
 
-pub first-snapshot : (m : Migration) (snap mark : ℕ) → reached m < snap → IsSound (at CreateInitialSnapshot m) → IsSound (moved (with_snapshot snap mark (at CreateInitialSnapshot m)) Facts.Done)
+pub first-snapshot : (m : Migration) (snap mark : ℕ) → reached m < snap
+    → IsSound (at CreateInitialSnapshot m)
+    → IsSound (moved (with_snapshot snap mark (at CreateInitialSnapshot m)) Facts.Done)
 unfolding next_of
 first-snapshot m snap mark later s =
     let f : FitsPhase (at CreateInitialSnapshot m) = s.now in
-    keeps (at CreateInitialSnapshot m) (at StoreInitialIds (with_snapshot snap mark m)) s refl (length-map m.copies unnamed_copy) refl refl refl (record {
+    keeps (at CreateInitialSnapshot m) (at StoreInitialIds (with_snapshot snap mark m)) s refl
+    (length-map m.copies unnamed_copy) refl refl refl (record {
       live = refl;
       current = later;
       named = each-map _ _ unnamed_copy (λ c h. refl) m.copies f.named;
@@ -149,11 +185,14 @@ first-snapshot m snap mark later s =
       stand = unnamed-stand m snap mark f.unfinished f.stand;
     })
 
-pub next-snapshot : (m : Migration) (snap mark : ℕ) → reached m < snap → IsSound (at CreateSnapshot m) → IsSound (moved (with_snapshot snap mark (at CreateSnapshot m)) Facts.Done)
+pub next-snapshot : (m : Migration) (snap mark : ℕ) → reached m < snap
+    → IsSound (at CreateSnapshot m)
+    → IsSound (moved (with_snapshot snap mark (at CreateSnapshot m)) Facts.Done)
 unfolding next_of
 next-snapshot m snap mark later s =
     let f : FitsPhase (at CreateSnapshot m) = s.now in
-    keeps (at CreateSnapshot m) (at StoreIds (with_snapshot snap mark m)) s refl (length-map m.copies unnamed_copy) refl refl refl (record {
+    keeps (at CreateSnapshot m) (at StoreIds (with_snapshot snap mark m)) s refl
+    (length-map m.copies unnamed_copy) refl refl refl (record {
       live = refl;
       current = later;
       named = each-map _ _ unnamed_copy (λ c h. refl) m.copies f.named;
@@ -168,12 +207,16 @@ next-snapshot m snap mark later s =
       stand = unnamed-stand m snap mark (closed CreateSnapshot m refl f.copied f) f.stand;
     })
 
-pub final-snapshot : (m : Migration) (snap mark place : ℕ) → reached m < snap → IsSound (at CreateFinalSnapshot m)
-    → IsSound (moved (record (with_snapshot snap mark (at CreateFinalSnapshot m)) { place = Some place }) Facts.Done)
+pub final-snapshot : (m : Migration) (snap mark place : ℕ) → reached m < snap
+    → IsSound (at CreateFinalSnapshot m)
+    → IsSound (moved (record (with_snapshot snap mark (at CreateFinalSnapshot m))
+    { place = Some place }) Facts.Done)
 unfolding next_of
 final-snapshot m snap mark place later s =
     let f : FitsPhase (at CreateFinalSnapshot m) = s.now in
-    keeps (at CreateFinalSnapshot m) (at AddFinalCheckpoint (record (with_snapshot snap mark m) { place = Some place })) s refl (length-map m.copies unnamed_copy) refl refl refl (record {
+    keeps (at CreateFinalSnapshot m)
+    (at AddFinalCheckpoint (record (with_snapshot snap mark m) { place = Some place })) s refl
+    (length-map m.copies unnamed_copy) refl refl refl (record {
       live = refl;
       current = later;
       named = each-map _ _ unnamed_copy (λ c h. refl) m.copies f.named;
@@ -190,19 +233,29 @@ final-snapshot m snap mark place later s =
 
 -- ---- its identifiers are stored
 
-named-stand : (m : Migration) (ids : List ChangeId) → length ids ≡ length m.copies → is_open m ≡ false → AllByRecursion (λ copy. StandsBy (is_open m && copy.done) (is_final_done m) m.mark (last_mark m.marks) copy) m.copies
-    → AllByRecursion (λ copy. StandsBy (is_open m && copy.done) (is_final_done m) m.mark (last_mark m.marks) copy) (named_copies m.copies ids)
+named-stand : (m : Migration) (ids : List ChangeId) → length ids ≡ length m.copies
+    → is_open m ≡ false → AllByRecursion
+    (λ copy. StandsBy (is_open m && copy.done) (is_final_done m) m.mark (last_mark m.marks) copy)
+    m.copies
+    → AllByRecursion (λ copy. StandsBy (is_open m && copy.done) (is_final_done m) m.mark
+    (last_mark m.marks) copy) (named_copies m.copies ids)
 named-stand m ids e shut stand =
-    unbased (is_open m) (is_final_done m) m.mark (last_mark m.marks) (named_copies m.copies ids) shut
-    (based-named ids (is_final_done m) (last_mark m.marks) m.copies e (based (is_open m) (is_final_done m) m.mark (last_mark m.marks) m.copies shut stand))
+    unbased (is_open m) (is_final_done m) m.mark (last_mark m.marks) (named_copies m.copies ids)
+    shut
+    (based-named ids (is_final_done m) (last_mark m.marks) m.copies e
+    (based (is_open m) (is_final_done m) m.mark (last_mark m.marks) m.copies shut stand))
 
-pub first-ids : (m : Migration) (ids : List ChangeId) → length ids ≡ m.disks → IsSound (at StoreInitialIds m)
-    → IsSound (moved (record (at StoreInitialIds m) { copies = named_copies m.copies ids }) Facts.Done)
+pub first-ids : (m : Migration) (ids : List ChangeId) → length ids ≡ m.disks
+    → IsSound (at StoreInitialIds m)
+    → IsSound (moved (record (at StoreInitialIds m) { copies = named_copies m.copies ids })
+    Facts.Done)
 unfolding next_of
 first-ids m ids e s =
     let f : FitsPhase (at StoreInitialIds m) = s.now in
     let same : length ids ≡ length m.copies = e ∙ sym s.paired in
-    keeps (at StoreInitialIds m) (at CreateVolumes (record m { copies = named_copies m.copies ids })) s refl (length-named m.copies ids) refl refl refl (record {
+    keeps (at StoreInitialIds m)
+    (at CreateVolumes (record m { copies = named_copies m.copies ids })) s refl
+    (length-named m.copies ids) refl refl refl (record {
       live = refl;
       current = f.current;
       named = each-named _ _ (λ c id h. refl) m.copies ids same f.named;
@@ -217,13 +270,15 @@ first-ids m ids e s =
       stand = named-stand m ids same f.unfinished f.stand;
     })
 
-pub next-ids : (m : Migration) (ids : List ChangeId) → length ids ≡ m.disks → IsSound (at StoreIds m)
+pub next-ids : (m : Migration) (ids : List ChangeId) → length ids ≡ m.disks
+    → IsSound (at StoreIds m)
     → IsSound (moved (record (at StoreIds m) { copies = named_copies m.copies ids }) Facts.Done)
 unfolding next_of
 next-ids m ids e s =
     let f : FitsPhase (at StoreIds m) = s.now in
     let same : length ids ≡ length m.copies = e ∙ sym s.paired in
-    keeps (at StoreIds m) (at AddCheckpoint (record m { copies = named_copies m.copies ids })) s refl (length-named m.copies ids) refl refl refl (record {
+    keeps (at StoreIds m) (at AddCheckpoint (record m { copies = named_copies m.copies ids })) s
+    refl (length-named m.copies ids) refl refl refl (record {
       live = refl;
       current = f.current;
       named = each-named _ _ (λ c id h. refl) m.copies ids same f.named;
@@ -240,11 +295,13 @@ next-ids m ids e s =
 
 -- ---- volumes, a pause, the power state
 
-pub volumes-made : (m : Migration) → IsSound (at CreateVolumes m) → IsSound (moved (record (at CreateVolumes m) { volumes = true }) Facts.Done)
+pub volumes-made : (m : Migration) → IsSound (at CreateVolumes m)
+    → IsSound (moved (record (at CreateVolumes m) { volumes = true }) Facts.Done)
 unfolding next_of
 volumes-made m s =
     let f : FitsPhase (at CreateVolumes m) = s.now in
-    keeps (at CreateVolumes m) (at AddFirstCheckpoint (record m { volumes = true })) s refl refl refl refl refl (record {
+    keeps (at CreateVolumes m) (at AddFirstCheckpoint (record m { volumes = true })) s refl refl
+    refl refl refl (record {
       live = refl;
       current = f.current;
       named = f.named;
@@ -259,11 +316,14 @@ volumes-made m s =
       stand = f.stand;
     })
 
-pub paused : (m : Migration) (last : Option Moment) → IsSome last → all_done m.copies ≡ true → IsSound (at CopyDisks m) → IsSound (moved (record (at CopyDisks m) { last = last }) Facts.Done)
+pub paused : (m : Migration) (last : Option Moment) → IsSome last → all_done m.copies ≡ true
+    → IsSound (at CopyDisks m)
+    → IsSound (moved (record (at CopyDisks m) { last = last }) Facts.Done)
 unfolding next_of
 paused m last there done s =
     let f : FitsPhase (at CopyDisks m) = s.now in
-    keeps (at CopyDisks m) (at CopyingPaused (record m { last = last })) s refl refl refl refl refl (record {
+    keeps (at CopyDisks m) (at CopyingPaused (record m { last = last })) s refl refl refl refl refl
+    (record {
       live = refl;
       current = f.current;
       named = f.named;
@@ -278,11 +338,13 @@ paused m last there done s =
       stand = f.stand;
     })
 
-pub power-stored : (m : Migration) (on : Bool) → IsSound (at StorePowerState m) → IsSound (moved (record (at StorePowerState m) { power = Some on }) Facts.Done)
+pub power-stored : (m : Migration) (on : Bool) → IsSound (at StorePowerState m)
+    → IsSound (moved (record (at StorePowerState m) { power = Some on }) Facts.Done)
 unfolding next_of
 power-stored m on s =
     let f : FitsPhase (at StorePowerState m) = s.now in
-    keeps (at StorePowerState m) (at PowerOffSource (record m { power = Some on })) s refl refl refl refl refl (record {
+    keeps (at StorePowerState m) (at PowerOffSource (record m { power = Some on })) s refl refl refl
+    refl refl (record {
       live = refl;
       current = λ x e. same_Some x (reached m) (sym e ∙ f.current);
       named = f.named;
@@ -299,16 +361,22 @@ power-stored m on s =
 
 -- ---- a snapshot goes
 
-pub unmarked-stand : (m : Migration) → is_open m ≡ false → AllByRecursion (λ copy. StandsBy (is_open m && copy.done) (is_final_done m) m.mark (last_mark m.marks) copy) m.copies
-    → AllByRecursion (λ copy. StandsBy (is_open m && copy.done) (is_final_done m) 0 (last_mark m.marks) copy) m.copies
+pub unmarked-stand : (m : Migration) → is_open m ≡ false
+    → AllByRecursion (λ copy. StandsBy (is_open m && copy.done) (is_final_done m) m.mark
+    (last_mark m.marks) copy) m.copies
+    → AllByRecursion (λ copy. StandsBy (is_open m && copy.done) (is_final_done m) 0
+    (last_mark m.marks) copy) m.copies
 unmarked-stand m shut stand =
-    unbased (is_open m) (is_final_done m) 0 (last_mark m.marks) m.copies shut (based (is_open m) (is_final_done m) m.mark (last_mark m.marks) m.copies shut stand)
+    unbased (is_open m) (is_final_done m) 0 (last_mark m.marks) m.copies shut
+    (based (is_open m) (is_final_done m) m.mark (last_mark m.marks) m.copies shut stand)
 
-pub previous-removed : (m : Migration) → IsSound (at RemovePreviousSnapshot m) → IsSound (moved (without_snapshot (at RemovePreviousSnapshot m)) Facts.Done)
+pub previous-removed : (m : Migration) → IsSound (at RemovePreviousSnapshot m)
+    → IsSound (moved (without_snapshot (at RemovePreviousSnapshot m)) Facts.Done)
 unfolding next_of
 previous-removed m s =
     let f : FitsPhase (at RemovePreviousSnapshot m) = s.now in
-    keeps (at RemovePreviousSnapshot m) (at CreateSnapshot (without_snapshot m)) s refl refl refl refl refl (record {
+    keeps (at RemovePreviousSnapshot m) (at CreateSnapshot (without_snapshot m)) s refl refl refl
+    refl refl (record {
       live = refl;
       current = refl;
       named = f.named;
@@ -323,11 +391,13 @@ previous-removed m s =
       stand = unmarked-stand m (closed RemovePreviousSnapshot m refl f.copied f) f.stand;
     })
 
-pub penultimate-removed : (m : Migration) → IsSound (at RemovePenultimateSnapshot m) → IsSound (moved (without_snapshot (at RemovePenultimateSnapshot m)) Facts.Done)
+pub penultimate-removed : (m : Migration) → IsSound (at RemovePenultimateSnapshot m)
+    → IsSound (moved (without_snapshot (at RemovePenultimateSnapshot m)) Facts.Done)
 unfolding next_of
 penultimate-removed m s =
     let f : FitsPhase (at RemovePenultimateSnapshot m) = s.now in
-    keeps (at RemovePenultimateSnapshot m) (at CreateFinalSnapshot (without_snapshot m)) s refl refl refl refl refl (record {
+    keeps (at RemovePenultimateSnapshot m) (at CreateFinalSnapshot (without_snapshot m)) s refl refl
+    refl refl refl (record {
       live = refl;
       current = refl;
       named = f.named;

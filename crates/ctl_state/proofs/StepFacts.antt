@@ -46,7 +46,8 @@ checkpoint_done_keeps m =
       marks = m.marks ++ m.mark ∷ [];
       written = m.written ++ sectors_written m.copies ∷ [];
     } in
-    along m counted (with_volume_done counted) (record { how = refl; machine = refl; number = refl })
+    along m counted (with_volume_done counted)
+    (record { how = refl; machine = refl; number = refl })
     (volume_done_keeps counted)
 
 stage_done_keeps : (m : Migration) (disk written : ℕ) → Keeps m (with_stage_done disk written m)

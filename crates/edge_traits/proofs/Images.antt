@@ -21,12 +21,14 @@ AllowsNoMore before now = (image : List ℕ) → IsImage now image → IsImage b
 -- a byte that isn't loose after a range became loose is outside that range, and was not before
 pub not_loosened : (c : DiskContents) (first count offset : ℕ)
     → is_loose offset (loosened first count c) ≡ false
-    → (is_loose offset c ≡ false) × (covers offset (record { first = first; count = count }) ≡ false)
+    → (is_loose offset c ≡ false)
+    × (covers offset (record { first = first; count = count }) ≡ false)
 not_loosened c first count offset h =
     let span : Span = record { first = first; count = count } in
     let both : (list_any (covers offset) c.loose || list_any (covers offset) (span ∷ [])) ≡ false =
     sym (list_any-append (covers offset) c.loose (span ∷ [])) ∙ h in
-    let parts = or_parts (list_any (covers offset) c.loose) (list_any (covers offset) (span ∷ [])) both in
+    let parts = or_parts (list_any (covers offset) c.loose) (list_any (covers offset) (span ∷ []))
+    both in
     (parts.0, (or_parts (covers offset span) false parts.1).0)
 
 pub still_not_loosened : (c : DiskContents) (first count offset : ℕ) → is_loose offset c ≡ false
@@ -72,18 +74,21 @@ written_kept c offset bytes k image begins below synced loose outside =
     elim (cases_lt k offset) [
       | inl before ↦
           let within : k < length c.bytes = omega arith in
-          get_or-replaced_before c.bytes bytes offset begins k 0 before ∙ image.kept k within synced loose
+          get_or-replaced_before c.bytes bytes offset begins k 0 before
+          ∙ image.kept k within synced loose
       | inr from ↦
           let behind : offset + length bytes ≤ k = outside from in
           let within : k < length c.bytes = omega arith in
-          get_or-replaced_behind c.bytes bytes offset begins k 0 behind ∙ image.kept k within synced loose
+          get_or-replaced_behind c.bytes bytes offset begins k 0 behind
+          ∙ image.kept k within synced loose
     ]
 
 -- a write leaves what it gives to read among the images
 pub write_possible : (c : DiskContents) (offset : ℕ) (bytes : List ℕ) → IsImage c c.bytes
     → offset ≤ length c.bytes → IsImage (after_write offset bytes c) (replaced c.bytes offset bytes)
 write_possible c offset bytes is begins =
-    let len : length (replaced c.bytes offset bytes) ≡ max (length c.bytes) (offset + length bytes) =
+    let len : length (replaced c.bytes offset bytes)
+    ≡ max (length c.bytes) (offset + length bytes) =
     length-replaced_past c.bytes bytes offset begins in
     let long : c.least ≤ length c.bytes = is.long in
     let short : length c.bytes ≤ c.greatest = is.short in
@@ -129,7 +134,8 @@ cut_consistent c len is within =
 -- the images of a disk don't depend on what a read gives
 pub images_of_write : (c : DiskContents) (offset : ℕ) (bytes : List ℕ)
     → AllowsNoMore (loosened offset (length bytes) c) (after_write offset bytes c)
-images_of_write c offset bytes image is = record { long = is.long; short = is.short; kept = is.kept }
+images_of_write c offset bytes image is =
+    record { long = is.long; short = is.short; kept = is.kept }
 
 pub images_of_cut : (c : DiskContents) (len : ℕ)
     → AllowsNoMore (shortened len c) (after_cut len c)
@@ -301,7 +307,8 @@ pub wider_told : (old new : Option DiskContents) (offset count more : ℕ) → c
 wider_told None None offset count more le is = tt
 wider_told None (Some new) offset count more le is = is
 wider_told (Some old) None offset count more le is = is
-wider_told (Some old) (Some new) offset count more le is = wider_break old new offset count more le is
+wider_told (Some old) (Some new) offset count more le is =
+    wider_break old new offset count more le is
 
 pub unbroken_told : (old new : Option DiskContents) (offset count : ℕ) → new ≡ old
     → WhereTold (IsBrokenWrite offset count) old new
@@ -321,4 +328,5 @@ pub part_asked : {T E : Type 0} (result : Result T E) (old new : Option DiskCont
 part_asked (Ok answer) old new offset bytes n within begins done broken =
     part_told old new offset bytes n within begins done
 part_asked (Err refusal) old new offset bytes n within begins done broken =
-    wider_told old new offset (length (take n bytes)) (length bytes) (omega (arith, length-take n bytes)) broken
+    wider_told old new offset (length (take n bytes)) (length bytes)
+    (omega (arith, length-take n bytes)) broken

@@ -49,7 +49,8 @@ span_copied span from to f n same first count offset within =
     elim (cases_lt offset f) [
       | inl before ↦
           let outside : offset < span.first = omega arith in
-          if_not _ _ _ _ (uncovered_before offset span outside) (get_or-replaced_before to _ f begins offset 0 before)
+          if_not _ _ _ _ (uncovered_before offset span outside)
+          (get_or-replaced_before to _ f begins offset 0 before)
       | inr begun ↦
           elim (cases_lt offset (f + n)) [
             | inl inside ↦
@@ -57,15 +58,19 @@ span_copied span from to f n same first count offset within =
                 let to_end : offset < span.first + span.count = omega arith in
                 let in_piece : offset < f + length (take (f + n - f) (drop f from)) = omega arith in
                 if_so _ _ _ _ (covered offset span from_first to_end)
-                (get_or-replaced_within to _ f begins offset 0 begun in_piece ∙ piece_at f n from offset begun inside)
+                (get_or-replaced_within to _ f begins offset 0 begun in_piece
+                ∙ piece_at f n from offset begun inside)
             | inr behind ↦
                 let past : span.first + span.count ≤ offset = omega arith in
-                let past_piece : f + length (take (f + n - f) (drop f from)) ≤ offset = omega arith in
-                if_not _ _ _ _ (uncovered_behind offset span past) (get_or-replaced_behind to _ f begins offset 0 past_piece)
+                let past_piece : f + length (take (f + n - f) (drop f from)) ≤ offset =
+                omega arith in
+                if_not _ _ _ _ (uncovered_behind offset span past)
+                (get_or-replaced_behind to _ f begins offset 0 past_piece)
           ]
     ]
 
-if_either : (a b : Bool) (x y now new : ℕ) → now ≡ (if a then x else y) → new ≡ (if b then x else now)
+if_either : (a b : Bool) (x y now new : ℕ) → now ≡ (if a then x else y)
+    → new ≡ (if b then x else now)
     → new ≡ (if a || b then x else y)
 if_either true true x y now new before after = after
 if_either true false x y now new before after = after ∙ before
@@ -84,6 +89,7 @@ one_span_more spans i d offset x y now new less before after =
     ≡ (list_any (covers offset) (take i spans) || covers offset span) =
     ap (λ (xs : List Span). list_any (covers offset) xs) (take_more spans i d less)
     ∙ list_any-append (covers offset) (take i spans) (span ∷ [])
-    ∙ ap (λ (b : Bool). list_any (covers offset) (take i spans) || b) (or-false (covers offset span)) in
+    ∙ ap (λ (b : Bool). list_any (covers offset) (take i spans) || b)
+    (or-false (covers offset span)) in
     if_either _ _ x y now new before after
     ∙ ap (λ (b : Bool). if b then x else y) (sym split)

@@ -23,7 +23,8 @@ later_images : (c : DiskContents) (len : ℕ) (cell image : List ℕ) → len �
     → IsImage (loosened (length c.bytes - 1) 1 (settled (c.bytes ++ cell))) image
 later_images c len cell image long some is =
     let there : IsImage (loosened (len - 1) 1 (settled (c.bytes ++ cell))) image =
-    subst (λ (d : DiskContents). IsImage (loosened (len - 1) 1 d) image) (with_cell_is c len cell long) is in
+    subst (λ (d : DiskContents). IsImage (loosened (len - 1) 1 d) image)
+    (with_cell_is c len cell long) is in
     subst (λ (n : ℕ). IsImage (loosened (n - 1) 1 (settled (c.bytes ++ cell))) image) long there
 
 -- the record's write failed
@@ -90,7 +91,8 @@ opened_is : (c : DiskContents) (len : ℕ) (cell : List ℕ) → len ≡ length 
     ≡ settled (take (len - 1) c.bytes ++ OPEN_GATE ∷ cell)
 opened_is c len cell long some =
     let bytes : 1 ≤ length c.bytes = omega (arith, long, some) in
-    ap (λ (d : DiskContents). after_sync (after_write (len - 1) (OPEN_GATE ∷ []) d)) (with_cell_is c len cell long)
+    ap (λ (d : DiskContents). after_sync (after_write (len - 1) (OPEN_GATE ∷ []) d))
+    (with_cell_is c len cell long)
     ∙ ap (λ n. settled (replaced (c.bytes ++ cell) (n - 1) (OPEN_GATE ∷ []))) long
     ∙ ap settled (replaced_gate c.bytes cell OPEN_GATE bytes)
     ∙ ap (λ n. settled (take (n - 1) c.bytes ++ OPEN_GATE ∷ cell)) (sym long)
@@ -104,7 +106,8 @@ pub all_done : (old synced opened new : Option DiskContents) (len : ℕ) (cell :
     → new ≡ option_map (λ c. settled (take (len - 1) c.bytes ++ OPEN_GATE ∷ cell)) old
 all_done None synced opened new len cell long some is gate done = rw (done, gate, is) refl
 all_done (Some old) synced opened new len cell long some is gate done =
-    rw (done, gate, is) (ap (λ (d : DiskContents). Some d) (opened_is old len cell (long old refl) some))
+    rw (done, gate, is) (ap (λ (d : DiskContents). Some d)
+    (opened_is old len cell (long old refl) some))
 
 -- the gate lies within the disk
 pub gate_within : (old synced : Option DiskContents) (len : ℕ) (cell : List ℕ)
@@ -113,8 +116,10 @@ pub gate_within : (old synced : Option DiskContents) (len : ℕ) (cell : List �
 gate_within None synced len cell long is = λ c at. absurd (cc)
 gate_within (Some old) synced len cell long is = λ c at.
     let same : c ≡ with_cell len cell old = cc in
-    let whole : c ≡ settled (old.bytes ++ cell) = same ∙ with_cell_is old len cell (long old refl) in
-    let bytes : length c.bytes ≡ length (old.bytes ++ cell) = ap (λ (d : DiskContents). length d.bytes) whole in
+    let whole : c ≡ settled (old.bytes ++ cell) =
+    same ∙ with_cell_is old len cell (long old refl) in
+    let bytes : length c.bytes ≡ length (old.bytes ++ cell) =
+    ap (λ (d : DiskContents). length d.bytes) whole in
     omega (arith, bytes, length-append old.bytes cell, long old refl)
 
 pub synced_is : (old written synced : Option DiskContents) (len : ℕ) (cell : List ℕ)

@@ -23,13 +23,19 @@ pub record HasParts (cells body behind : List ℕ) : Type 0 where
 pub parts_of : (cells body behind : List ℕ) → IsOpen cells body behind → HasParts cells body behind
 parts_of cells body behind is =
     let word : List ℕ = word_bytes (length body) in
-    let moved : (word ++ body) ++ behind ≡ word ++ (body ++ behind) = append_assoc word body behind in
+    let moved : (word ++ body) ++ behind ≡ word ++ (body ++ behind) =
+    append_assoc word body behind in
     record {
       rest = word ++ (body ++ behind);
       gate = is.split ∙ ap (λ xs. OPEN_GATE ∷ xs) moved;
       word = word_back (length body) (body ++ behind) is.few;
       tail = word_rest (length body) (body ++ behind);
-      long = omega (arith, length-append word (body ++ behind), length-append body behind, length-word_bytes (length body));
+      long = omega (
+        arith,
+        length-append word (body ++ behind),
+        length-append body behind,
+        length-word_bytes (length body),
+      );
     }
 
 -- two lists that begin with lists of one length
@@ -58,22 +64,26 @@ pub record_is_open : (cells tail : List ℕ) (r : Record) → length cells ≤ M
     → cells ≡ open_cell r ++ tail → IsOpen cells (spelling r) tail
 record_is_open cells tail r small is =
     let long : length cells ≡ length (open_cell r ++ tail) = ap length is in
-    let cell_long : length (cell r) ≡ length (word_bytes (length (spelling r))) + length (spelling r) =
+    let cell_long : length (cell r) ≡ length (word_bytes (length (spelling r))) + length
+    (spelling r) =
     length-append (word_bytes (length (spelling r))) (spelling r) in
-    let all : length (cell r ++ tail) ≡ length (cell r) + length tail = length-append (cell r) tail in
+    let all : length (cell r ++ tail) ≡ length (cell r) + length tail =
+    length-append (cell r) tail in
     record { few = omega (arith, long, cell_long, all); split = is }
 
 -- no record's cell stands where no open cell does
 pub no_cell : (rest : List ℕ) → length rest ≤ MAX_BYTES
     → ((body behind : List ℕ) → ¬ IsOpen rest body behind) → ¬ BeginsWithCell rest
-no_cell rest small none (r, tail, has, is) = none (spelling r) tail (record_is_open rest tail r small is)
+no_cell rest small none (r, tail, has, is) =
+    none (spelling r) tail (record_is_open rest tail r small is)
 
 -- nor where an open cell has another body
 pub no_record : (rest body behind : List ℕ) → length rest ≤ MAX_BYTES → IsOpen rest body behind
     → ((r : Record) → ¬ Spells body r) → ¬ BeginsWithCell rest
 no_record rest body behind small opened none (r, tail, has, is) =
     let same : body ≡ spelling r =
-    (open_bodies rest body behind (spelling r) tail opened (record_is_open rest tail r small is)).0 in
+    (open_bodies rest body behind (spelling r) tail opened (record_is_open rest tail r small is)).0
+    in
     none r (record { record_has = has; spelled = same })
 
 -- nor at a closed gate
@@ -86,7 +96,9 @@ pub same_record : (a b : Record) (x y : List ℕ) → HasSpelling a → HasSpell
     → length (open_cell a ++ x) ≤ MAX_BYTES → open_cell a ++ x ≡ open_cell b ++ y
     → (a ≡ b) × (x ≡ y)
 same_record a b x y has_a has_b small same =
-    let first : IsOpen (open_cell a ++ x) (spelling a) x = record_is_open (open_cell a ++ x) x a small refl in
-    let second : IsOpen (open_cell a ++ x) (spelling b) y = record_is_open (open_cell a ++ x) y b small same in
+    let first : IsOpen (open_cell a ++ x) (spelling a) x =
+    record_is_open (open_cell a ++ x) x a small refl in
+    let second : IsOpen (open_cell a ++ x) (spelling b) y =
+    record_is_open (open_cell a ++ x) y b small same in
     let both = open_bodies (open_cell a ++ x) (spelling a) x (spelling b) y first second in
     (spellings_differ a b has_a has_b both.0, both.1)

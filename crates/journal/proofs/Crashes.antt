@@ -16,7 +16,8 @@ one_of : (lists : List (List Record)) (bytes : List ℕ) (records : List Record)
     → StandsForOneOf lists bytes → StandsFor bytes (Holds records) → IsOneOf records lists
 one_of [] bytes records stands its = stands
 one_of (first ∷ lists) bytes records (inl stands) its =
-    let same : Holds records ≡ Holds first = stands_for_one bytes (Holds records) (Holds first) its stands in
+    let same : Holds records ≡ Holds first =
+    stands_for_one bytes (Holds records) (Holds first) its stands in
     let lists_same : records ≡ first = cc in
     inl lists_same
 one_of (first ∷ lists) bytes records (inr others) its = inr (one_of lists bytes records others its)
@@ -111,6 +112,8 @@ never lists old new standing differs leaves (synced, found) images =
 
 pub never_strange : NeverStrange
 never_strange lists old new number leaves = (
-  λ refuses. never lists old new NoJournal (λ records same. absurd (cc)) leaves refuses.cause refuses.images,
-  λ refuses. never lists old new (BadAt number) (λ records same. absurd (cc)) leaves refuses.cause refuses.images,
+  λ refuses. never lists old new NoJournal (λ records same. absurd (cc)) leaves refuses.cause
+      refuses.images,
+  λ refuses. never lists old new (BadAt number) (λ records same. absurd (cc)) leaves refuses.cause
+      refuses.images,
 )

@@ -45,7 +45,8 @@ image_of_longer file count image is =
       omega (arith, length-drop (length file) image),
     )
 
-pub replaced_at_end : (file written : List ℕ) → replaced file (length file) written ≡ file ++ written
+pub replaced_at_end : (file written : List ℕ)
+    → replaced file (length file) written ≡ file ++ written
 replaced_at_end file written =
     let front : take (length file) file ≡ file = take_all (length file) file (omega arith) in
     let none : drop (length file + length written) file ≡ [] =
@@ -126,7 +127,8 @@ cut_before c len cell image at_rest long is =
     let here : IsImage (loosened (length c.bytes) (length cell) c) image =
     subst (λ (n : ℕ). IsImage (loosened n (length cell) c) image) long is in
     let settled_here : IsImage (loosened (length c.bytes) (length cell) (settled c.bytes)) image =
-    subst (λ (d : DiskContents). IsImage (loosened (length c.bytes) (length cell) d) image) at_rest here in
+    subst (λ (d : DiskContents). IsImage (loosened (length c.bytes) (length cell) d) image) at_rest
+    here in
     let parts = image_of_longer c.bytes (length cell) image settled_here in
     inl (drop (length c.bytes) image, parts.0, parts.1)
 

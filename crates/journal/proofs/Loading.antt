@@ -21,10 +21,12 @@ use Rattle.journal.specs.Devices.{IsSettled, LeavesFew, LeavesCut, IsJustSynced,
 use Rattle.journal.proofs.StandingLemmas.{stands_for_one, stands_closed, closed_in, none_in_short, short_alike}
 
 itself : (c : DiskContents) → IsSettled c → IsImage c c.bytes
-itself c is = subst (λ (d : DiskContents). IsImage d c.bytes) (sym is) (settled_consistent c.bytes).read
+itself c is = subst (λ (d : DiskContents). IsImage d c.bytes) (sym is)
+    (settled_consistent c.bytes).read
 
 same_as : (image bytes : List ℕ) → image ≡ bytes → StandsAs image bytes
-same_as image bytes is standing stands = subst (λ (xs : List ℕ). StandsFor xs standing) (sym is) stands
+same_as image bytes is standing stands =
+    subst (λ (xs : List ℕ). StandsFor xs standing) (sym is) stands
 
 -- a sync keeps what the images stand for
 pub synced_keeps : (old new : Option DiskContents) → new ≡ option_map after_sync old
@@ -57,8 +59,12 @@ pub few_keeps : (old new : Option DiskContents) → ForSome old IsSettled
 few_keeps None None at_rest few leaves = tt
 few_keeps None (Some new) at_rest few leaves = leaves
 few_keeps (Some old) None at_rest few leaves = leaves
-few_keeps (Some old) (Some new) at_rest few leaves = λ image i.
-    (old.bytes, itself old (at_rest old refl), short_alike image old.bytes (leaves image i) (few old refl))
+few_keeps (Some old) (Some new) at_rest few leaves = λ image i. (
+  old.bytes,
+  itself old (at_rest old refl),
+  short_alike image old.bytes (leaves image i)
+      (few old refl),
+)
 
 -- a cut leaves the records and their closed gate
 cut_stands : (records : List Record) (bytes image : List ℕ) → EMPTY_BYTES < length bytes
@@ -68,7 +74,8 @@ cut_stands : (records : List Record) (bytes image : List ℕ) → EMPTY_BYTES < 
 cut_stands records bytes image more small stands long is =
     let closed = closed_in bytes records more stands in
     let file : List ℕ = front records ++ closed.gate ∷ [] in
-    let len : length file ≡ length (front records) + 1 = length-append (front records) (closed.gate ∷ []) in
+    let len : length file ≡ length (front records) + 1 =
+    length-append (front records) (closed.gate ∷ []) in
     let count : ℕ = length image - length file in
     let split : length file + count ≡ length image = omega (arith, len, long) in
     let whole : bytes ≡ file ++ closed.tail =
@@ -80,7 +87,8 @@ cut_stands records bytes image more small stands long is =
     begins ∙ append_assoc (front records) (closed.gate ∷ []) (take count closed.tail) in
     let short : length image ≤ MAX_BYTES =
     omega (arith, ap length is, length-take (length image) bytes, small) in
-    stands_closed records closed.gate (take count closed.tail) image closed.spelled closed.closed shape short
+    stands_closed records closed.gate (take count closed.tail) image closed.spelled closed.closed
+    shape short
 
 small_file : (records : List Record) (bytes : List ℕ) → EMPTY_BYTES < length bytes
     → StandsFor bytes (Holds records) → length bytes ≤ MAX_BYTES
@@ -99,9 +107,11 @@ cut_keeps (Some old) (Some new) found len at_rest long more whole stands leaves 
     let many : EMPTY_BYTES < length old.bytes = omega (arith, long old refl, more) in
     let holds : StandsFor old.bytes (Holds found.records.items) = stands old refl in
     let parts = leaves image i in
-    let reaches : length (front found.records.items) + 1 ≤ length image = omega (arith, parts.0, whole.long) in
+    let reaches : length (front found.records.items) + 1 ≤ length image =
+    omega (arith, parts.0, whole.long) in
     let kept : StandsFor image (Holds found.records.items) =
-    cut_stands found.records.items old.bytes image many (small_file found.records.items old.bytes many holds) holds
+    cut_stands found.records.items old.bytes image many
+    (small_file found.records.items old.bytes many holds) holds
     reaches parts.1 in (
       old.bytes,
       itself old (at_rest old refl),
@@ -116,14 +126,17 @@ found_as : (standing : Standing) (old : Option DiskContents) (P : DiskContents �
 found_as standing None P leads fact = tt
 found_as standing (Some c) P leads fact = leads c fact
 
-just_keeps : (old new : DiskState) → IsJustSynced old new → WhereTold KeepsStanding old.contents new.contents
+just_keeps : (old new : DiskState) → IsJustSynced old new
+    → WhereTold KeepsStanding old.contents new.contents
 just_keeps old new just =
-    synced_keeps old.contents new.contents (ap (λ (d : DiskState). d.contents) just.synced) just.possible
+    synced_keeps old.contents new.contents (ap (λ (d : DiskState). d.contents) just.synced)
+    just.possible
 
 synced_or_not_keeps : (old new : DiskState) → IsSyncedOrNot old new
     → WhereTold KeepsStanding old.contents new.contents
 synced_or_not_keeps old new (inl same) = same_keeps old.contents new.contents same
-synced_or_not_keeps old new (inr (synced, possible)) = synced_keeps old.contents new.contents synced possible
+synced_or_not_keeps old new (inr (synced, possible)) =
+    synced_keeps old.contents new.contents synced possible
 
 offset_as : (at : ℕ) (old : Option DiskContents)
     → IfSome old (λ c. (at ≡ 0) ⊎ IsPieceOffset at c.bytes) → IfSome old (IsOpenOffset at)
@@ -170,10 +183,12 @@ unread_unwritten (DiskFault at) old new (rises, synced, offset, told) = synced
 unread_unwritten (BadRecord number) old new fact = absurd fact
 unread_unwritten (Full len) old new fact = absurd fact
 
-bytes_as : (standing : Standing) (old : Option DiskContents) (bytes : List ℕ) → StandsFor bytes standing
+bytes_as : (standing : Standing) (old : Option DiskContents) (bytes : List ℕ)
+    → StandsFor bytes standing
     → IfSome old (λ c. bytes ≡ c.bytes) → IfSome old (λ c. StandsFor c.bytes standing)
 bytes_as standing None bytes stands same = tt
-bytes_as standing (Some c) bytes stands same = subst (λ (xs : List ℕ). StandsFor xs standing) same stands
+bytes_as standing (Some c) bytes stands same =
+    subst (λ (xs : List ℕ). StandsFor xs standing) same stands
 
 -- the bytes are no journal
 pub unfound : (why : JournalRefused) (old new : DiskState) (bytes : List ℕ) → IsJustSynced old new
@@ -198,11 +213,14 @@ whole_found bytes found small (stands, end) =
     elim (cases_lt EMPTY_BYTES (length bytes)) [
       | inl more ↦
           let closed = closed_in bytes found.records.items more stands in
-          let long : length bytes ≡ length (front found.records.items) + length (closed.gate ∷ closed.tail) =
-          ap length closed.split ∙ length-append (front found.records.items) (closed.gate ∷ closed.tail) in
+          let long : length bytes
+          ≡ length (front found.records.items) + length (closed.gate ∷ closed.tail) =
+          ap length closed.split
+          ∙ length-append (front found.records.items) (closed.gate ∷ closed.tail) in
           record { spelled = closed.spelled; long = end; small = omega (arith, end, long) }
       | inr few ↦
-          let none : found.records.items ≡ [] = none_in_short bytes found.records.items few stands in
+          let none : found.records.items ≡ [] =
+          none_in_short bytes found.records.items few stands in
           let spelled : AllByRecursion HasSpelling found.records.items = rw none tt in
           let short : found.end ≡ 9 = end ∙ ap (λ (rs : List Record). length (front rs) + 1) none in
           record { spelled = spelled; long = end; small = omega (arith, short) }
@@ -211,7 +229,8 @@ whole_found bytes found small (stands, end) =
 pub fresh_found : (bytes : List ℕ) (found : Found) → IsFound bytes (Ok found)
     → length bytes ≤ EMPTY_BYTES → found.end ≡ EMPTY_BYTES
 fresh_found bytes found (stands, end) few =
-    end ∙ ap (λ (rs : List Record). length (front rs) + 1) (none_in_short bytes found.records.items few stands)
+    end ∙ ap (λ (rs : List Record). length (front rs) + 1)
+    (none_in_short bytes found.records.items few stands)
 
 -- what a reading found
 pub found_in : (old new : DiskState) (bytes : List ℕ) (found : Found) → length bytes ≤ MAX_BYTES

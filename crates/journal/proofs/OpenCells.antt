@@ -50,14 +50,16 @@ is_open cells body behind bytes rest_bytes long gate fits body_is behind_is =
     let rest : List ℕ = drop 5 cells in
     let four : 4 ≤ length (drop 1 cells) = omega (arith, length-drop 1 cells) in
     let fields : drop 1 cells ≡ word_bytes count ++ rest =
-    word_split (drop 1 cells) four rest_bytes ∙ ap (λ xs. word_bytes count ++ xs) (drop_five cells) in
+    word_split (drop 1 cells) four rest_bytes
+    ∙ ap (λ xs. word_bytes count ++ xs) (drop_five cells) in
     let len : length body ≡ count = omega (arith, ap length body_is, length-take count rest) in
     let both : body ++ behind ≡ rest =
     ap (λ xs. xs ++ behind) body_is ∙ ap (λ xs. take count rest ++ xs) behind_is
     ∙ take-append-drop count rest in
     let some : 1 ≤ length cells = omega arith in
     let split : cells ≡ OPEN_GATE ∷ (word_bytes count ++ rest) =
-    first_and_rest cells some ∙ ap (λ g. g ∷ drop 1 cells) gate ∙ ap (λ xs. OPEN_GATE ∷ xs) fields in
+    first_and_rest cells some ∙ ap (λ g. g ∷ drop 1 cells) gate
+    ∙ ap (λ xs. OPEN_GATE ∷ xs) fields in
     record {
       few = omega (arith, len, word_fits (drop 1 cells) rest_bytes);
       split =

@@ -57,7 +57,12 @@ cut_few None None most at_rest few broken = broken
 cut_few None (Some new) most at_rest few broken = broken
 cut_few (Some old) None most at_rest few broken = broken
 cut_few (Some old) (Some new) most at_rest few broken = λ image is.
-    omega (arith, (broken_cut_images old new 0 broken image is).short, few_now old most (at_rest old refl) (few old refl))
+    omega (
+      arith,
+      (broken_cut_images old new 0 broken image is).short,
+      few_now old most
+          (at_rest old refl) (few old refl),
+    )
 
 -- or the write
 pub write_few : (old cut new : Option DiskContents) (count most : ℕ) → count ≤ most
@@ -77,7 +82,11 @@ write_few (Some old) cut new count most within at_rest few is broken = there new
         → WhereTold (LeavesFew most) (Some old) new
     there None broken = broken
     there (Some new) broken = λ image i.
-        omega (arith, (broken_write_images (after_cut 0 old) new 0 count broken image i).short, few_now old most (at_rest old refl) (few old refl))
+        omega (
+          arith,
+          (broken_write_images (after_cut 0 old) new 0 count broken image i).short,
+          few_now old most (at_rest old refl) (few old refl),
+        )
 
 -- or the sync
 pub sync_few : (old cut written new : Option DiskContents) (file : List ℕ) (most : ℕ)

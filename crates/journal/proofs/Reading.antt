@@ -31,7 +31,8 @@ cells_and_one records r =
     ∙ ap (λ xs. flat_map open_cell records ++ xs) (append-nil (open_cell r))
 
 -- one more cell is that of a record
-pub one_cell_more : (cells : List ℕ) (records : List Record) (rest body behind : List ℕ) (r : Record)
+pub one_cell_more : (cells : List ℕ) (records : List Record) (rest body behind : List ℕ)
+    (r : Record)
     → AreOpen cells records rest → IsOpen rest body behind → Spells body r
     → AreOpen cells (records ++ r ∷ []) behind
 one_cell_more cells records rest body behind r before opened spells =
@@ -45,7 +46,8 @@ one_cell_more cells records rest body behind r before opened spells =
           ∙ ap (λ xs. xs ++ behind) (sym (cells_and_one records r));
     }
 
-pub rest_shorter : (cells : List ℕ) (records : List Record) (rest : List ℕ) → AreOpen cells records rest
+pub rest_shorter : (cells : List ℕ) (records : List Record) (rest : List ℕ)
+    → AreOpen cells records rest
     → length cells ≡ length (flat_map open_cell records) + length rest
 rest_shorter cells records rest is =
     ap length is.split ∙ length-append (flat_map open_cell records) rest
@@ -76,7 +78,8 @@ read_failed cells records rest body behind before (BadRecord number) small count
       is = ap (λ n. BadAt n) which ∙ sym (open_standing records rest body behind opened);
     }
 
-closed_stands : (cells : List ℕ) (records : List Record) (rest : List ℕ) → AreOpen cells records rest
+closed_stands : (cells : List ℕ) (records : List Record) (rest : List ℕ)
+    → AreOpen cells records rest
     → begins_closed rest ≡ true → StandIn cells (Holds records)
 closed_stands cells records [] is closed = absurd (cc)
 closed_stands cells records (gate ∷ tail) is closed =
@@ -93,12 +96,19 @@ closed_stands cells records (gate ∷ tail) is closed =
     ]
 
 -- the reading ends at a closed gate
-pub read_whole : (cells : List ℕ) (found : Found) (rest : List ℕ) → AreOpen cells found.records.items rest
+pub read_whole : (cells : List ℕ) (found : Found) (rest : List ℕ)
+    → AreOpen cells found.records.items rest
     → begins_closed rest ≡ true → found.end ≡ 8 + length cells - length rest + 1
     → AreRead cells (Ok found)
 read_whole cells found rest is closed end = (
   closed_stands cells found.records.items rest is closed,
-  omega (arith, end, rest_shorter cells found.records.items rest is, length-front found.records.items),
+  omega (
+    arith,
+    end,
+    rest_shorter cells found.records.items rest is,
+    length-front
+        found.records.items,
+  ),
 )
 
 ends_open : (records : List Record) (rest : List ℕ) → begins_closed rest ≡ false

@@ -11,7 +11,8 @@ use Rattle.journal.specs.Format.{Standing, Holds, NotAJournal, BadRecord, Begins
 use Rattle.journal.specs.Laws.{StandsForAtMostOne}
 use Rattle.journal.proofs.CellLemmas.{same_record, no_cell_behind}
 
-pub length-front : (records : List Record) → length (front records) ≡ 8 + length (flat_map open_cell records)
+pub length-front : (records : List Record)
+    → length (front records) ≡ 8 + length (flat_map open_cell records)
 length-front records = omega arith
 
 pub front_split : (records : List Record) (rest : List ℕ)
@@ -34,16 +35,21 @@ same_cells [] (b ∷ others) x y has_a has_b end_x end_y small same =
 same_cells (a ∷ ones) [] x y has_a has_b end_x end_y small same =
     absurd (end_y (a, flat_map open_cell ones ++ x, has_a.0, sym same ∙ cons_split a ones x))
 same_cells (a ∷ ones) (b ∷ others) x y has_a has_b end_x end_y small same =
-    let split_a : flat_map open_cell (a ∷ ones) ++ x ≡ open_cell a ++ (flat_map open_cell ones ++ x) = cons_split a ones x in
-    let len : length (flat_map open_cell (a ∷ ones) ++ x) ≡ length (open_cell a ++ (flat_map open_cell ones ++ x)) =
+    let split_a : flat_map open_cell (a ∷ ones) ++ x
+    ≡ open_cell a ++ (flat_map open_cell ones ++ x) = cons_split a ones x in
+    let len : length (flat_map open_cell (a ∷ ones) ++ x)
+    ≡ length (open_cell a ++ (flat_map open_cell ones ++ x)) =
     ap length split_a in
-    let small_a : length (open_cell a ++ (flat_map open_cell ones ++ x)) ≤ MAX_BYTES = omega (arith, len, small) in
-    let first = same_record a b (flat_map open_cell ones ++ x) (flat_map open_cell others ++ y) has_a.0 has_b.0 small_a
+    let small_a : length (open_cell a ++ (flat_map open_cell ones ++ x)) ≤ MAX_BYTES =
+    omega (arith, len, small) in
+    let first = same_record a b (flat_map open_cell ones ++ x) (flat_map open_cell others ++ y)
+    has_a.0 has_b.0 small_a
     (sym split_a ∙ same ∙ cons_split b others y) in
     let less : length (flat_map open_cell ones ++ x) ≤ MAX_BYTES =
     omega (arith, small_a, length-append (open_cell a) (flat_map open_cell ones ++ x)) in
     let rest = same_cells ones others x y has_a.1 has_b.1 end_x end_y less first.1 in
-    let records : a ∷ ones ≡ b ∷ others = ap (λ (r : Record). r ∷ ones) first.0 ∙ ap (λ (rs : List Record). b ∷ rs) rest.0 in
+    let records : a ∷ ones ≡ b ∷ others =
+    ap (λ (r : Record). r ∷ ones) first.0 ∙ ap (λ (rs : List Record). b ∷ rs) rest.0 in
     (records, rest.1)
 
 behind_magic : (x y : List ℕ) → MAGIC ++ x ≡ MAGIC ++ y → x ≡ y
@@ -58,17 +64,21 @@ parsed_one bytes one other small first second =
     ∙ front_split second.records second.rest in
     let long : length bytes ≡ length (MAGIC ++ (flat_map open_cell first.records ++ first.rest)) =
     ap length (first.split ∙ front_split first.records first.rest) in
-    let less : length (flat_map open_cell first.records ++ first.rest) ≤ MAX_BYTES = omega (arith, long) in
-    let both = same_cells first.records second.records first.rest second.rest first.spelled second.spelled
+    let less : length (flat_map open_cell first.records ++ first.rest) ≤ MAX_BYTES =
+    omega (arith, long) in
+    let both = same_cells first.records second.records first.rest second.rest first.spelled
+    second.spelled
     first.ends second.ends less (behind_magic _ _ same) in
     first.is ∙ ap (λ (rs : List Record). standing_at rs first.rest) both.0
     ∙ ap (λ (xs : List ℕ). standing_at second.records xs) both.1 ∙ sym second.is
 
-parsed_begins : (bytes : List ℕ) (standing : Standing) → IsParsed bytes standing → take (length MAGIC) bytes ≡ MAGIC
+parsed_begins : (bytes : List ℕ) (standing : Standing) → IsParsed bytes standing
+    → take (length MAGIC) bytes ≡ MAGIC
 parsed_begins bytes standing is =
     ap (λ zs. take (length MAGIC) zs) (is.split ∙ front_split is.records is.rest)
 
-not_foreign : (bytes : List ℕ) (standing : Standing) → length bytes ≤ MAX_BYTES → IsParsed bytes standing
+not_foreign : (bytes : List ℕ) (standing : Standing) → length bytes ≤ MAX_BYTES
+    → IsParsed bytes standing
     → (MAX_BYTES < length bytes) ⊎ (take (length MAGIC) bytes ≢ MAGIC) → ⊥
 not_foreign bytes standing small is (inl long) = absurd (omega arith)
 not_foreign bytes standing small is (inr strange) = strange (parsed_begins bytes standing is)

@@ -23,29 +23,45 @@ areas_from-start : (m : ℕ) (rs : List Run) → AreSpacedFrom m rs → areas_fr
 areas_from-start m [] h = refl
 areas_from-start m (r ∷ rs) h =
     let past : 0 < end_of r = omega (arith, h.1) in
-    rw (lt-ltb 0 (end_of r) past, le-ltb r.first 0 (omega arith)) (ap (λ (more : List Run). r ∷ more) (areas_from-start (end_of r + 1) rs h.2))
+    rw (lt-ltb 0 (end_of r) past, le-ltb r.first 0 (omega arith))
+    (ap (λ (more : List Run). r ∷ more) (areas_from-start (end_of r + 1) rs h.2))
 
 -- an answer is the areas of some blocks
-answered : (machine c d s : ℕ) (since : Since) (log : List Entry) (areas : List Run) → changed_areas machine c d s since log ≡ Ok areas → (blocks : List ℕ) × (areas ≡ areas_of c blocks)
+answered : (machine c d s : ℕ) (since : Since) (log : List Entry) (areas : List Run)
+    → changed_areas machine c d s since log ≡ Ok areas
+    → (blocks : List ℕ) × (areas ≡ areas_of c blocks)
 answered machine c d s Everything log areas found = (touched c d 0 (mark s log) log, cc)
-answered machine c d s (From id) log areas found =
-    (touched c d (unwrap_or (mark_of_id machine d id log) 0) (mark s log) log, sym (ok_part (accepts machine d s id log) (touched_areas c d (unwrap_or (mark_of_id machine d id log) 0) (mark s log) log) areas (in_force machine d log) found))
+answered machine c d s (From id) log areas found = (
+  touched c d (unwrap_or (mark_of_id machine d id log) 0) (mark s log) log,
+  sym
+      (ok_part (accepts machine d s id log)
+      (touched_areas c d (unwrap_or (mark_of_id machine d id log) 0) (mark s log) log) areas
+      (in_force machine d log) found),
+)
 
-kept : (machine c d s : ℕ) (since : Since) (log : List Entry) (areas : List Run) → c < 2 ^ 64 → changed_areas machine c d s since log ≡ Ok areas → SpacedWithin 0 c areas
+kept : (machine c d s : ℕ) (since : Since) (log : List Entry) (areas : List Run) → c < 2 ^ 64
+    → changed_areas machine c d s since log ≡ Ok areas → SpacedWithin 0 c areas
 kept machine c d s since log areas fits found =
     let blocks = answered machine c d s since log areas found in
     subst (SpacedWithin 0 c) (sym blocks.1) (runs_of-spaced (in_blocks blocks.0) c fits)
 
 pub answer_pages_join : AnswerPagesJoin
-answer_pages_join machine c d s since log areas fits found = pages_tell c areas (kept machine c d s since log areas fits found)
+answer_pages_join machine c d s since log areas fits found =
+    pages_tell c areas (kept machine c d s since log areas fits found)
 
 pub all_pages_are_the_answer : AllPagesAreTheAnswer
 all_pages_are_the_answer machine c d s since log areas pages fits found are =
     let k = kept machine c d s since log areas fits found in
-    answer_pages_join machine c d s since log areas fits found 0 pages are ∙ areas_from-start 0 areas k.spaced
+    answer_pages_join machine c d s since log areas fits found 0 pages are
+    ∙ areas_from-start 0 areas k.spaced
 
 pub answers_are_areas : AnswersAreAreas
 answers_are_areas machine c d s since log areas fits found =
     let k = kept machine c d s since log areas fits found in
     let within = All-from_recursion (λ (r : Run). end_of r ≤ c) areas k.ends in
-    record { spaced = k.spaced; within = within; pages = λ start before. page_lies_within c areas start k.spaced within before }
+    record {
+      spaced = k.spaced;
+      within = within;
+      pages = λ start before. page_lies_within c areas
+          start k.spaced within before;
+    }

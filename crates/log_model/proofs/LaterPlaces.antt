@@ -8,7 +8,8 @@ use Rattle.log_model.specs.Marks.{reading_of, epoch}
 use Rattle.log_model.specs.Laws.{LaterEntriesKeepPlaces}
 use Rattle.change_id.proofs.Counts.{epoch-append, epoch-le}
 
-still-reset : (d place : ℕ) (log more : List Entry) → take place (log ++ more) ≡ take place log → (epoch d (take place log) ≡ epoch d log → ⊥)
+still-reset : (d place : ℕ) (log more : List Entry) → take place (log ++ more) ≡ take place log
+    → (epoch d (take place log) ≡ epoch d log → ⊥)
     → epoch d (take place (log ++ more)) ≡ epoch d (log ++ more) → ⊥
 still-reset d place log more front reset same =
     let low = epoch-le (reading_of d) place log in
@@ -22,6 +23,7 @@ later_entries_keep_places place log more le =
     record {
       contents_stay = λ c d. ap (contents c d) front;
       epoch_stays = λ d. ap (epoch d) front;
-      touched_stay = λ c d from. ap (λ (xs : List Entry). touched_blocks c (writes_of d (drop from xs))) front;
+      touched_stay = λ c d from. ap
+          (λ (xs : List Entry). touched_blocks c (writes_of d (drop from xs))) front;
       reset_stays = λ d reset. still-reset d place log more front reset;
     }

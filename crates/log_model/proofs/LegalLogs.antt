@@ -23,19 +23,28 @@ pub prefixes_are_legal : PrefixesAreLegal
 prefixes_are_legal disks log n legal = record {
   short = omega (arith, legal.short, length-take-le n log);
   each = λ place e read.
-      let inside : place < n = within_take n place log (slice_get_within (take n log) place e read) in
+      let inside : place < n =
+      within_take n place log (slice_get_within (take n log) place e read) in
       let whole : slice_get log place ≡ Some e = sym (slice_get-take log n place inside) ∙ read in
       let le : place ≤ n = omega arith in
-      subst (λ (front : List Entry). MayStand disks front e) (sym (take-take place n log le)) (legal.each place e whole);
+      subst (λ (front : List Entry). MayStand disks front e) (sym (take-take place n log le))
+      (legal.each place e whole);
 }
 
 -- the entry at a place of a log with one more is an old one, or the new one at the end
-last_or_old : (log : List Entry) (e x : Entry) (k : ℕ) → slice_get (log ++ e ∷ []) k ≡ Some x → ((k < length log) × (slice_get log k ≡ Some x)) ⊎ ((k ≡ length log) × (e ≡ x))
+last_or_old : (log : List Entry) (e x : Entry) (k : ℕ) → slice_get (log ++ e ∷ []) k ≡ Some x
+    → ((k < length log) × (slice_get log k ≡ Some x)) ⊎ ((k ≡ length log) × (e ≡ x))
 last_or_old log e x k read =
-    let inside : k < length log + 1 = omega (arith, slice_get_within (log ++ e ∷ []) k x read, length-append log (e ∷ [])) in
+    let inside : k < length log + 1 =
+    omega (arith, slice_get_within (log ++ e ∷ []) k x read, length-append log (e ∷ [])) in
     elim (cases_eq k (length log)) [
-      | inl same ↦ inr (same, same_Some e x (sym (slice_get-last log e) ∙ ap (slice_get (log ++ e ∷ [])) (sym same) ∙ read))
-      | inr other ↦ let old : k < length log = omega arith in inl (old, sym (slice_get-front log (e ∷ []) k old) ∙ read)
+      | inl same ↦ inr (
+        same,
+        same_Some e x (sym (slice_get-last log e)
+            ∙ ap (slice_get (log ++ e ∷ [])) (sym same) ∙ read),
+      )
+      | inr other ↦ let old : k < length log = omega arith in
+          inl (old, sym (slice_get-front log (e ∷ []) k old) ∙ read)
     ]
 
 pub legal_grows : LegalGrows
@@ -45,30 +54,40 @@ legal_grows disks log e legal room stands = record {
       elim (last_or_old log e x place read) [
         | inl old ↦
             let le : place ≤ length log = omega (arith, old.0) in
-            subst (λ (front : List Entry). MayStand disks front x) (sym (take-append-le place log (e ∷ []) le)) (legal.each place x old.1)
+            subst (λ (front : List Entry). MayStand disks front x)
+            (sym (take-append-le place log (e ∷ []) le)) (legal.each place x old.1)
         | inr new ↦
             subst (λ (y : Entry). MayStand disks (take place (log ++ e ∷ [])) y) new.1
-            (subst (λ (front : List Entry). MayStand disks front e) (sym (ap (λ n. take n (log ++ e ∷ [])) new.0 ∙ take-append_seam log (e ∷ []))) stands)
+            (subst (λ (front : List Entry). MayStand disks front e)
+            (sym (ap (λ n. take n (log ++ e ∷ [])) new.0 ∙ take-append_seam log (e ∷ [])))
+            stands)
       ];
 }
 
 -- what a legal log with one entry more says of that entry
-pub legal_last : (disks : Disks) (log : List Entry) (e : Entry) → Legal disks (log ++ e ∷ []) → MayStand disks log e
+pub legal_last : (disks : Disks) (log : List Entry) (e : Entry) → Legal disks (log ++ e ∷ [])
+    → MayStand disks log e
 legal_last disks log e legal =
-    subst (λ (front : List Entry). MayStand disks front e) (take-append_seam log (e ∷ [])) (legal.each (length log) e (slice_get-last log e))
+    subst (λ (front : List Entry). MayStand disks front e) (take-append_seam log (e ∷ []))
+    (legal.each (length log) e (slice_get-last log e))
 
-pub legal_front : (disks : Disks) (log more : List Entry) → Legal disks (log ++ more) → Legal disks log
-legal_front disks log more legal = subst (Legal disks) (take-append_seam log more) (prefixes_are_legal disks (log ++ more) (length log) legal)
+pub legal_front : (disks : Disks) (log more : List Entry) → Legal disks (log ++ more)
+    → Legal disks log
+legal_front disks log more legal =
+    subst (Legal disks) (take-append_seam log more)
+    (prefixes_are_legal disks (log ++ more) (length log) legal)
 
 -- ---- one disk of a machine
 
-act_for_disk : (capacities : List ℕ) (disk capacity : ℕ) (log : List Entry) (who : ℕ) (act : Act) → HasDisk (all_of capacities) disk capacity
+act_for_disk : (capacities : List ℕ) (disk capacity : ℕ) (log : List Entry) (who : ℕ) (act : Act)
+    → HasDisk (all_of capacities) disk capacity
     → ActMayStand (all_of capacities) log who act → ActMayStand (only disk capacity) log who act
 act_for_disk capacities disk capacity log who (Write other first sectors) has stands = record {
   running = stands.running;
   some_sectors = stands.some_sectors;
   few_sectors = stands.few_sectors;
-  within = λ same. subst (λ n. first + length sectors ≤ n) (ap (capacity_of capacities) same ∙ has.1) stands.within.1;
+  within = λ same. subst (λ n. first + length sectors ≤ n) (ap (capacity_of capacities) same
+      ∙ has.1) stands.within.1;
   room = stands.room;
 }
 act_for_disk capacities disk capacity log who (Snap id owner) has stands = stands
@@ -81,8 +100,10 @@ act_for_disk capacities disk capacity log who On has stands = stands
 pub legal_for_each_disk : LegalForEachDisk
 legal_for_each_disk capacities disk capacity log has legal = record {
   short = legal.short;
-  each = λ place e read. act_for_disk capacities disk capacity (take place log) e.who e.act has (legal.each place e read);
+  each = λ place e read. act_for_disk capacities disk capacity (take place log) e.who e.act has
+      (legal.each place e read);
 }
 
 pub legal_grew : LegalGrew
-legal_grew disks log e legal = let short = legal.short in (legal_last disks log e legal, omega (arith, short, length-append log (e ∷ [])))
+legal_grew disks log e legal = let short = legal.short in
+    (legal_last disks log e legal, omega (arith, short, length-append log (e ∷ [])))

@@ -113,7 +113,8 @@ same_after command one other same = record {
 
 same_names_after : (command : Command) (one other : State)
     → HaveSameNames one.store.volumes other.store.volumes
-    → HaveSameNames (state_after command one).store.volumes (state_after command other).store.volumes
+    → HaveSameNames (state_after command one).store.volumes
+    (state_after command other).store.volumes
 same_names_after (Move name sectors writes) one other h =
     names_with (Given name) (moved_volume sectors writes) one.store.volumes other.store.volumes h
 same_names_after _ one other h = h
@@ -145,7 +146,8 @@ pub late_by_inside : (command : Command) → IsNoMove command → (a b : Option 
 late_by_inside (Move name sectors writes) moves a b one other same h k = absurd moves
 late_by_inside (Query vm snapshot disk since start) moves a b one other same h k =
     k.2
-    ∙ ap (λ (asked : Result Since IdRefused). query_refusal vm snapshot disk asked start other.fleet)
+    ∙ ap (λ (asked : Result Since IdRefused). query_refusal vm snapshot disk asked start
+    other.fleet)
     (asks_for_one since k.0 h.0 k.1 h.1)
     ∙ ap (λ (f : FleetState). query_refusal vm snapshot disk h.0 start f) same.fleet
     ∙ sym h.2
@@ -173,9 +175,11 @@ pub one_refusal : (command : Command) (one other : State) → AreAlikeInside one
     → ((a b : Option Refusal) → LateRefusal command a one → LateRefusal command b other → b ≡ a)
     → OneRefusal command one other
 one_refusal command one other same late a b h k =
-    found_alike (refusal_of command one) (LateRefusal command a one) (LateRefusal command b other) a b
+    found_alike (refusal_of command one) (LateRefusal command a one) (LateRefusal command b other) a
+    b
     (late a b) h
-    (subst (λ (r : Option Refusal). MatchOption r (LateRefusal command b other) (λ why. b ≡ Some why))
+    (subst (λ (r : Option Refusal). MatchOption r (LateRefusal command b other)
+    (λ why. b ≡ Some why))
     (same_refusal command one other same) k)
 
 -- ---- the same reply
@@ -281,17 +285,22 @@ same_lines_same_replies one other one_after other_after [] [] [] agree h k sound
     (refl, still one other one_after other_after h k agree)
 same_lines_same_replies one other one_after other_after [] [] (b ∷ others) agree h k sound sounds =
     absurd k
-same_lines_same_replies one other one_after other_after [] (a ∷ answers) others agree h k sound sounds =
+same_lines_same_replies one other one_after other_after [] (a ∷ answers) others agree h k sound
+    sounds =
     absurd h
-same_lines_same_replies one other one_after other_after (l ∷ lines) [] others agree h k sound sounds =
+same_lines_same_replies one other one_after other_after (l ∷ lines) [] others agree h k sound sounds
+    =
     absurd h
-same_lines_same_replies one other one_after other_after (l ∷ lines) (a ∷ answers) [] agree h k sound sounds =
+same_lines_same_replies one other one_after other_after (l ∷ lines) (a ∷ answers) [] agree h k sound
+    sounds =
     absurd k
-same_lines_same_replies one other one_after other_after (l ∷ lines) (a ∷ answers) (b ∷ others) agree h k sound sounds =
+same_lines_same_replies one other one_after other_after (l ∷ lines) (a ∷ answers) (b ∷ others) agree
+    h k sound sounds =
     let first = step_alike l a b one other h.0 k.0 agree
     (All-head (λ answer. answer ≢ Err Volume) a answers sound)
     (All-head (λ answer. answer ≢ Err Volume) b others sounds) h.1 k.1 in
-    let rest = same_lines_same_replies h.0 k.0 one_after other_after lines answers others first.1 h.2 k.2
+    let rest = same_lines_same_replies h.0 k.0 one_after other_after lines answers others first.1
+    h.2 k.2
     (All-tail (λ answer. answer ≢ Err Volume) a answers sound)
     (All-tail (λ answer. answer ≢ Err Volume) b others sounds) in
     (cons_alike a b answers others first.0 rest.0, rest.1)

@@ -19,7 +19,8 @@ use Rattle.migrate_server.specs.Session.{State, serving, refusal_of, LateRefusal
 
 by_text : (found : Option MachineState) (asked : MachineState → Option Refusal)
     (refusal : Option Refusal) (P : Type 0) → option_map_or asked found (Some UnknownVm) ≡ refusal
-    → P → MatchOption (option_map_or (λ m. None) found (Some UnknownVm)) P (λ why. refusal ≡ Some why)
+    → P → MatchOption (option_map_or (λ m. None) found (Some UnknownVm)) P
+    (λ why. refusal ≡ Some why)
 by_text None asked refusal P is late = sym is
 by_text (Some m) asked refusal P is late = late
 

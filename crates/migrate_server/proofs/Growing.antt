@@ -371,7 +371,8 @@ one_front : (fleet : FleetState) → IsFleet fleet → (front : List Record) (w 
 one_front fleet is front w r old may = (
   goes_on w front r old.0 may,
   λ borne mig n there. came_known fleet w r mig n is
-      (old.1 (front_borne fleet front (r ∷ []) borne)) (borne front [] r w refl old.0) (came w r mig n may there),
+      (old.1 (front_borne fleet front (r ∷ []) borne)) (borne front [] r w refl old.0)
+      (came w r mig n may there),
 )
 
 pub all_known : (fleet : FleetState) (records : List Record) (v : CtlValue) → IsFleet fleet

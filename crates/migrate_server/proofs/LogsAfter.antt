@@ -116,7 +116,8 @@ in_then (Snapshot vm) s h = acts_keep_in logs_stay_in vm snap_act s.fleet h
 in_then (Remove vm snapshot) s h =
     acts_keep_in logs_stay_in vm (λ log. act_of (deed.Remove snapshot)) s.fleet h
 in_then (Power vm on) s h = acts_keep_in logs_stay_in vm (λ log. act_of (power_deed on)) s.fleet h
-in_then (Reset vm disk) s h = acts_keep_in logs_stay_in vm (λ log. act_of (deed.Reset disk)) s.fleet h
+in_then (Reset vm disk) s h =
+    acts_keep_in logs_stay_in vm (λ log. act_of (deed.Reset disk)) s.fleet h
 in_then _ s h = h
 
 -- ---- one line
@@ -130,7 +131,8 @@ line_log name line (Asks command) reply old new means h =
     let log = log_named name old.fleet in
     let none = none_refuses (refusal_of command old) (LateRefusal command None old) h.0 in
     ap (λ (s : State). log_named name s.fleet) h.2 ∙ log_then name command old none
-    ∙ ap (λ (read : Result Command CmdRefused). log ++ entries_asked read name log) (sym means.reads)
+    ∙ ap (λ (read : Result Command CmdRefused). log ++ entries_asked read name log)
+    (sym means.reads)
 line_log name line (Refuses why) reply old new means h = let e = h.0 in cc
 
 -- ---- a session

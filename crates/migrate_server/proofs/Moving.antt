@@ -25,41 +25,73 @@ abbrev Volumes : Type 0
 Volumes = List (VolumeName × StoredVolume)
 
 -- a call that was accepted has no refusal
-pub not_refused : {T E : Type 0} (refusal : Option E) (v : T) → IsRefusedBy refusal (Ok v) → refusal ≡ None
+pub not_refused : {T E : Type 0} (refusal : Option E) (v : T) → IsRefusedBy refusal (Ok v)
+    → refusal ≡ None
 not_refused None v ok = refl
 not_refused (Some why) v is = cc
 
-free_told : (name : List ℕ) (o : Option Volumes) → IfSome o (λ vs. find_volume (Given name) vs ≡ None) → IfSome o (λ vs. None ≡ name_refusal name vs)
+free_told : (name : List ℕ) (o : Option Volumes)
+    → IfSome o (λ vs. find_volume (Given name) vs ≡ None)
+    → IfSome o (λ vs. None ≡ name_refusal name vs)
 free_told name None free = tt
-free_told name (Some vs) free = sym (ap (λ (found : Option StoredVolume). cond (is_some found) (Some NameTaken) None) free)
+free_told name (Some vs) free =
+    sym (ap (λ (found : Option StoredVolume). cond (is_some found) (Some NameTaken) None) free)
 
-taken_told : (name : List ℕ) (o : Option Volumes) → IfSome o (λ vs. IsSome (find_volume (Given name) vs)) → IfSome o (λ vs. Some NameTaken ≡ name_refusal name vs)
+taken_told : (name : List ℕ) (o : Option Volumes)
+    → IfSome o (λ vs. IsSome (find_volume (Given name) vs))
+    → IfSome o (λ vs. Some NameTaken ≡ name_refusal name vs)
 taken_told name None taken = tt
 taken_told name (Some vs) taken = sym (ap (λ b. cond b (Some NameTaken) None) taken)
 
 -- where nothing that it asks for refuses it, the store says whether its name does
-has_refusal : (name : List ℕ) (sectors : ℕ) (writes : List MoveWrite) (refusal : Option Refusal) (store : StoreState) → move_refusal sectors writes ≡ None
-    → MoveRefusal name refusal store → (fleet : FleetState) (records : List Record) → HasRefusal (Move name sectors writes) refusal (serving fleet records store)
+has_refusal : (name : List ℕ) (sectors : ℕ) (writes : List MoveWrite) (refusal : Option Refusal)
+    (store : StoreState) → move_refusal sectors writes ≡ None
+    → MoveRefusal name refusal store → (fleet : FleetState) (records : List Record)
+    → HasRefusal (Move name sectors writes) refusal (serving fleet records store)
 has_refusal name sectors writes refusal store none is fleet records =
-    subst (λ (r : Option Refusal). MatchOption r (MoveRefusal name refusal store) (λ why. refusal ≡ Some why)) (sym none) is
+    subst (λ (r : Option Refusal). MatchOption r (MoveRefusal name refusal store)
+    (λ why. refusal ≡ Some why)) (sym none) is
 
-pub moved : (name : List ℕ) (sectors : ℕ) (writes : List MoveWrite) (disk : List Sector) (old new : StoreState) → move_refusal sectors writes ≡ None → disk ≡ written_disk sectors writes
+pub moved : (name : List ℕ) (sectors : ℕ) (writes : List MoveWrite) (disk : List Sector)
+    (old new : StoreState) → move_refusal sectors writes ≡ None → disk ≡ written_disk sectors writes
     → IsFree (Given name) old → new ≡ with_new_volume (Given name) (copied_volume disk sectors) old
-    → (fleet : FleetState) (records : List Record) → Answers (Move name sectors writes) (Ok (Moved (length writes) sectors)) (serving fleet records old) (serving fleet records new)
+    → (fleet : FleetState) (records : List Record)
+    → Answers (Move name sectors writes) (Ok (Moved (length writes) sectors))
+    (serving fleet records old) (serving fleet records new)
 moved name sectors writes disk old new none same free is fleet records = (
-  has_refusal name sectors writes None old none (inl refl, free_told name old.volumes free) fleet records,
+  has_refusal name sectors writes None old none (inl refl, free_told name old.volumes free) fleet
+      records,
   refl,
-  ap (serving fleet records) (is ∙ ap (λ (xs : List Sector). with_new_volume (Given name) (copied_volume xs sectors) old) same),
+  ap (serving fleet records)
+      (is ∙ ap (λ (xs : List Sector). with_new_volume (Given name) (copied_volume xs sectors) old)
+      same),
 )
 
-pub name_taken : (name : List ℕ) (sectors : ℕ) (writes : List MoveWrite) (disk : List Sector) (old new : StoreState) (why : StoreRefused) → move_refusal sectors writes ≡ None → why ≡ Exists
-    → CopyAnswers disk (Given name) sectors (Err why) old new → (fleet : FleetState) (records : List Record) → Answers (Move name sectors writes) (Err NameTaken) (serving fleet records old) (serving fleet records new)
+pub name_taken : (name : List ℕ) (sectors : ℕ) (writes : List MoveWrite) (disk : List Sector)
+    (old new : StoreState) (why : StoreRefused) → move_refusal sectors writes ≡ None → why ≡ Exists
+    → CopyAnswers disk (Given name) sectors (Err why) old new
+    → (fleet : FleetState) (records : List Record)
+    → Answers (Move name sectors writes) (Err NameTaken) (serving fleet records old)
+    (serving fleet records new)
 name_taken name sectors writes disk old new why none is copied fleet records =
-    let exists : IsTaken (Given name) old × (new ≡ old) = subst (λ (x : StoreRefused). CopyAnswers disk (Given name) sectors (Err x) old new) is copied in
-    inl (has_refusal name sectors writes (Some NameTaken) old none (inr refl, taken_told name old.volumes exists.0) fleet records, ap (serving fleet records) exists.1)
+    let exists : IsTaken (Given name) old × (new ≡ old) =
+    subst (λ (x : StoreRefused). CopyAnswers disk (Given name) sectors (Err x) old new) is
+    copied in
+    inl (
+      has_refusal name sectors writes (Some NameTaken) old none
+          (inr refl, taken_told name old.volumes exists.0) fleet records,
+      ap (serving fleet records)
+          exists.1,
+    )
 
-pub volume_failed : (name : List ℕ) (sectors : ℕ) (writes : List MoveWrite) (disk : List Sector) (old new : StoreState) (why : StoreRefused) → move_refusal sectors writes ≡ None → why ≡ Failed
-    → CopyAnswers disk (Given name) sectors (Err why) old new → (fleet : FleetState) (records : List Record) → Answers (Move name sectors writes) (Err Volume) (serving fleet records old) (serving fleet records new)
+pub volume_failed : (name : List ℕ) (sectors : ℕ) (writes : List MoveWrite) (disk : List Sector)
+    (old new : StoreState) (why : StoreRefused) → move_refusal sectors writes ≡ None → why ≡ Failed
+    → CopyAnswers disk (Given name) sectors (Err why) old new
+    → (fleet : FleetState) (records : List Record)
+    → Answers (Move name sectors writes) (Err Volume) (serving fleet records old)
+    (serving fleet records new)
 volume_failed name sectors writes disk old new why none is copied fleet records =
-    let fails : FailsInCopy (Given name) sectors old new = subst (λ (x : StoreRefused). CopyAnswers disk (Given name) sectors (Err x) old new) is copied in
+    let fails : FailsInCopy (Given name) sectors old new =
+    subst (λ (x : StoreRefused). CopyAnswers disk (Given name) sectors (Err x) old new) is
+    copied in
     inr (refl, none, (refl, refl, fails))

@@ -57,29 +57,40 @@ use Rattle.migrate_server.proofs.Meanings.{means_one}
 
 -- ---- one line
 
-refusal_at : (fits : Bool) (read : Result Command CmdRefused) → fits ≡ true → (if fits then refused_by read else Some Long) ≡ refused_by read
+refusal_at : (fits : Bool) (read : Result Command CmdRefused) → fits ≡ true
+    → (if fits then refused_by read else Some Long) ≡ refused_by read
 refusal_at true read h = refl
 refusal_at false read h = cc
 
 -- a line that is read as no command is refused so
-pub refused_line : (line : List ℕ) (why : CmdRefused) (told : Refusal) → is_blank line ≡ false → length line ≤ LINE_LIMIT → command_of line ≡ Err why → refused_by (Err why) ≡ Some told
+pub refused_line : (line : List ℕ) (why : CmdRefused) (told : Refusal) → is_blank line ≡ false
+    → length line ≤ LINE_LIMIT → command_of line ≡ Err why → refused_by (Err why) ≡ Some told
     → Means line (Refuses told)
-refused_line line why told some fits read is =
-    (some, refusal_at (nat_le (length line) LINE_LIMIT) (command_of line) (le-leb (length line) LINE_LIMIT fits) ∙ ap refused_by read ∙ is)
+refused_line line why told some fits read is = (
+  some,
+  refusal_at (nat_le (length line) LINE_LIMIT) (command_of line)
+      (le-leb (length line) LINE_LIMIT fits) ∙ ap refused_by read ∙ is,
+)
 
-refusal_long : (fits : Bool) (read : Result Command CmdRefused) → fits ≡ false → (if fits then refused_by read else Some Long) ≡ Some Long
+refusal_long : (fits : Bool) (read : Result Command CmdRefused) → fits ≡ false
+    → (if fits then refused_by read else Some Long) ≡ Some Long
 refusal_long true read h = cc
 refusal_long false read h = refl
 
 -- a line that is too long is neither blank nor a command
-pub long_line : (buffer : LineBuffer) (text : List ℕ) → buffer.is_long ≡ true → Holds buffer text → Means text (Refuses Long)
+pub long_line : (buffer : LineBuffer) (text : List ℕ) → buffer.is_long ≡ true → Holds buffer text
+    → Means text (Refuses Long)
 long_line buffer text long (inl held) = let h = held.0 in cc
 long_line buffer text long (inr held) =
-    let over : nat_le (length text) LINE_LIMIT ≡ false = lt-leb (length text) LINE_LIMIT held.1 in
-    (and_left (nat_le (length text) LINE_LIMIT) (list_all is_space text) over, refusal_long (nat_le (length text) LINE_LIMIT) (command_of text) over)
+    let over : nat_le (length text) LINE_LIMIT ≡ false = lt-leb (length text) LINE_LIMIT held.1 in (
+      and_left (nat_le (length text) LINE_LIMIT) (list_all is_space text) over,
+      refusal_long
+          (nat_le (length text) LINE_LIMIT) (command_of text) over,
+    )
 
 -- what is known of the buffer's bytes is known of the line
-pub short_line : (buffer : LineBuffer) (text : List ℕ) (what : Line) → buffer.is_long ≡ false → Means buffer.bytes.items what → Holds buffer text → Means text what
+pub short_line : (buffer : LineBuffer) (text : List ℕ) (what : Line) → buffer.is_long ≡ false
+    → Means buffer.bytes.items what → Holds buffer text → Means text what
 short_line buffer text what short means (inl held) = subst (λ line. Means line what) held.1 means
 short_line buffer text what short means (inr long) = let h = long.0 in cc
 
@@ -89,13 +100,16 @@ quits_line : (line : List ℕ) (what : Line) → quits what ≡ true → Means l
 quits_line line (Asks Quit) is means = means
 quits_line line _ is means = cc
 
-pub tells_quit : (line : List ℕ) (what : Line) (told : Bool) → told ≡ quits what → Means line what → TellsQuit told line
+pub tells_quit : (line : List ℕ) (what : Line) (told : Bool) → told ≡ quits what → Means line what
+    → TellsQuit told line
 tells_quit line what true is means = quits_line line what (sym is) means
-tells_quit line what false is means = λ asks. false≢true (is ∙ ap quits (means_one line what (Asks Quit) means asks))
+tells_quit line what false is means =
+    λ asks. false≢true (is ∙ ap quits (means_one line what (Asks Quit) means asks))
 
 -- ---- one line's answer
 
-pub has_reply : (line : List ℕ) (what : Line) (answer : Option Answer) (old new : State) → Means line what → IsAnswered what answer old new → HasReply line answer old new
+pub has_reply : (line : List ℕ) (what : Line) (answer : Option Answer) (old new : State)
+    → Means line what → IsAnswered what answer old new → HasReply line answer old new
 has_reply line what None old new means h = (subst (Means line) h.0 means, h.1)
 has_reply line Blank (Some answer) old new means h = absurd h
 has_reply line (Asks command) (Some answer) old new means h = (means.some, (Asks command, means, h))
@@ -144,14 +158,16 @@ later_bytes b text h = All-tail (λ x. x ≢ 10) b text h
 lf : (text rest : List ℕ) → HasNoLf text → lines_of (text ++ 10 ∷ rest) ≡ text ∷ lines_of rest
 lf [] rest h = refl
 lf (b ∷ text) rest h =
-    picked (b == 10) ([] ∷ lines_of (text ++ 10 ∷ rest)) (before_first_line b (lines_of (text ++ 10 ∷ rest))) (no_lf b (first_byte b text h))
+    picked (b == 10) ([] ∷ lines_of (text ++ 10 ∷ rest))
+    (before_first_line b (lines_of (text ++ 10 ∷ rest))) (no_lf b (first_byte b text h))
     ∙ ap (before_first_line b) (lf text rest (later_bytes b text h))
 
 alone : (text : List ℕ) → HasNoLf text → 0 < length text → lines_of text ≡ text ∷ []
 alone [] h some = absurd (omega (arith, some))
 alone (b ∷ []) h some = picked (b == 10) ([] ∷ []) ((b ∷ []) ∷ []) (no_lf b (first_byte b [] h))
 alone (b ∷ c ∷ text) h some =
-    picked (b == 10) ([] ∷ lines_of (c ∷ text)) (before_first_line b (lines_of (c ∷ text))) (no_lf b (first_byte b (c ∷ text) h))
+    picked (b == 10) ([] ∷ lines_of (c ∷ text)) (before_first_line b (lines_of (c ∷ text)))
+    (no_lf b (first_byte b (c ∷ text) h))
     ∙ ap (before_first_line b) (alone (c ∷ text) (later_bytes b (c ∷ text) h) (omega arith))
 
 -- bytes have a line
@@ -159,13 +175,16 @@ first_is_some : (b : ℕ) (lines : List (List ℕ)) → 0 < length (before_first
 first_is_some b [] = omega arith
 first_is_some b (line ∷ lines) = omega arith
 
-cond_some : (t : Bool) (xs ys : List (List ℕ)) → 0 < length xs → 0 < length ys → 0 < length (if t then xs else ys)
+cond_some : (t : Bool) (xs ys : List (List ℕ)) → 0 < length xs → 0 < length ys
+    → 0 < length (if t then xs else ys)
 cond_some true xs ys h k = h
 cond_some false xs ys h k = k
 
 some_line : (bytes : List ℕ) → 0 < length bytes → 0 < length (lines_of bytes)
 some_line [] some = some
-some_line (b ∷ bytes) some = cond_some (b == 10) ([] ∷ lines_of bytes) (before_first_line b (lines_of bytes)) (omega arith) (first_is_some b (lines_of bytes))
+some_line (b ∷ bytes) some =
+    cond_some (b == 10) ([] ∷ lines_of bytes) (before_first_line b (lines_of bytes)) (omega arith)
+    (first_is_some b (lines_of bytes))
 
 abbrev lfs : List ℕ → ℕ
 lfs bytes = count_by is_lf bytes
@@ -188,19 +207,24 @@ lfs_none (b ∷ text) h =
     omega (arith, lfs_cons b text, rest, front)
 
 lfs_line : (text rest : List ℕ) → HasNoLf text → lfs (text ++ 10 ∷ rest) ≡ 1 + lfs rest
-lfs_line text rest h = let none = lfs_none text h in omega (arith, lfs_append text (10 ∷ rest), lfs_cons 10 rest, none)
+lfs_line text rest h = let none = lfs_none text h in
+    omega (arith, lfs_append text (10 ∷ rest), lfs_cons 10 rest, none)
 
 -- what stands behind the lines has no LF, so they are those that were ended
-ended_whole : (bytes tail : List ℕ) (lines : List (List ℕ)) → lines_of bytes ≡ lines ++ lines_of tail → lfs bytes ≡ length lines → lines ≡ ended_lines bytes
+ended_whole : (bytes tail : List ℕ) (lines : List (List ℕ))
+    → lines_of bytes ≡ lines ++ lines_of tail → lfs bytes ≡ length lines → lines ≡ ended_lines bytes
 ended_whole bytes tail lines split count =
-    sym (ap (λ n. take n (lines_of bytes)) count ∙ ap (take (length lines)) split ∙ take_at lines (lines_of tail) (length lines) refl)
+    sym (ap (λ n. take n (lines_of bytes)) count ∙ ap (take (length lines)) split
+    ∙ take_at lines (lines_of tail) (length lines) refl)
 
 -- these lines were taken
-pub record Heard (left left_now : Option (List ℕ)) (reader : ReaderState) (lines : List (List ℕ)) : Type 0 where
+pub record Heard (left left_now : Option (List ℕ)) (reader : ReaderState) (lines : List (List ℕ)) :
+    Type 0 where
   pub consumed : List ℕ
   pub consumes : Consumes left left_now consumed
   pub count : reader.total ≡ length consumed
-  pub split : (rest : List ℕ) → (reader.ended ≡ true → rest ≡ []) → lines_of (consumed ++ rest) ≡ lines ++ lines_of (reader.pending ++ rest)
+  pub split : (rest : List ℕ) → (reader.ended ≡ true → rest ≡ [])
+      → lines_of (consumed ++ rest) ≡ lines ++ lines_of (reader.pending ++ rest)
   pub ends : reader.ended ≡ false → lfs consumed ≡ length lines + lfs reader.pending
   pub idle : IsIdle left_now reader
   pub fits : reader.total ≤ INPUT_LIMIT
@@ -229,48 +253,72 @@ no_bytes xs ys zs h k some same =
 line_length : (text rest : List ℕ) → 0 < length (text ++ 10 ∷ rest)
 line_length text rest = let e = length-append text (10 ∷ rest) in omega (arith, e)
 
-line_split : (consumed given pending text after rest : List ℕ) (lines : List (List ℕ)) (ended ended_after : Bool)
-    → ((more : List ℕ) → (ended ≡ true → more ≡ []) → lines_of (consumed ++ more) ≡ lines ++ lines_of (pending ++ more))
+line_split : (consumed given pending text after rest : List ℕ) (lines : List (List ℕ))
+    (ended ended_after : Bool)
+    → ((more : List ℕ) → (ended ≡ true → more ≡ [])
+    → lines_of (consumed ++ more) ≡ lines ++ lines_of (pending ++ more))
     → (ended ≡ true → pending ≡ []) → (ended ≡ true → given ≡ []) → HasNoLf text
-    → (pending ++ given ≡ text ++ 10 ∷ after) ⊎ ((pending ++ given ≡ text) × (0 < length text) × (ended_after ≡ true))
+    → (pending ++ given ≡ text ++ 10 ∷ after)
+    ⊎ ((pending ++ given ≡ text) × (0 < length text) × (ended_after ≡ true))
     → (ended_after ≡ true → after ≡ []) → (ended_after ≡ true → rest ≡ [])
     → lines_of ((consumed ++ given) ++ rest) ≡ (lines ++ text ∷ []) ++ lines_of (after ++ rest)
-line_split consumed given pending text after rest lines ended ended_after split idle none one (inl s) idle_after at_end =
+line_split consumed given pending text after rest lines ended ended_after split idle none one
+    (inl s) idle_after at_end =
     ap lines_of (append_assoc consumed given rest)
-    ∙ split (given ++ rest) (λ e. absurd (no_bytes pending given (text ++ 10 ∷ after) (idle e) (none e) (line_length text after) s))
-    ∙ ap (λ l. lines ++ lines_of l) (sym (append_assoc pending given rest) ∙ ap (λ l. l ++ rest) s ∙ append_assoc text (10 ∷ after) rest)
+    ∙ split (given ++ rest)
+    (λ e. absurd (no_bytes pending given (text ++ 10 ∷ after) (idle e) (none e)
+    (line_length text after) s))
+    ∙ ap (λ l. lines ++ lines_of l) (sym (append_assoc pending given rest) ∙ ap (λ l. l ++ rest) s
+    ∙ append_assoc text (10 ∷ after) rest)
     ∙ ap (λ l. lines ++ l) (lf text (after ++ rest) one)
     ∙ sym (append_assoc lines (text ∷ []) (lines_of (after ++ rest)))
-line_split consumed given pending text after rest lines ended ended_after split idle none one (inr s) idle_after at_end =
+line_split consumed given pending text after rest lines ended ended_after split idle none one
+    (inr s) idle_after at_end =
     ap lines_of (append_assoc consumed given rest)
     ∙ split (given ++ rest) (λ e. absurd (no_bytes pending given text (idle e) (none e) s.1 s.0))
-    ∙ ap (λ l. lines ++ lines_of l) (sym (append_assoc pending given rest) ∙ ap (λ l. l ++ rest) s.0 ∙ ap (λ l. text ++ l) (at_end s.2) ∙ append-nil text)
+    ∙ ap (λ l. lines ++ lines_of l) (sym (append_assoc pending given rest) ∙ ap (λ l. l ++ rest) s.0
+    ∙ ap (λ l. text ++ l) (at_end s.2) ∙ append-nil text)
     ∙ ap (λ l. lines ++ l) (alone text one s.1)
     ∙ sym (append-nil (lines ++ text ∷ []))
-    ∙ ap (λ l. (lines ++ text ∷ []) ++ lines_of l) (sym (ap (λ l. l ++ rest) (idle_after s.2) ∙ at_end s.2))
+    ∙ ap (λ l. (lines ++ text ∷ []) ++ lines_of l)
+    (sym (ap (λ l. l ++ rest) (idle_after s.2) ∙ at_end s.2))
 
-was_running : (ended : Bool) (pending given bytes : List ℕ) → (ended ≡ true → pending ≡ []) → (ended ≡ true → given ≡ []) → 0 < length bytes → pending ++ given ≡ bytes → ended ≡ false
+was_running : (ended : Bool) (pending given bytes : List ℕ) → (ended ≡ true → pending ≡ [])
+    → (ended ≡ true → given ≡ []) → 0 < length bytes → pending ++ given ≡ bytes → ended ≡ false
 was_running false pending given bytes idle none some same = refl
-was_running true pending given bytes idle none some same = absurd (no_bytes pending given bytes (idle refl) (none refl) some same)
+was_running true pending given bytes idle none some same =
+    absurd (no_bytes pending given bytes (idle refl) (none refl) some same)
 
-line_ends : (consumed given pending text after : List ℕ) (lines : List (List ℕ)) (ended ended_after : Bool)
-    → (ended ≡ false → lfs consumed ≡ length lines + lfs pending) → (ended ≡ true → pending ≡ []) → (ended ≡ true → given ≡ []) → HasNoLf text
-    → (pending ++ given ≡ text ++ 10 ∷ after) ⊎ ((pending ++ given ≡ text) × (0 < length text) × (ended_after ≡ true))
+line_ends : (consumed given pending text after : List ℕ) (lines : List (List ℕ))
+    (ended ended_after : Bool)
+    → (ended ≡ false → lfs consumed ≡ length lines + lfs pending) → (ended ≡ true → pending ≡ [])
+    → (ended ≡ true → given ≡ []) → HasNoLf text
+    → (pending ++ given ≡ text ++ 10 ∷ after)
+    ⊎ ((pending ++ given ≡ text) × (0 < length text) × (ended_after ≡ true))
     → ended_after ≡ false → lfs (consumed ++ given) ≡ length (lines ++ text ∷ []) + lfs after
-line_ends consumed given pending text after lines ended ended_after ends idle none one (inl s) running =
-    let before = ends (was_running ended pending given (text ++ 10 ∷ after) idle none (line_length text after) s) in
+line_ends consumed given pending text after lines ended ended_after ends idle none one (inl s)
+    running =
+    let before = ends (was_running ended pending given (text ++ 10 ∷ after) idle none
+    (line_length text after) s) in
     let all = sym (lfs_append pending given) ∙ ap lfs s ∙ lfs_line text after one in
     omega (arith, lfs_append consumed given, before, all, length-append lines (text ∷ []))
-line_ends consumed given pending text after lines ended ended_after ends idle none one (inr s) running = absurd (true≢false (sym s.2 ∙ running))
+line_ends consumed given pending text after lines ended ended_after ends idle none one (inr s)
+    running = absurd (true≢false (sym s.2 ∙ running))
 
-heard_line : (left : Option (List ℕ)) (a b : SourceState) (old new : ReaderState) (buffer : LineBuffer) (lines : List (List ℕ)) → Heard left a.left old lines → (t : TakesLine a b old new buffer)
+heard_line : (left : Option (List ℕ)) (a b : SourceState) (old new : ReaderState)
+    (buffer : LineBuffer) (lines : List (List ℕ)) → Heard left a.left old lines
+    → (t : TakesLine a b old new buffer)
     → Heard left b.left new (lines ++ t.text ∷ [])
 heard_line left a b old new buffer lines h t = record {
   consumed = h.consumed ++ t.given;
   consumes = Consumes-trans left a.left b.left h.consumed t.given h.consumes t.takes.whole;
-  count = t.takes.count ∙ ap (λ n. n + length t.given) h.count ∙ sym (length-append h.consumed t.given);
-  split = λ rest e. line_split h.consumed t.given old.pending t.text new.pending rest lines old.ended new.ended h.split (λ x. (h.idle x).0) t.takes.none t.one t.split (λ x. (t.idle x).0) e;
-  ends = λ running. line_ends h.consumed t.given old.pending t.text new.pending lines old.ended new.ended h.ends (λ x. (h.idle x).0) t.takes.none t.one t.split running;
+  count = t.takes.count ∙ ap (λ n. n + length t.given) h.count
+      ∙ sym (length-append h.consumed t.given);
+  split = λ rest e. line_split h.consumed t.given old.pending t.text new.pending rest lines
+      old.ended new.ended h.split (λ x. (h.idle x).0) t.takes.none t.one t.split (λ x. (t.idle x).0)
+      e;
+  ends = λ running. line_ends h.consumed t.given old.pending t.text new.pending lines old.ended
+      new.ended h.ends (λ x. (h.idle x).0) t.takes.none t.one t.split running;
   idle = t.idle;
   fits = t.fits;
 }
@@ -282,7 +330,8 @@ rest_of None left_after = []
 rest_of (Some bytes) None = []
 rest_of (Some bytes) (Some more) = more
 
-rest_whole : (a b : Option (List ℕ)) (taken : List ℕ) → Consumes a b taken → IfSome a (λ bytes. bytes ≡ taken ++ rest_of a b)
+rest_whole : (a b : Option (List ℕ)) (taken : List ℕ) → Consumes a b taken
+    → IfSome a (λ bytes. bytes ≡ taken ++ rest_of a b)
 rest_whole None b taken h = tt
 rest_whole (Some bytes) None taken h = absurd h
 rest_whole (Some bytes) (Some more) taken h = h
@@ -294,35 +343,50 @@ rest_at_end (Some bytes) (Some more) h = h
 
 -- ---- the budget of bytes
 
-falls_by : (total pending given text after limit total_after : ℕ) → total_after ≡ total + given → total_after ≤ limit → pending + given ≡ text + suc after
+falls_by : (total pending given text after limit total_after : ℕ) → total_after ≡ total + given
+    → total_after ≤ limit → pending + given ≡ text + suc after
     → (limit + 1 - total_after) + after < (limit + 1 - total) + pending
-falls_by total pending given text after limit total_after count fits same = omega (arith, count, fits, same)
+falls_by total pending given text after limit total_after count fits same =
+    omega (arith, count, fits, same)
 
-falls_at_end : (total pending given text after limit total_after : ℕ) → total_after ≡ total + given → total_after ≤ limit → pending + given ≡ text → 0 < text → after ≡ 0
+falls_at_end : (total pending given text after limit total_after : ℕ) → total_after ≡ total + given
+    → total_after ≤ limit → pending + given ≡ text → 0 < text → after ≡ 0
     → (limit + 1 - total_after) + after < (limit + 1 - total) + pending
-falls_at_end total pending given text after limit total_after count fits same some none = omega (arith, count, fits, same, some, none)
+falls_at_end total pending given text after limit total_after count fits same some none =
+    omega (arith, count, fits, same, some, none)
 
-budget_falls_by : (left : Option (List ℕ)) (old new : ReaderState) (text given : List ℕ) → new.total ≡ old.total + length given → new.total ≤ INPUT_LIMIT
-    → (old.pending ++ given ≡ text ++ 10 ∷ new.pending) ⊎ ((old.pending ++ given ≡ text) × (0 < length text) × (new.ended ≡ true)) → IsIdle left new → budget new < budget old
+budget_falls_by : (left : Option (List ℕ)) (old new : ReaderState) (text given : List ℕ)
+    → new.total ≡ old.total + length given → new.total ≤ INPUT_LIMIT
+    → (old.pending ++ given ≡ text ++ 10 ∷ new.pending)
+    ⊎ ((old.pending ++ given ≡ text) × (0 < length text) × (new.ended ≡ true)) → IsIdle left new
+    → budget new < budget old
 budget_falls_by left old new text given count fits (inl s) idle =
-    let same = sym (length-append old.pending given) ∙ ap (length {A = ℕ}) s ∙ length-append text (10 ∷ new.pending) in
-    falls_by old.total (length old.pending) (length given) (length text) (length new.pending) INPUT_LIMIT new.total count fits same
+    let same = sym (length-append old.pending given) ∙ ap (length {A = ℕ}) s
+    ∙ length-append text (10 ∷ new.pending) in
+    falls_by old.total (length old.pending) (length given) (length text) (length new.pending)
+    INPUT_LIMIT new.total count fits same
 budget_falls_by left old new text given count fits (inr s) idle =
     let same = sym (length-append old.pending given) ∙ ap (length {A = ℕ}) s.0 in
     let none = ap (length {A = ℕ}) (idle s.2).0 in
-    falls_at_end old.total (length old.pending) (length given) (length text) (length new.pending) INPUT_LIMIT new.total count fits same s.1 none
+    falls_at_end old.total (length old.pending) (length given) (length text) (length new.pending)
+    INPUT_LIMIT new.total count fits same s.1 none
 
-pub budget_falls : (a b : SourceState) (old new : ReaderState) (buffer : LineBuffer) → TakesLine a b old new buffer → budget new < budget old
-budget_falls a b old new buffer t = budget_falls_by b.left old new t.text t.given t.takes.count t.fits t.split t.idle
+pub budget_falls : (a b : SourceState) (old new : ReaderState) (buffer : LineBuffer)
+    → TakesLine a b old new buffer → budget new < budget old
+budget_falls a b old new buffer t =
+    budget_falls_by b.left old new t.text t.given t.takes.count t.fits t.split t.idle
 
 -- ---- the session so far
 
-session_more : (old mid new : State) (lines : List (List ℕ)) (replies : List Answer) (line : List ℕ) (reply : Answer) → Session old lines replies mid → Step line reply mid new
+session_more : (old mid new : State) (lines : List (List ℕ)) (replies : List Answer) (line : List ℕ)
+    (reply : Answer) → Session old lines replies mid → Step line reply mid new
     → Session old (lines ++ line ∷ []) (replies ++ reply ∷ []) new
-session_more old mid new [] [] line reply h step = (new, subst (λ (s : State). Step line reply s new) h step, refl)
+session_more old mid new [] [] line reply h step =
+    (new, subst (λ (s : State). Step line reply s new) h step, refl)
 session_more old mid new [] (r ∷ replies) line reply h step = absurd h
 session_more old mid new (l ∷ lines) [] line reply h step = absurd h
-session_more old mid new (l ∷ lines) (r ∷ replies) line reply h step = (h.0, h.1, session_more h.0 mid new lines replies line reply h.2 step)
+session_more old mid new (l ∷ lines) (r ∷ replies) line reply h step =
+    (h.0, h.1, session_more h.0 mid new lines replies line reply h.2 step)
 
 one_blank : (line : List ℕ) → is_blank line ≡ true → requests_among (line ∷ []) ≡ []
 one_blank line h = ap (λ t. if (not t) then line ∷ [] else []) h
@@ -330,7 +394,8 @@ one_blank line h = ap (λ t. if (not t) then line ∷ [] else []) h
 one_request : (line : List ℕ) → is_blank line ≡ false → requests_among (line ∷ []) ≡ line ∷ []
 one_request line h = ap (λ t. if (not t) then line ∷ [] else []) h
 
-requests_more : (lines more : List (List ℕ)) → requests_among (lines ++ more) ≡ requests_among lines ++ requests_among more
+requests_more : (lines more : List (List ℕ))
+    → requests_among (lines ++ more) ≡ requests_among lines ++ requests_among more
 requests_more lines more = filter-append (λ line. not (is_blank line)) lines more
 
 abbrev NoQuit : List ℕ → Type 0
@@ -339,18 +404,27 @@ NoQuit line = AsksToQuit line → ⊥
 abbrev text_of : List Answer → List ℕ
 text_of replies = flat_map answer_line replies
 
-text_more : (replies : List Answer) (reply : Answer) → text_of (replies ++ reply ∷ []) ≡ text_of replies ++ answer_line reply
-text_more replies reply = flat_map-append answer_line replies (reply ∷ []) ∙ ap (λ l. text_of replies ++ l) (append-nil (answer_line reply))
+text_more : (replies : List Answer) (reply : Answer)
+    → text_of (replies ++ reply ∷ []) ≡ text_of replies ++ answer_line reply
+text_more replies reply =
+    flat_map-append answer_line replies (reply ∷ [])
+    ∙ ap (λ l. text_of replies ++ l) (append-nil (answer_line reply))
 
 -- no line so far asks to quit, and the next one doesn't
-none_more : (lines : List (List ℕ)) (text : List ℕ) → NoneQuits lines → (AsksToQuit text → ⊥) → NoneQuits (lines ++ text ∷ [])
-none_more lines text none goes = All-append NoQuit lines (text ∷ []) none (All-cons NoQuit text [] goes (λ k d within. absurd (omega arith)))
+none_more : (lines : List (List ℕ)) (text : List ℕ) → NoneQuits lines → (AsksToQuit text → ⊥)
+    → NoneQuits (lines ++ text ∷ [])
+none_more lines text none goes =
+    All-append NoQuit lines (text ∷ []) none
+    (All-cons NoQuit text [] goes (λ k d within. absurd (omega arith)))
 
 -- no line so far asks to quit, and the next one is the last
-last_more : (lines : List (List ℕ)) (text : List ℕ) → NoneQuits lines → QuitsLast (lines ++ text ∷ [])
+last_more : (lines : List (List ℕ)) (text : List ℕ) → NoneQuits lines
+    → QuitsLast (lines ++ text ∷ [])
 last_more lines text none =
-    let long : length (lines ++ text ∷ []) - 1 ≡ length lines = let e = length-append lines (text ∷ []) in omega (arith, e) in
-    let front : take (length (lines ++ text ∷ []) - 1) (lines ++ text ∷ []) ≡ lines = take_at lines (text ∷ []) (length (lines ++ text ∷ []) - 1) (sym long) in
+    let long : length (lines ++ text ∷ []) - 1 ≡ length lines = let e =
+    length-append lines (text ∷ []) in omega (arith, e) in
+    let front : take (length (lines ++ text ∷ []) - 1) (lines ++ text ∷ []) ≡ lines =
+    take_at lines (text ∷ []) (length (lines ++ text ∷ []) - 1) (sym long) in
     subst NoneQuits (sym front) none
 
 all_last : (lines : List (List ℕ)) → NoneQuits lines → QuitsLast lines
@@ -368,7 +442,8 @@ pub record Progress (old now : Desk) (reader : ReaderState) : Type 0 where
   pub puts : now.sink.faults ≡ old.sink.faults
   pub unfailed : IsUnfailed old.server.journal now.server.journal
 
-pub progress_start : (old : Desk) → old.server.journal.failure ≡ None → Progress old old fresh_reader
+pub progress_start : (old : Desk) → old.server.journal.failure ≡ None
+    → Progress old old fresh_reader
 progress_start old unfailed = record {
   lines = [];
   heard = heard_none old.source.left;
@@ -381,33 +456,49 @@ progress_start old unfailed = record {
   unfailed = record { failure = unfailed; faults = refl };
 }
 
-record Replied (lines : List (List ℕ)) (old : State) (sink : SinkState) (new : State) (sink_after : SinkState) : Type 0 where
+record Replied (lines : List (List ℕ)) (old : State) (sink : SinkState) (new : State)
+    (sink_after : SinkState) : Type 0 where
   pub replies : List Answer
   pub session : Session old (requests_among lines) replies new
   pub written : Appends sink.held sink_after.held (text_of replies)
 
-session_reply : (old now after : State) (lines : List (List ℕ)) (replies : List Answer) (text : List ℕ) (reply : Answer) → Session old (requests_among lines) replies now → HasReply text (Some reply) now after
+session_reply : (old now after : State) (lines : List (List ℕ)) (replies : List Answer)
+    (text : List ℕ) (reply : Answer) → Session old (requests_among lines) replies now
+    → HasReply text (Some reply) now after
     → Session old (requests_among (lines ++ text ∷ [])) (replies ++ reply ∷ []) after
 session_reply old now after lines replies text reply session answers =
-    let same = requests_more lines (text ∷ []) ∙ ap (λ l. requests_among lines ++ l) (one_request text answers.0) in
-    subst (λ (l : List (List ℕ)). Session old l (replies ++ reply ∷ []) after) (sym same) (session_more old now after (requests_among lines) replies text reply session answers.1)
+    let same = requests_more lines (text ∷ [])
+    ∙ ap (λ l. requests_among lines ++ l) (one_request text answers.0) in
+    subst (λ (l : List (List ℕ)). Session old l (replies ++ reply ∷ []) after) (sym same)
+    (session_more old now after (requests_among lines) replies text reply session answers.1)
 
-replied_line : (text : List ℕ) (reply : Option Answer) (lines : List (List ℕ)) (replies : List Answer) (old now after : State) (sink sink_now sink_after : SinkState)
-    → Session old (requests_among lines) replies now → Appends sink.held sink_now.held (text_of replies) → HasReply text reply now after → Appends sink_now.held sink_after.held (bytes_of_reply reply)
+replied_line : (text : List ℕ) (reply : Option Answer) (lines : List (List ℕ))
+    (replies : List Answer) (old now after : State) (sink sink_now sink_after : SinkState)
+    → Session old (requests_among lines) replies now
+    → Appends sink.held sink_now.held (text_of replies) → HasReply text reply now after
+    → Appends sink_now.held sink_after.held (bytes_of_reply reply)
     → Replied (lines ++ text ∷ []) old sink after sink_after
-replied_line text None lines replies old now after sink sink_now sink_after session written answers told = record {
-  replies = replies;
-  session =
-      let same = requests_more lines (text ∷ []) ∙ ap (λ l. requests_among lines ++ l) (one_blank text answers.0) ∙ append-nil (requests_among lines) in
-      subst (λ (s : State). Session old (requests_among (lines ++ text ∷ [])) replies s) (sym answers.1)
-      (subst (λ (l : List (List ℕ)). Session old l replies now) (sym same) session);
-  written = subst (Appends sink.held sink_after.held) (append-nil (text_of replies)) (Appends-trans sink.held sink_now.held sink_after.held (text_of replies) [] written told);
-}
-replied_line text (Some reply) lines replies old now after sink sink_now sink_after session written answers told = record {
-  replies = replies ++ reply ∷ [];
-  session = session_reply old now after lines replies text reply session answers;
-  written = subst (Appends sink.held sink_after.held) (sym (text_more replies reply)) (Appends-trans sink.held sink_now.held sink_after.held (text_of replies) (answer_line reply) written told);
-}
+replied_line text None lines replies old now after sink sink_now sink_after session written answers
+    told = record {
+      replies = replies;
+      session =
+          let same = requests_more lines (text ∷ [])
+          ∙ ap (λ l. requests_among lines ++ l) (one_blank text answers.0)
+          ∙ append-nil (requests_among lines) in
+          subst (λ (s : State). Session old (requests_among (lines ++ text ∷ [])) replies s)
+          (sym answers.1)
+          (subst (λ (l : List (List ℕ)). Session old l replies now) (sym same) session);
+      written = subst (Appends sink.held sink_after.held) (append-nil (text_of replies))
+          (Appends-trans sink.held sink_now.held sink_after.held (text_of replies) [] written told);
+    }
+replied_line text (Some reply) lines replies old now after sink sink_now sink_after session written
+    answers told = record {
+      replies = replies ++ reply ∷ [];
+      session = session_reply old now after lines replies text reply session answers;
+      written = subst (Appends sink.held sink_after.held) (sym (text_more replies reply))
+          (Appends-trans sink.held sink_now.held sink_after.held (text_of replies) (answer_line reply)
+          written told);
+    }
 
 -- the journal hasn't failed in the next line either
 pub unfailed_further : (first second third : JournalState) → IsUnfailed first second
@@ -614,9 +705,12 @@ ended_whole_input old now source reader reader_after p t =
       };
     }
 
-all_heard : (left left_now : Option (List ℕ)) (reader : ReaderState) (lines : List (List ℕ)) → (h : Heard left left_now reader lines)
-    → lines_of (h.consumed ++ rest_of left left_now) ≡ lines ++ lines_of (reader.pending ++ rest_of left left_now)
-all_heard left left_now reader lines h = h.split (rest_of left left_now) (λ e. rest_at_end left left_now (h.idle e).1)
+all_heard : (left left_now : Option (List ℕ)) (reader : ReaderState) (lines : List (List ℕ))
+    → (h : Heard left left_now reader lines)
+    → lines_of (h.consumed ++ rest_of left left_now)
+    ≡ lines ++ lines_of (reader.pending ++ rest_of left left_now)
+all_heard left left_now reader lines h =
+    h.split (rest_of left left_now) (λ e. rest_at_end left left_now (h.idle e).1)
 
 -- a line asked to quit
 pub ended_by_quit : (old now after : Desk) (reader reader_after : ReaderState) (buffer : LineBuffer)
@@ -658,19 +752,30 @@ ended_by_quit old now after reader reader_after buffer p t serves asks =
       };
     }
 
-lines_behind : (left left_now : Option (List ℕ)) (reader : ReaderState) (lines : List (List ℕ)) (given rest : List ℕ) → (h : Heard left left_now reader lines) → reader.ended ≡ false
-    → lines_of ((h.consumed ++ given) ++ rest) ≡ lines ++ lines_of (reader.pending ++ (given ++ rest))
+lines_behind : (left left_now : Option (List ℕ)) (reader : ReaderState) (lines : List (List ℕ))
+    (given rest : List ℕ) → (h : Heard left left_now reader lines) → reader.ended ≡ false
+    → lines_of ((h.consumed ++ given) ++ rest)
+    ≡ lines ++ lines_of (reader.pending ++ (given ++ rest))
 lines_behind left left_now reader lines given rest h running =
-    ap lines_of (append_assoc h.consumed given rest) ∙ h.split (given ++ rest) (λ e. absurd (true≢false (sym e ∙ running)))
+    ap lines_of (append_assoc h.consumed given rest)
+    ∙ h.split (given ++ rest) (λ e. absurd (true≢false (sym e ∙ running)))
 
 -- no LF is in what was read and not taken
-all_ended : (left left_now : Option (List ℕ)) (reader : ReaderState) (lines : List (List ℕ)) (given : List ℕ) → (h : Heard left left_now reader lines) → reader.ended ≡ false → HasNoLf (reader.pending ++ given)
+all_ended : (left left_now : Option (List ℕ)) (reader : ReaderState) (lines : List (List ℕ))
+    (given : List ℕ) → (h : Heard left left_now reader lines) → reader.ended ≡ false
+    → HasNoLf (reader.pending ++ given)
     → lines ≡ ended_lines (h.consumed ++ given)
 all_ended left left_now reader lines given h running one =
     let none = lfs_none (reader.pending ++ given) one in
     ended_whole (h.consumed ++ given) (reader.pending ++ given) lines
     (h.split given (λ e. absurd (true≢false (sym e ∙ running))))
-    (omega (arith, lfs_append h.consumed given, h.ends running, lfs_append reader.pending given, none))
+    (omega (
+      arith,
+      lfs_append h.consumed given,
+      h.ends running,
+      lfs_append reader.pending given,
+      none,
+    ))
 
 -- no line came
 pub ended_without_line : (old now : Desk) (source : SourceState) (reader reader_after : ReaderState)
@@ -702,7 +807,8 @@ ended_without_line old now source reader reader_after LineFault p f =
         unwritten = [];
         appends = p.written;
         all_bytes = append-nil (text_of p.replies);
-        comes_to = all_ended old.source.left now.source.left reader p.lines f.given p.heard f.running
+        comes_to = all_ended old.source.left now.source.left reader p.lines f.given p.heard
+            f.running
             f.one;
         quits = p.goes_on;
         leaves = refl;
@@ -753,7 +859,8 @@ ended_without_line old now source reader reader_after Limit p f =
         unwritten = [];
         appends = p.written;
         all_bytes = append-nil (text_of p.replies);
-        comes_to = all_ended old.source.left now.source.left reader p.lines f.given p.heard f.running
+        comes_to = all_ended old.source.left now.source.left reader p.lines f.given p.heard
+            f.running
             f.one ∙ ap ended_lines (sym front);
         quits = p.goes_on;
         leaves = refl;
@@ -816,10 +923,13 @@ reply_some : (reply : Answer) → 0 < length (answer_line reply)
 unfolding answer_line
 reply_some reply = omega (arith, length-append {A = ℕ})
 
-cut_bytes : (replies : List Answer) (reply : Answer) (place : ℕ) → (text_of replies ++ take place (answer_line reply)) ++ drop place (answer_line reply) ≡ text_of (replies ++ reply ∷ [])
+cut_bytes : (replies : List Answer) (reply : Answer) (place : ℕ)
+    → (text_of replies ++ take place (answer_line reply)) ++ drop place (answer_line reply)
+    ≡ text_of (replies ++ reply ∷ [])
 cut_bytes replies reply place =
     append_assoc (text_of replies) (take place (answer_line reply)) (drop place (answer_line reply))
-    ∙ ap (λ l. text_of replies ++ l) (take-append-drop place (answer_line reply)) ∙ sym (text_more replies reply)
+    ∙ ap (λ l. text_of replies ++ l) (take-append-drop place (answer_line reply))
+    ∙ sym (text_more replies reply)
 
 ended_at_fault : (old now after : Desk) (reader reader_after : ReaderState) (buffer : LineBuffer)
     → Progress old now reader → (t : TakesLine now.source after.source reader reader_after buffer)
@@ -870,7 +980,8 @@ ended_at_fault old now after reader reader_after buffer p t f =
     }
 
 -- memory ran out, and nothing of the line's reply was written
-ended_before_reply : (old now after : Desk) (reader reader_after : ReaderState) (buffer : LineBuffer)
+ended_before_reply : (old now after : Desk) (reader reader_after : ReaderState)
+    (buffer : LineBuffer)
     → Progress old now reader → (t : TakesLine now.source after.source reader reader_after buffer)
     → after.sink ≡ now.sink → LacksMemory t.text now.server after.server
     → Ended old after (Err NoMemory)
@@ -1003,7 +1114,8 @@ keeps_by kept.Full (r ∷ left) start journal after stops same = (stops.0).fault
 keeps_by kept.NoMemory left start journal after stops same = stops.faults ∙ same
 
 -- a line that was stopped as its records were kept is cut short
-pub line_is_cut : (line : List ℕ) (why : NotKept) (old new : Server) → (s : LineStops line why old new)
+pub line_is_cut : (line : List ℕ) (why : NotKept) (old new : Server)
+    → (s : LineStops line why old new)
     → LineIsCut line s.stops.front.left (state_of old) (state_of new)
 line_is_cut line why old new s =
     let front = s.stops.front in
@@ -1073,10 +1185,16 @@ ended_without_reply old now after reader reader_after buffer (Unkept why) p t f 
 
 -- ---- the usage line
 
-pub tells_usage : {E : Type 0} (result : Result (Unit {0}) E) (old new : SinkState) (bytes : List ℕ) → bytes ≡ usage_line
-    → OnOk result (Appends old.held new.held bytes) → OnErr result (AppendsPrefix old.held new.held bytes) → OnOk result (new.faults ≡ old.faults) → old.faults ≤ new.faults → OnErr result (Rose old.faults new.faults) → TellsUsage old new
-tells_usage (Ok v) old new bytes same whole part steady later rose = inl (subst (Appends old.held new.held) same whole, steady)
-tells_usage (Err e) old new bytes same whole part steady later rose = inr (subst (AppendsPrefix old.held new.held) same part, (later, rose))
+pub tells_usage : {E : Type 0} (result : Result (Unit {0}) E) (old new : SinkState) (bytes : List ℕ)
+    → bytes ≡ usage_line
+    → OnOk result (Appends old.held new.held bytes)
+    → OnErr result (AppendsPrefix old.held new.held bytes)
+    → OnOk result (new.faults ≡ old.faults) → old.faults ≤ new.faults
+    → OnErr result (Rose old.faults new.faults) → TellsUsage old new
+tells_usage (Ok v) old new bytes same whole part steady later rose =
+    inl (subst (Appends old.held new.held) same whole, steady)
+tells_usage (Err e) old new bytes same whole part steady later rose =
+    inr (subst (AppendsPrefix old.held new.held) same part, (later, rose))
 
 -- where all machines were in before the lines that were served, they are now
 pub all_in_now : (old now : Desk) (reader : ReaderState) → Progress old now reader

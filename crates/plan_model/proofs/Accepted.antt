@@ -138,7 +138,8 @@ none_doubled : (vms : List (List ℕ)) → find (is_doubled_in vms) vms ≡ None
     → IsDistinct bytes_eq vms
 none_doubled vms none =
     distinct_where_once vms
-    (each {P = λ q. is_doubled_in vms q ≡ false} {Q = Once vms} (λ q f. few_is (count_of vms q) f) vms
+    (each {P = λ q. is_doubled_in vms q ≡ false} {Q = Once vms} (λ q f. few_is (count_of vms q) f)
+    vms
     (none_found (is_doubled_in vms) vms none))
 
 doubled_none : (vms : List (List ℕ)) → IsDistinct bytes_eq vms

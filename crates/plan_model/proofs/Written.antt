@@ -102,7 +102,8 @@ pattern_at (p ∷ ps) (b ∷ bs) zero same all inside =
     (and_parts (has_pattern p b) (list_all (λ p. has_pattern p.0 p.1) (zip ps bs)) all).0
 pattern_at (p ∷ ps) (b ∷ bs) (suc k) same all inside =
     pattern_at ps bs k (omega arith)
-    (and_parts (has_pattern p b) (list_all (λ p. has_pattern p.0 p.1) (zip ps bs)) all).1 (omega arith)
+    (and_parts (has_pattern p b) (list_all (λ p. has_pattern p.0 p.1) (zip ps bs)) all).1
+    (omega arith)
 
 record Shaped (text : List ℕ) : Type 0 where
   sized : length text ≡ 20

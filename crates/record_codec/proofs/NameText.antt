@@ -15,9 +15,11 @@ byte_is_ascii b h = grind (arith, nat_tests)
 
 pub name_is_text : (text : List ℕ) → IsName text → IsUtf8 text
 name_is_text text h =
-    let spelled = (and_parts (leb 1 (length text) && leb (length text) MAX_NAME_BYTES) (list_all is_name_byte text) h).1 in
+    let spelled = (and_parts (leb 1 (length text) && leb (length text) MAX_NAME_BYTES)
+    (list_all is_name_byte text) h).1 in
     IsUtf8-from_ascii text (λ i.
     elim (cases_lt i (length text)) [
-      | inl within ↦ byte_is_ascii (get_or text i 0) (AllPass-from_list_all is_name_byte text spelled i 0 within)
+      | inl within ↦ byte_is_ascii (get_or text i 0)
+          (AllPass-from_list_all is_name_byte text spelled i 0 within)
       | inr past ↦ rw (get_or_past text i 0 past) (omega arith)
     ])

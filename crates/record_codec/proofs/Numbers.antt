@@ -55,13 +55,15 @@ uuid_rest n rest = refl
 take_bytes : (n : ℕ) (bytes : List ℕ) → IsBytes bytes → IsBytes (take n bytes)
 take_bytes n bytes h i = elim (cases_lt i n) [
   | inl under ↦ rw (get_or-take n bytes i 0 under) (h i)
-  | inr over ↦ rw (get_or_past (take n bytes) i 0 (omega (arith, length-take n bytes))) (omega arith)
+  | inr over ↦ rw (get_or_past (take n bytes) i 0 (omega (arith, length-take n bytes)))
+      (omega arith)
 ]
 
 pub drop_bytes : (n : ℕ) (bytes : List ℕ) → IsBytes bytes → IsBytes (drop n bytes)
 drop_bytes n bytes h i = rw (get_or-drop n bytes i 0) (h (n + i))
 
-pub word_split : (bytes : List ℕ) → 4 ≤ length bytes → IsBytes bytes → bytes ≡ word_bytes (word_at bytes) ++ drop 4 bytes
+pub word_split : (bytes : List ℕ) → 4 ≤ length bytes → IsBytes bytes
+    → bytes ≡ word_bytes (word_at bytes) ++ drop 4 bytes
 unfolding word_bytes word_at
 word_split ([]) h fit = absurd (omega arith)
 word_split (x0 ∷ []) h fit = absurd (omega arith)
@@ -71,10 +73,12 @@ word_split (x0 ∷ x1 ∷ x2 ∷ x3 ∷ rest) h fit =
     let bytes : List ℕ = x0 ∷ x1 ∷ x2 ∷ x3 ∷ rest in
     let row : List ℕ = x0 ∷ x1 ∷ x2 ∷ x3 ∷ [] in
     let fits : IsBytes row = take_bytes 4 bytes fit in
-    let same : to_be_bytes w32 (from_be_bytes w32 row) ≡ row = be_bytes_4 row (from_be_bytes w32 row) refl fits refl in
+    let same : to_be_bytes w32 (from_be_bytes w32 row) ≡ row =
+    be_bytes_4 row (from_be_bytes w32 row) refl fits refl in
     sym (ap (λ (ys : List ℕ). ys ++ rest) same)
 
-pub long_split : (bytes : List ℕ) → 8 ≤ length bytes → IsBytes bytes → bytes ≡ long_bytes (long_at bytes) ++ drop 8 bytes
+pub long_split : (bytes : List ℕ) → 8 ≤ length bytes → IsBytes bytes
+    → bytes ≡ long_bytes (long_at bytes) ++ drop 8 bytes
 unfolding long_bytes long_at
 long_split ([]) h fit = absurd (omega arith)
 long_split (x0 ∷ []) h fit = absurd (omega arith)
@@ -88,10 +92,12 @@ long_split (x0 ∷ x1 ∷ x2 ∷ x3 ∷ x4 ∷ x5 ∷ x6 ∷ x7 ∷ rest) h fit 
     let bytes : List ℕ = x0 ∷ x1 ∷ x2 ∷ x3 ∷ x4 ∷ x5 ∷ x6 ∷ x7 ∷ rest in
     let row : List ℕ = x0 ∷ x1 ∷ x2 ∷ x3 ∷ x4 ∷ x5 ∷ x6 ∷ x7 ∷ [] in
     let fits : IsBytes row = take_bytes 8 bytes fit in
-    let same : to_be_bytes w64 (from_be_bytes w64 row) ≡ row = be_bytes_8 row (from_be_bytes w64 row) refl fits refl in
+    let same : to_be_bytes w64 (from_be_bytes w64 row) ≡ row =
+    be_bytes_8 row (from_be_bytes w64 row) refl fits refl in
     sym (ap (λ (ys : List ℕ). ys ++ rest) same)
 
-pub uuid_split : (bytes : List ℕ) → 16 ≤ length bytes → IsBytes bytes → bytes ≡ uuid_bytes (uuid_at bytes) ++ drop 16 bytes
+pub uuid_split : (bytes : List ℕ) → 16 ≤ length bytes → IsBytes bytes
+    → bytes ≡ uuid_bytes (uuid_at bytes) ++ drop 16 bytes
 unfolding uuid_bytes uuid_at
 uuid_split ([]) h fit = absurd (omega arith)
 uuid_split (x0 ∷ []) h fit = absurd (omega arith)
@@ -105,15 +111,23 @@ uuid_split (x0 ∷ x1 ∷ x2 ∷ x3 ∷ x4 ∷ x5 ∷ x6 ∷ x7 ∷ []) h fit = 
 uuid_split (x0 ∷ x1 ∷ x2 ∷ x3 ∷ x4 ∷ x5 ∷ x6 ∷ x7 ∷ x8 ∷ []) h fit = absurd (omega arith)
 uuid_split (x0 ∷ x1 ∷ x2 ∷ x3 ∷ x4 ∷ x5 ∷ x6 ∷ x7 ∷ x8 ∷ x9 ∷ []) h fit = absurd (omega arith)
 uuid_split (x0 ∷ x1 ∷ x2 ∷ x3 ∷ x4 ∷ x5 ∷ x6 ∷ x7 ∷ x8 ∷ x9 ∷ x10 ∷ []) h fit = absurd (omega arith)
-uuid_split (x0 ∷ x1 ∷ x2 ∷ x3 ∷ x4 ∷ x5 ∷ x6 ∷ x7 ∷ x8 ∷ x9 ∷ x10 ∷ x11 ∷ []) h fit = absurd (omega arith)
-uuid_split (x0 ∷ x1 ∷ x2 ∷ x3 ∷ x4 ∷ x5 ∷ x6 ∷ x7 ∷ x8 ∷ x9 ∷ x10 ∷ x11 ∷ x12 ∷ []) h fit = absurd (omega arith)
-uuid_split (x0 ∷ x1 ∷ x2 ∷ x3 ∷ x4 ∷ x5 ∷ x6 ∷ x7 ∷ x8 ∷ x9 ∷ x10 ∷ x11 ∷ x12 ∷ x13 ∷ []) h fit = absurd (omega arith)
-uuid_split (x0 ∷ x1 ∷ x2 ∷ x3 ∷ x4 ∷ x5 ∷ x6 ∷ x7 ∷ x8 ∷ x9 ∷ x10 ∷ x11 ∷ x12 ∷ x13 ∷ x14 ∷ []) h fit = absurd (omega arith)
-uuid_split (x0 ∷ x1 ∷ x2 ∷ x3 ∷ x4 ∷ x5 ∷ x6 ∷ x7 ∷ x8 ∷ x9 ∷ x10 ∷ x11 ∷ x12 ∷ x13 ∷ x14 ∷ x15 ∷ rest) h fit =
-    let bytes : List ℕ = x0 ∷ x1 ∷ x2 ∷ x3 ∷ x4 ∷ x5 ∷ x6 ∷ x7 ∷ x8 ∷ x9 ∷ x10 ∷ x11 ∷ x12 ∷ x13 ∷ x14 ∷ x15 ∷ rest in
-    let row : List ℕ = x0 ∷ x1 ∷ x2 ∷ x3 ∷ x4 ∷ x5 ∷ x6 ∷ x7 ∷ x8 ∷ x9 ∷ x10 ∷ x11 ∷ x12 ∷ x13 ∷ x14 ∷ x15 ∷ [] in
+uuid_split (x0 ∷ x1 ∷ x2 ∷ x3 ∷ x4 ∷ x5 ∷ x6 ∷ x7 ∷ x8 ∷ x9 ∷ x10 ∷ x11 ∷ []) h fit =
+    absurd (omega arith)
+uuid_split (x0 ∷ x1 ∷ x2 ∷ x3 ∷ x4 ∷ x5 ∷ x6 ∷ x7 ∷ x8 ∷ x9 ∷ x10 ∷ x11 ∷ x12 ∷ []) h fit =
+    absurd (omega arith)
+uuid_split (x0 ∷ x1 ∷ x2 ∷ x3 ∷ x4 ∷ x5 ∷ x6 ∷ x7 ∷ x8 ∷ x9 ∷ x10 ∷ x11 ∷ x12 ∷ x13 ∷ []) h fit =
+    absurd (omega arith)
+uuid_split (x0 ∷ x1 ∷ x2 ∷ x3 ∷ x4 ∷ x5 ∷ x6 ∷ x7 ∷ x8 ∷ x9 ∷ x10 ∷ x11 ∷ x12 ∷ x13 ∷ x14 ∷ []) h
+    fit = absurd (omega arith)
+uuid_split (x0 ∷ x1 ∷ x2 ∷ x3 ∷ x4 ∷ x5 ∷ x6 ∷ x7 ∷ x8 ∷ x9 ∷ x10 ∷ x11 ∷ x12 ∷ x13 ∷ x14 ∷ x15 ∷
+    rest) h fit =
+    let bytes : List ℕ = x0 ∷ x1 ∷ x2 ∷ x3 ∷ x4 ∷ x5 ∷ x6 ∷ x7 ∷ x8 ∷ x9 ∷ x10 ∷ x11 ∷ x12 ∷ x13 ∷
+    x14 ∷ x15 ∷ rest in
+    let row : List ℕ = x0 ∷ x1 ∷ x2 ∷ x3 ∷ x4 ∷ x5 ∷ x6 ∷ x7 ∷ x8 ∷ x9 ∷ x10 ∷ x11 ∷ x12 ∷ x13 ∷ x14
+    ∷ x15 ∷ [] in
     let fits : IsBytes row = take_bytes 16 bytes fit in
-    let same : to_be_bytes w128 (from_be_bytes w128 row) ≡ row = to_be_bytes-from_be_bytes row refl fits in
+    let same : to_be_bytes w128 (from_be_bytes w128 row) ≡ row =
+    to_be_bytes-from_be_bytes row refl fits in
     sym (ap (λ (ys : List ℕ). ys ++ rest) same)
 
 pub word_fits : (bytes : List ℕ) → IsBytes bytes → word_at bytes < 2 ^ 32
@@ -126,4 +140,24 @@ long_fits bytes fit = omega (arith, fit 0, fit 1, fit 2, fit 3, fit 4, fit 5, fi
 
 pub uuid_fits : (bytes : List ℕ) → IsBytes bytes → uuid_at bytes < 2 ^ 128
 unfolding uuid_at
-uuid_fits bytes fit = omega (arith, fit 0, fit 1, fit 2, fit 3, fit 4, fit 5, fit 6, fit 7, fit 8, fit 9, fit 10, fit 11, fit 12, fit 13, fit 14, fit 15)
+uuid_fits bytes fit =
+    omega (
+      arith,
+      fit 0,
+      fit 1,
+      fit 2,
+      fit 3,
+      fit 4,
+      fit 5,
+      fit 6,
+      fit 7,
+      fit 8,
+      fit 9,
+      fit 10,
+      fit
+          11,
+      fit 12,
+      fit 13,
+      fit 14,
+      fit 15,
+    )

@@ -16,10 +16,12 @@ length-field (Flag flag) = refl
 length-field (Text text) = omega arith
 length-field (Words numbers) =
     length-append (word_bytes (length numbers)) (all_word_bytes numbers)
-    ∙ (let w = length-word_bytes (length numbers) in let r = length-concat word_bytes 4 length-word_bytes numbers in omega arith)
+    ∙ (let w = length-word_bytes (length numbers) in
+    let r = length-concat word_bytes 4 length-word_bytes numbers in omega arith)
 length-field (Ids ids) =
     length-append (word_bytes (length ids)) (all_id_bytes ids)
-    ∙ (let w = length-word_bytes (length ids) in let r = length-concat id_bytes 24 length-id_bytes ids in omega arith)
+    ∙ (let w = length-word_bytes (length ids) in
+    let r = length-concat id_bytes 24 length-id_bytes ids in omega arith)
 
 length-fields : (fields : List Field) → length (spelled_fields fields) ≡ sum_by field_size fields
 length-fields [] = refl

@@ -8,14 +8,18 @@ use Rattle.serde_json.specs.View.{items_of}
 use Rattle.reply_json.specs.Fits.{NumbersFit, ItemsFit}
 use Rattle.reply_json.specs.Values.{array_of}
 
-items_fit : {T : Type 0} (data_of : T → Data) (values : List T) → AllByRecursion (λ value. NumbersFit (data_of value)) values
+items_fit : {T : Type 0} (data_of : T → Data) (values : List T)
+    → AllByRecursion (λ value. NumbersFit (data_of value)) values
     → ItemsFit (items_of (map data_of values))
 items_fit data_of [] each = tt
 items_fit data_of (value ∷ values) each = (each.0, items_fit data_of values each.1)
 
 -- all of them were looked at
 pub array_fits : {T : Type 0} (data_of : T → Data) (values : List T) (i : ℕ) → length values ≤ i
-    → All (λ value. NumbersFit (data_of value)) (take i values) → NumbersFit (array_of data_of values)
+    → All (λ value. NumbersFit (data_of value)) (take i values)
+    → NumbersFit (array_of data_of values)
 array_fits {T = T} data_of values i h each =
     let P : T → Type 0 = λ value. NumbersFit (data_of value) in
-    items_fit data_of values (recursion_from_All P values (subst (λ (taken : List T). All P taken) (take_all i values h) each))
+    items_fit data_of values
+    (recursion_from_All P values
+    (subst (λ (taken : List T). All P taken) (take_all i values h) each))

@@ -8,6 +8,9 @@ use Rattle.serde_json.proofs.Texts.{print-outline}
 use Rattle.reply_json.specs.ToJson.{tokens_of}
 
 -- the line of a value, after what stood before
-pub line-text : (before : List ℕ) (tokens : List Token) (d : Data) → tokens ≡ [] ++ tokens_of d → (before ++ print tokens) ++ 10 ∷ [] ≡ before ++ (compact_text d ++ 10 ∷ [])
+pub line-text : (before : List ℕ) (tokens : List Token) (d : Data) → tokens ≡ [] ++ tokens_of d
+    → (before ++ print tokens) ++ 10 ∷ [] ≡ before ++ (compact_text d ++ 10 ∷ [])
 line-text before tokens d is =
-    ap (λ ts. (before ++ print ts) ++ 10 ∷ []) is ∙ ap (λ text. (before ++ text) ++ 10 ∷ []) (print-outline d) ∙ append_assoc before (compact_text d) (10 ∷ [])
+    ap (λ ts. (before ++ print ts) ++ 10 ∷ []) is
+    ∙ ap (λ text. (before ++ text) ++ 10 ∷ []) (print-outline d)
+    ∙ append_assoc before (compact_text d) (10 ∷ [])

@@ -34,7 +34,8 @@ more b bytes h rest = All-cons (λ b. 32 ≤ b) b bytes h rest
 both : (xs ys : List ℕ) → Visible xs → Visible ys → Visible (xs ++ ys)
 both xs ys h k = All-append (λ b. 32 ≤ b) xs ys h k
 
-either : (test : Bool) (xs ys : List ℕ) → (test ≡ true → Visible xs) → (test ≡ false → Visible ys) → Visible (cond test xs ys)
+either : (test : Bool) (xs ys : List ℕ) → (test ≡ true → Visible xs) → (test ≡ false → Visible ys)
+    → Visible (cond test xs ys)
 either true xs ys h k = h refl
 either false xs ys h k = k refl
 
@@ -57,16 +58,20 @@ visible_code x =
 visible_escape : (x : ℕ) → Visible (escape_byte x)
 unfolding escape_byte
 visible_escape x =
-    either (nat_lt 0 (escape_letter x)) (92 ∷ escape_letter x ∷ []) (cond (nat_lt x 32) (92 ∷ (117 ∷ (48 ∷ (48 ∷ hex x)))) (x ∷ []))
-    (λ e. more 92 (escape_letter x ∷ []) (omega arith) (one_byte (escape_letter x) (visible_letter x e)))
-    (λ _. either (nat_lt x 32) (92 ∷ (117 ∷ (48 ∷ (48 ∷ hex x)))) (x ∷ []) (λ _. visible_code x) (λ e. one_byte x (not_below x e)))
+    either (nat_lt 0 (escape_letter x)) (92 ∷ escape_letter x ∷ [])
+    (cond (nat_lt x 32) (92 ∷ (117 ∷ (48 ∷ (48 ∷ hex x)))) (x ∷ []))
+    (λ e. more 92 (escape_letter x ∷ []) (omega arith)
+    (one_byte (escape_letter x) (visible_letter x e)))
+    (λ _. either (nat_lt x 32) (92 ∷ (117 ∷ (48 ∷ (48 ∷ hex x)))) (x ∷ []) (λ _. visible_code x)
+    (λ e. one_byte x (not_below x e)))
 
 visible_escapes : (s : List ℕ) → Visible (escape s)
 visible_escapes [] = All-nil _
 visible_escapes (x ∷ s) = both (escape_byte x) (escape s) (visible_escape x) (visible_escapes s)
 
 visible_quoted : (s : List ℕ) → Visible (quoted s)
-visible_quoted s = more 34 (escape s ++ 34 ∷ []) (omega arith) (both (escape s) (34 ∷ []) (visible_escapes s) (one_byte 34 (omega arith)))
+visible_quoted s = more 34 (escape s ++ 34 ∷ []) (omega arith)
+    (both (escape s) (34 ∷ []) (visible_escapes s) (one_byte 34 (omega arith)))
 
 visible_comma : (later : Bool) → Visible (comma_if later)
 visible_comma true = one_byte 44 (omega arith)
@@ -78,7 +83,9 @@ visible_number n fits = All-from_get_or (λ b. 32 ≤ b) (decimal n) 0 (λ i wit
 
 -- a word of bytes that are all 32 or more, by a look at each
 word_visible : (bytes : List ℕ) → list_all (λ b. nat_le 32 b) bytes ≡ true → Visible bytes
-word_visible bytes e = λ k d within. at_least (slice_index_or bytes k d) (AllPass-from_list_all (λ b. nat_le 32 b) bytes e k d within)
+word_visible bytes e =
+    λ k d within. at_least (slice_index_or bytes k d)
+    (AllPass-from_list_all (λ b. nat_le 32 b) bytes e k d within)
 
 mutual
   pub visible : (d : Data) → NumbersFit d → Visible (compact_text d)
@@ -89,8 +96,10 @@ mutual
   visible (number (negative z)) fits = absurd fits
   visible (number (float x)) fits = absurd fits
   visible (string s) fits = visible_quoted s
-  visible (array ds) fits = more 91 (items_text false ds) (omega arith) (visible_items false ds fits)
-  visible (object ms) fits = more 123 (members_text false ms) (omega arith) (visible_members false ms fits)
+  visible (array ds) fits =
+      more 91 (items_text false ds) (omega arith) (visible_items false ds fits)
+  visible (object ms) fits =
+      more 123 (members_text false ms) (omega arith) (visible_members false ms fits)
 
   visible_items : (later : Bool) (ds : Items) → ItemsFit ds → Visible (items_text later ds)
   visible_items later no_items fits = one_byte 93 (omega arith)
@@ -101,10 +110,12 @@ mutual
   visible_members : (later : Bool) (ms : Members) → MembersFit ms → Visible (members_text later ms)
   visible_members later no_members fits = one_byte 125 (omega arith)
   visible_members later (member k d ms) fits =
-      both (comma_if later) (quoted k ++ 58 ∷ (compact_text d ++ members_text true ms)) (visible_comma later)
+      both (comma_if later) (quoted k ++ 58 ∷ (compact_text d ++ members_text true ms))
+      (visible_comma later)
       (both (quoted k) (58 ∷ (compact_text d ++ members_text true ms)) (visible_quoted k)
       (more 58 (compact_text d ++ members_text true ms) (omega arith)
-      (both (compact_text d) (members_text true ms) (visible d fits.0) (visible_members true ms fits.1))))
+      (both (compact_text d) (members_text true ms) (visible d fits.0)
+      (visible_members true ms fits.1))))
 
 pub one_line : (d : Data) → NumbersFit d → ¬ (Contains (compact_text d) 10)
 one_line d fits has = let seen = visible d fits has.0 10 has.1 in omega (arith, has.2)

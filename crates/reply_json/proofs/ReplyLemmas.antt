@@ -20,10 +20,12 @@ use Rattle.reply_json.proofs.ReadLemmas.{Reads, boolean_reads, string_reads, num
 id_reads : {b : ℕ} (id : ChangeId) → NumbersFit (id_data id) → Reads b (id_data id)
 id_reads id = string_reads _
 
-sector_reads : {b : ℕ} (bytes : List ℕ) → NumbersFit (sector_data bytes) → Reads b (sector_data bytes)
+sector_reads : {b : ℕ} (bytes : List ℕ) → NumbersFit (sector_data bytes)
+    → Reads b (sector_data bytes)
 sector_reads bytes = either_reads _ _ _ (number_reads _) (string_reads _)
 
-disturbed_reads : {b : ℕ} (refusal : Option (List ℕ)) → NumbersFit (disturbed_data refusal) → Reads b (disturbed_data refusal)
+disturbed_reads : {b : ℕ} (refusal : Option (List ℕ)) → NumbersFit (disturbed_data refusal)
+    → Reads b (disturbed_data refusal)
 disturbed_reads None = boolean_reads _
 disturbed_reads (Some refusal) = string_reads refusal
 
@@ -34,7 +36,8 @@ check_reads : (check : CheckLine) → NumbersFit (check_data check) → Reads 1 
 check_reads check = pair_reads {b = 0} _ _ (string_reads _) (string_reads _)
 
 host_reads : (host : HostLine) → NumbersFit (host_data host) → Reads 3 (host_data host)
-host_reads host = object_reads {b = 2} (and (number_reads host.limit) (and (string_reads host.name) ended))
+host_reads host = object_reads {b = 2}
+    (and (number_reads host.limit) (and (string_reads host.name) ended))
 
 vm_reads : (vm : VmLine) → NumbersFit (vm_data vm) → Reads 3 (vm_data vm)
 vm_reads vm = object_reads {b = 2} (
@@ -53,7 +56,8 @@ guest_reads guest = object_reads {b = 2} (
     and (string_reads guest.vm)
     ended)))
 
-migration_reads : (line : MigLine) → NumbersFit (migration_data line) → Reads 3 (migration_data line)
+migration_reads : (line : MigLine) → NumbersFit (migration_data line)
+    → Reads 3 (migration_data line)
 migration_reads line = object_reads {b = 2} (
     and (or_null_reads string string_reads line.cause) (
     and (array_reads {b = 1} check_data check_reads line.checkpoints) (
@@ -72,10 +76,13 @@ migration_reads line = object_reads {b = 2} (
 pub reply_reads : (reply : Reply) → NumbersFit (reply_data reply) → Reads 5 (reply_data reply)
 reply_reads Done = object_reads {b = 4} (and (boolean_reads _) ended)
 reply_reads (Moved writes written) = object_reads {b = 4} (
-    and (boolean_reads _) (and (string_reads _) (and (number_reads writes) (and (number_reads written) ended))))
-reply_reads (Number number) = object_reads {b = 4} (and (number_reads number) (and (boolean_reads _) ended))
+    and (boolean_reads _)
+    (and (string_reads _) (and (number_reads writes) (and (number_reads written) ended))))
+reply_reads (Number number) =
+    object_reads {b = 4} (and (number_reads number) (and (boolean_reads _) ended))
 reply_reads (Snapshot snapshot ids) = object_reads {b = 4} (
-    and (array_reads {b = 3} _ (or_null_reads id_data id_reads) ids) (and (boolean_reads _) (and (number_reads snapshot) ended)))
+    and (array_reads {b = 3} _ (or_null_reads id_data id_reads) ids)
+    (and (boolean_reads _) (and (number_reads snapshot) ended)))
 reply_reads (Query areas id start len) = object_reads {b = 4} (
     and (array_reads {b = 3} area_data area_reads areas) (
     and (or_null_reads id_data id_reads id) (
@@ -95,11 +102,14 @@ reply_reads (Ran disturbed guests migrations peaks) = object_reads {b = 4} (
     and (array_reads {b = 3} number_of number_reads peaks)
     ended)))))
 reply_reads (Status migrations) = object_reads {b = 4} (
-    and (array_reads {b = 3} migration_data migration_reads migrations) (and (boolean_reads _) ended))
+    and (array_reads {b = 3} migration_data migration_reads migrations)
+    (and (boolean_reads _) ended))
 reply_reads (Digest digest sectors) = object_reads {b = 4} (
     and (string_reads _) (and (boolean_reads _) (and (number_reads sectors) ended)))
-reply_reads (Records records) = object_reads {b = 4} (and (boolean_reads _) (and (number_reads records) ended))
-reply_reads (Refused error Nothing) = object_reads {b = 4} (and (string_reads error) (and (boolean_reads _) ended))
+reply_reads (Records records) =
+    object_reads {b = 4} (and (boolean_reads _) (and (number_reads records) ended))
+reply_reads (Refused error Nothing) =
+    object_reads {b = 4} (and (string_reads error) (and (boolean_reads _) ended))
 reply_reads (Refused error (Name name)) = object_reads {b = 4} (
     and (string_reads error) (and (string_reads name) (and (boolean_reads _) ended)))
 reply_reads (Refused error (Vm vm)) = object_reads {b = 4} (
@@ -107,4 +117,5 @@ reply_reads (Refused error (Vm vm)) = object_reads {b = 4} (
 reply_reads (Refused error (Cause cause)) = object_reads {b = 4} (
     and (string_reads cause) (and (string_reads error) (and (boolean_reads _) ended)))
 reply_reads (Refused error (Id id)) = object_reads {b = 4} (
-    and (string_reads error) (and (or_null_reads id_data id_reads id) (and (boolean_reads _) ended)))
+    and (string_reads error)
+    (and (or_null_reads id_data id_reads id) (and (boolean_reads _) ended)))

@@ -13,27 +13,38 @@ use Rattle.sector_model.specs.declared.run.Run.{Run}
 use Rattle.sector_model.proofs.Touched.{any_below, filter-range_same}
 
 -- whether a number of a range is among those that pass a test
-pub among_range : (p : ℕ → Bool) (b n : ℕ) → b < n → list_any (nat_eq b) (filter p (range_with_len 0 n)) ≡ p b
+pub among_range : (p : ℕ → Bool) (b n : ℕ) → b < n
+    → list_any (nat_eq b) (filter p (range_with_len 0 n)) ≡ p b
 among_range p b n less =
-    any-filter_same (nat_eq b) p (p b) (λ k same. ap p (sym (eqb-true b k same))) (range_with_len 0 n)
+    any-filter_same (nat_eq b) p (p b) (λ k same. ap p (sym (eqb-true b k same)))
+    (range_with_len 0 n)
     ∙ ap (λ x. p b && x) (any_below b 0 n (omega arith) (omega (arith, less))) ∙ and-true (p b)
 
 -- a block of the disk is among those that pass a test exactly where it passes
-pub among : (c : ℕ) (test : ℕ → Bool) (b : ℕ) → b < block_count c → list_any (nat_eq b) (blocks_where c test) ≡ test b
+pub among : (c : ℕ) (test : ℕ → Bool) (b : ℕ) → b < block_count c
+    → list_any (nat_eq b) (blocks_where c test) ≡ test b
 among c test b less = among_range test b (block_count c) less
 
 -- tests that agree on the blocks of the disk keep the same blocks
-pub same_blocks : (c : ℕ) (p q : ℕ → Bool) → ((b : ℕ) → b < block_count c → p b ≡ q b) → blocks_where c p ≡ blocks_where c q
-same_blocks c p q same = filter-range_same p q 0 (block_count c) (λ b from less. same b (omega (arith, less)))
+pub same_blocks : (c : ℕ) (p q : ℕ → Bool) → ((b : ℕ) → b < block_count c → p b ≡ q b)
+    → blocks_where c p ≡ blocks_where c q
+same_blocks c p q same =
+    filter-range_same p q 0 (block_count c) (λ b from less. same b (omega (arith, less)))
 
-pub met_more : (c : ℕ) (r : Run) (test : ℕ → Bool) → with_met c r (blocks_where c test) ≡ blocks_where c (λ b. test b || meets b r.first r.count)
-met_more c r test = same_blocks c (λ b. list_any (nat_eq b) (blocks_where c test) || meets b r.first r.count) (λ b. test b || meets b r.first r.count) (λ b less. ap (λ x. x || meets b r.first r.count) (among c test b less))
+pub met_more : (c : ℕ) (r : Run) (test : ℕ → Bool)
+    → with_met c r (blocks_where c test) ≡ blocks_where c (λ b. test b || meets b r.first r.count)
+met_more c r test = same_blocks c
+    (λ b. list_any (nat_eq b) (blocks_where c test) || meets b r.first r.count)
+    (λ b. test b || meets b r.first r.count)
+    (λ b less. ap (λ x. x || meets b r.first r.count) (among c test b less))
 
 -- numbers in order: one is found at itself alone
 pub at_is : (k b : ℕ) → is_at (nat_cmp k) b ≡ eqb k b
 at_is k b = elim (cases_eq k b) [
-  | inl same ↦ ap (λ (n : ℕ). is_at (nat_cmp k) n) (sym same) ∙ (eq_by_cmp_equiv nat_cmp_total).refl k ∙ sym (eq-eqb k b same)
-  | inr other ↦ false_from_ne_true (is_at (nat_cmp k) b) (λ is. other (tells_apart exact_unsigned k b is)) ∙ sym (ne_eqb k b other)
+  | inl same ↦ ap (λ (n : ℕ). is_at (nat_cmp k) n) (sym same)
+      ∙ (eq_by_cmp_equiv nat_cmp_total).refl k ∙ sym (eq-eqb k b same)
+  | inr other ↦ false_from_ne_true (is_at (nat_cmp k) b)
+      (λ is. other (tells_apart exact_unsigned k b is)) ∙ sym (ne_eqb k b other)
 ]
 
 -- a list has a number where the set of its numbers does

@@ -11,7 +11,8 @@ use Rattle.sector_model.proofs.PageLaws.{pages_joined}
 -- areas that are spaced and end within the capacity are told by their pages
 pub pages_tell : (c : ℕ) (areas : List Run) → SpacedWithin 0 c areas → PagesTell c areas
 pages_tell c areas k start pages are =
-    pages_joined c areas start pages k.spaced (All-from_recursion (λ r. end_of r ≤ c) areas k.ends) are
+    pages_joined c areas start pages k.spaced (All-from_recursion (λ r. end_of r ≤ c) areas k.ends)
+    are
 
 pub area_pages_join : AreaPagesJoin
 area_pages_join test c fits = pages_tell c (runs_of test c) (runs_of-spaced test c fits)

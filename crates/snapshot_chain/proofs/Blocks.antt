@@ -24,40 +24,59 @@ Entry = Bor ℕ × Bor PageState
 abbrev pub among : LayerState → List Entry → ℕ → Bool
 among layer seen b = list_any (λ e. nat_eq b e.0.now && has_sector layer b) seen
 
-pub block_passed : (layer : LayerState) (now was : Bool) (seen : List Entry) (e : Entry) (b : ℕ) → has_sector layer e.0.now ≡ false → now ≡ (was || among layer seen b)
+pub block_passed : (layer : LayerState) (now was : Bool) (seen : List Entry) (e : Entry) (b : ℕ)
+    → has_sector layer e.0.now ≡ false → now ≡ (was || among layer seen b)
     → now ≡ (was || among layer (seen ++ e ∷ []) b)
 block_passed layer now was seen e b none before =
-    before ∙ ap (λ x. was || x) (sym (list_any-append (λ x. nat_eq b x.0.now && has_sector layer b) seen (e ∷ []) ∙ ap (λ x. among layer seen b || x) (or-false (nat_eq b e.0.now && has_sector layer b) ∙ gone)
+    before ∙ ap (λ x. was || x)
+    (sym (list_any-append (λ x. nat_eq b x.0.now && has_sector layer b) seen (e ∷ [])
+    ∙ ap (λ x. among layer seen b || x) (or-false (nat_eq b e.0.now && has_sector layer b)
+    ∙ gone)
     ∙ or-false (among layer seen b)))
   where
     gone : (nat_eq b e.0.now && has_sector layer b) ≡ false
     gone = elim (cases_eq b e.0.now) [
-      | inl same ↦ ap (λ x. nat_eq b e.0.now && x) (ap (has_sector layer) same ∙ none) ∙ and-false (nat_eq b e.0.now)
+      | inl same ↦ ap (λ x. nat_eq b e.0.now && x) (ap (has_sector layer) same ∙ none)
+          ∙ and-false (nat_eq b e.0.now)
       | inr other ↦ ap (λ x. x && has_sector layer b) (ne_eqb b e.0.now other)
     ]
 
-pub block_added : (layer : LayerState) (now was new : Bool) (seen : List Entry) (e : Entry) (b : ℕ) → has_sector layer e.0.now ≡ true → now ≡ (was || among layer seen b)
-    → new ≡ cond (is_at (nat_cmp e.0.now) b) true now → new ≡ (was || among layer (seen ++ e ∷ []) b)
+pub block_added : (layer : LayerState) (now was new : Bool) (seen : List Entry) (e : Entry) (b : ℕ)
+    → has_sector layer e.0.now ≡ true → now ≡ (was || among layer seen b)
+    → new ≡ cond (is_at (nat_cmp e.0.now) b) true now
+    → new ≡ (was || among layer (seen ++ e ∷ []) b)
 block_added layer now was new seen e b some before put =
     put ∙ ap (λ x. cond x true now) (at_is e.0.now b) ∙ by (cases_eq e.0.now b)
-    ∙ sym (ap (λ x. was || x) (list_any-append (λ x. nat_eq b x.0.now && has_sector layer b) seen (e ∷ []) ∙ ap (λ x. among layer seen b || x) (or-false (nat_eq b e.0.now && has_sector layer b))))
+    ∙ sym (ap (λ x. was || x)
+    (list_any-append (λ x. nat_eq b x.0.now && has_sector layer b) seen (e ∷ [])
+    ∙ ap (λ x. among layer seen b || x) (or-false (nat_eq b e.0.now && has_sector layer b))))
   where
     late : (x y : Bool) → (x || (y || true)) ≡ true
     late true y = refl
     late false true = refl
     late false false = refl
 
-    by : (e.0.now ≡ b) ⊎ (e.0.now ≡ b → ⊥) → cond (eqb e.0.now b) true now ≡ (was || (among layer seen b || (nat_eq b e.0.now && has_sector layer b)))
+    by : (e.0.now ≡ b) ⊎ (e.0.now ≡ b → ⊥)
+        → cond (eqb e.0.now b) true now
+        ≡ (was || (among layer seen b || (nat_eq b e.0.now && has_sector layer b)))
     by (inl same) =
         ap (λ x. cond x true now) (eq-eqb e.0.now b same)
-        ∙ sym (ap (λ x. was || (among layer seen b || (x && has_sector layer b))) (eq-eqb b e.0.now (sym same)) ∙ ap (λ x. was || (among layer seen b || x)) (ap (has_sector layer) (sym same) ∙ some) ∙ late was (among layer seen b))
+        ∙ sym (ap (λ x. was || (among layer seen b || (x && has_sector layer b)))
+        (eq-eqb b e.0.now (sym same))
+        ∙ ap (λ x. was || (among layer seen b || x)) (ap (has_sector layer) (sym same) ∙ some)
+        ∙ late was (among layer seen b))
     by (inr other) =
         ap (λ x. cond x true now) (ne_eqb e.0.now b other) ∙ before
-        ∙ sym (ap (λ x. was || (among layer seen b || (x && has_sector layer b))) (ne_eqb b e.0.now (λ q. other (sym q))) ∙ ap (λ x. was || x) (or-false (among layer seen b)))
+        ∙ sym (ap (λ x. was || (among layer seen b || (x && has_sector layer b)))
+        (ne_eqb b e.0.now (λ q. other (sym q)))
+        ∙ ap (λ x. was || x) (or-false (among layer seen b)))
 
-both : (h : Bool) (seen : List Entry) (b : ℕ) → list_any (λ e. nat_eq b e.0.now && h) seen ≡ (list_any (λ p. nat_eq b p.0) (map deref_pair seen) && h)
+both : (h : Bool) (seen : List Entry) (b : ℕ)
+    → list_any (λ e. nat_eq b e.0.now && h) seen
+    ≡ (list_any (λ p. nat_eq b p.0) (map deref_pair seen) && h)
 both h [] b = refl
-both h (e ∷ seen) b = ap (λ x. (nat_eq b e.0.now && h) || x) (both h seen b) ∙ joined (nat_eq b e.0.now) (list_any (λ p. nat_eq b p.0) (map deref_pair seen)) h
+both h (e ∷ seen) b = ap (λ x. (nat_eq b e.0.now && h) || x) (both h seen b)
+    ∙ joined (nat_eq b e.0.now) (list_any (λ p. nat_eq b p.0) (map deref_pair seen)) h
   where
     joined : (x y h : Bool) → ((x && h) || (y && h)) ≡ ((x || y) && h)
     joined true true true = refl
@@ -66,44 +85,64 @@ both h (e ∷ seen) b = ap (λ x. (nat_eq b e.0.now && h) || x) (both h seen b) 
     joined true false false = refl
     joined false y h = refl
 
-keyed : (layer : LayerState) (b : ℕ) → list_any (λ p. nat_eq b p.0) layer ≡ is_some (slot_of layer b)
+keyed : (layer : LayerState) (b : ℕ)
+    → list_any (λ p. nat_eq b p.0) layer ≡ is_some (slot_of layer b)
 keyed [] b = refl
 keyed (p ∷ layer) b = by layer p b (eqb b p.0) refl (keyed layer b)
   where
-    by : (layer : LayerState) (p : ℕ × PageState) (b : ℕ) (x : Bool) → eqb b p.0 ≡ x → list_any (λ q. nat_eq b q.0) layer ≡ is_some (slot_of layer b)
-        → (eqb b p.0 || list_any (λ q. nat_eq b q.0) layer) ≡ is_some (cond (is_at (nat_cmp b) p.0) (Some p.1) (slot_of layer b))
+    by : (layer : LayerState) (p : ℕ × PageState) (b : ℕ) (x : Bool) → eqb b p.0 ≡ x
+        → list_any (λ q. nat_eq b q.0) layer ≡ is_some (slot_of layer b)
+        → (eqb b p.0 || list_any (λ q. nat_eq b q.0) layer)
+        ≡ is_some (cond (is_at (nat_cmp b) p.0) (Some p.1) (slot_of layer b))
     by layer p b true is rest = rw (at_is b p.0, is) refl
     by layer p b false is rest = rw (at_is b p.0, is) rest
 
-held : (page : Option PageState) → (is_some page && list_any (λ k. is_some (sector_of page k)) (range_with_len 0 128)) ≡ list_any (λ k. is_some (sector_of page k)) (range_with_len 0 128)
+held : (page : Option PageState)
+    → (is_some page && list_any (λ k. is_some (sector_of page k)) (range_with_len 0 128))
+    ≡ list_any (λ k. is_some (sector_of page k)) (range_with_len 0 128)
 held None = refl
 held (Some page) = refl
 
-pub all_blocks : (layer : LayerState) (seen : List Entry) (b : ℕ) → map deref_pair seen ≡ layer → among layer seen b ≡ has_sector layer b
+pub all_blocks : (layer : LayerState) (seen : List Entry) (b : ℕ) → map deref_pair seen ≡ layer
+    → among layer seen b ≡ has_sector layer b
 all_blocks layer seen b whole =
-    both (has_sector layer b) seen b ∙ ap (λ x. x && has_sector layer b) (ap (λ (l : LayerState). list_any (λ p. nat_eq b p.0) l) whole ∙ keyed layer b)
+    both (has_sector layer b) seen b
+    ∙ ap (λ x. x && has_sector layer b)
+    (ap (λ (l : LayerState). list_any (λ p. nat_eq b p.0) l) whole ∙ keyed layer b)
     ∙ held (slot_of layer b)
 
 -- one layer more
-pub has_push : (layers : List LayerState) (layer : LayerState) (b : ℕ) → has_found (layers ++ layer ∷ []) b ≡ (has_found layers b || has_sector layer b)
+pub has_push : (layers : List LayerState) (layer : LayerState) (b : ℕ)
+    → has_found (layers ++ layer ∷ []) b ≡ (has_found layers b || has_sector layer b)
 has_push layers layer b =
-    any-or (λ k. is_some (found layers b k)) (λ k. is_some (sector_in layer b k)) (λ k. is_some (found (layers ++ layer ∷ []) b k)) (range_with_len 0 128)
-    (λ k. ap is_some (found-append layers (layer ∷ []) b k) ∙ either_found (sector_in layer b k) (found layers b k))
+    any-or (λ k. is_some (found layers b k)) (λ k. is_some (sector_in layer b k))
+    (λ k. is_some (found (layers ++ layer ∷ []) b k)) (range_with_len 0 128)
+    (λ k. ap is_some (found-append layers (layer ∷ []) b k)
+    ∙ either_found (sector_in layer b k) (found layers b k))
 
-pub has_more : (layers : List LayerState) (i : ℕ) (layer : LayerState) (b : ℕ) → i < length layers → layer ≡ get_or layers i layer
+pub has_more : (layers : List LayerState) (i : ℕ) (layer : LayerState) (b : ℕ) → i < length layers
+    → layer ≡ get_or layers i layer
     → has_found (take (i + 1) layers) b ≡ (has_found (take i layers) b || has_sector layer b)
-has_more layers i layer b less is = ap (λ (ls : List LayerState). has_found ls b) (take_more layers i layer less ∙ ap (λ (l : LayerState). take i layers ++ l ∷ []) (sym is)) ∙ has_push (take i layers) layer b
+has_more layers i layer b less is =
+    ap (λ (ls : List LayerState). has_found ls b) (take_more layers i layer less
+    ∙ ap (λ (l : LayerState). take i layers ++ l ∷ []) (sym is)) ∙ has_push (take i layers) layer b
 
 -- a block that was found begins below the capacity
-has_page : (page : Option PageState) → list_any (λ k. is_some (sector_of page k)) (range_with_len 0 128) ≡ true → IsSome page
+has_page : (page : Option PageState)
+    → list_any (λ k. is_some (sector_of page k)) (range_with_len 0 128) ≡ true → IsSome page
 has_page None is = absurd (false≢true is)
 has_page (Some page) is = refl
 
-pub found_within : (c : ℕ) (layers : List LayerState) (b : ℕ) → AllByRecursion (IsWithin c) layers → has_found layers b ≡ true → 128 * b < c
+pub found_within : (c : ℕ) (layers : List LayerState) (b : ℕ) → AllByRecursion (IsWithin c) layers
+    → has_found layers b ≡ true → 128 * b < c
 found_within c [] b within is = absurd (false≢true is)
 found_within c (l ∷ layers) b within is =
-    either (has_found layers b) (has_sector l b) (sym (any-or (λ k. is_some (found layers b k)) (λ k. is_some (sector_in l b k)) (λ k. is_some (found (l ∷ layers) b k)) (range_with_len 0 128) (λ k. some (found layers b k) (sector_in l b k))) ∙ is)
-    (λ early. found_within c layers b within.1 early) (λ here. within.0 b (has_page (slot_of l b) here))
+    either (has_found layers b) (has_sector l b)
+    (sym (any-or (λ k. is_some (found layers b k)) (λ k. is_some (sector_in l b k))
+    (λ k. is_some (found (l ∷ layers) b k)) (range_with_len 0 128)
+    (λ k. some (found layers b k) (sector_in l b k))) ∙ is)
+    (λ early. found_within c layers b within.1 early)
+    (λ here. within.0 b (has_page (slot_of l b) here))
   where
     some : (x y : Option Sector) → is_some (option_or x y) ≡ (is_some x || is_some y)
     some None y = refl
@@ -113,19 +152,31 @@ found_within c (l ∷ layers) b within is =
     either true y h f g = f refl
     either false y h f g = g h
 
-pub take_within : (c n : ℕ) (layers : List LayerState) → AllByRecursion (IsWithin c) layers → AllByRecursion (IsWithin c) (take n layers)
+pub take_within : (c n : ℕ) (layers : List LayerState) → AllByRecursion (IsWithin c) layers
+    → AllByRecursion (IsWithin c) (take n layers)
 take_within c zero layers within = tt
 take_within c (suc n) [] within = tt
 take_within c (suc n) (l ∷ layers) within = (within.0, take_within c n layers within.1)
 
-in_itself : (blocks : List ℕ) (k d : ℕ) → k < length blocks → list_any (nat_eq (get_or blocks k d)) blocks ≡ true
+in_itself : (blocks : List ℕ) (k d : ℕ) → k < length blocks
+    → list_any (nat_eq (get_or blocks k d)) blocks ≡ true
 in_itself [] k d less = absurd (omega (arith, less))
 in_itself (b ∷ blocks) zero d less = ap (λ x. x || list_any (nat_eq b) blocks) (eq-eqb b b refl)
-in_itself (b ∷ blocks) (suc k) d less = ap (λ x. nat_eq (get_or blocks k d) b || x) (in_itself blocks k d (omega (arith, less))) ∙ or_right (nat_eq (get_or blocks k d) b) true refl
+in_itself (b ∷ blocks) (suc k) d less =
+    ap (λ x. nat_eq (get_or blocks k d) b || x) (in_itself blocks k d (omega (arith, less)))
+    ∙ or_right (nat_eq (get_or blocks k d) b) true refl
 
-pub begin_below : (c : ℕ) (layers : List LayerState) (blocks : List ℕ) → AllByRecursion (IsWithin c) layers → ((b : ℕ) → list_any (nat_eq b) blocks ≡ has_found layers b) → All (λ b. 128 * b < c) blocks
-begin_below c layers blocks within members = λ k d less. found_within c layers (get_or blocks k d) within (sym (members (get_or blocks k d)) ∙ in_itself blocks k d less)
+pub begin_below : (c : ℕ) (layers : List LayerState) (blocks : List ℕ)
+    → AllByRecursion (IsWithin c) layers
+    → ((b : ℕ) → list_any (nat_eq b) blocks ≡ has_found layers b) → All (λ b. 128 * b < c) blocks
+begin_below c layers blocks within members =
+    λ k d less. found_within c layers (get_or blocks k d) within (sym (members (get_or blocks k d))
+    ∙ in_itself blocks k d less)
 
-pub areas_same : (c : ℕ) (layers : List LayerState) (blocks : List ℕ) → ((b : ℕ) → list_any (nat_eq b) blocks ≡ has_found layers b) → areas_of c blocks ≡ areas_of c (blocks_in c layers)
-areas_same c layers blocks members = runs_of-same (in_blocks blocks) (in_blocks (blocks_in c layers)) c
-    (λ s less. members (s / 128) ∙ sym (in_range (has_found layers) (s / 128) (block_count c) (omega (arith, less))))
+pub areas_same : (c : ℕ) (layers : List LayerState) (blocks : List ℕ)
+    → ((b : ℕ) → list_any (nat_eq b) blocks ≡ has_found layers b)
+    → areas_of c blocks ≡ areas_of c (blocks_in c layers)
+areas_same c layers blocks members =
+    runs_of-same (in_blocks blocks) (in_blocks (blocks_in c layers)) c
+    (λ s less. members (s / 128)
+    ∙ sym (in_range (has_found layers) (s / 128) (block_count c) (omega (arith, less))))

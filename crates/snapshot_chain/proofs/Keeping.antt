@@ -9,32 +9,40 @@ use Rattle.snapshot_chain.specs.declared.chain.ChainRefused.TheVariants.{NoMemor
 use Rattle.snapshot_chain.specs.Chain.{ChainState, IsKeptAfter}
 use Rattle.snapshot_chain.specs.Kept.{AreIds}
 
-pub ids-push : (free id : ℕ) (ids : List ℕ) → free ≤ id → AreIds free ids → AreIds (id + 1) (ids ++ id ∷ [])
+pub ids-push : (free id : ℕ) (ids : List ℕ) → free ≤ id → AreIds free ids
+    → AreIds (id + 1) (ids ++ id ∷ [])
 ids-push free id [] le are = (omega arith, refl, tt)
 ids-push free id (j ∷ ids) le are = (
   omega (arith, le, are.0),
-  list_any-append (nat_eq j) ids (id ∷ []) ∙ or_from (list_any (nat_eq j) ids) (eqb j id || false) are.1 (rw (ne_eqb j id (λ same. omega (arith, same, le, are.0))) refl),
+  list_any-append (nat_eq j) ids (id ∷ [])
+      ∙ or_from (list_any (nat_eq j) ids) (eqb j id || false) are.1
+      (rw (ne_eqb j id (λ same. omega (arith, same, le, are.0))) refl),
   ids-push free id ids le are.2,
 )
 
-remove-none : (p : ℕ → Bool) (ids : List ℕ) (i : ℕ) → list_any p ids ≡ false → list_any p (remove ids i) ≡ false
+remove-none : (p : ℕ → Bool) (ids : List ℕ) (i : ℕ) → list_any p ids ≡ false
+    → list_any p (remove ids i) ≡ false
 remove-none p [] zero none = refl
 remove-none p [] (suc i) none = refl
 remove-none p (j ∷ ids) zero none = (or_parts (p j) (list_any p ids) none).1
-remove-none p (j ∷ ids) (suc i) none = or_from (p j) (list_any p (remove ids i)) ((or_parts (p j) (list_any p ids) none).0) (remove-none p ids i ((or_parts (p j) (list_any p ids) none).1))
+remove-none p (j ∷ ids) (suc i) none =
+    or_from (p j) (list_any p (remove ids i)) ((or_parts (p j) (list_any p ids) none).0)
+    (remove-none p ids i ((or_parts (p j) (list_any p ids) none).1))
 
 pub ids-remove : (free : ℕ) (ids : List ℕ) (i : ℕ) → AreIds free ids → AreIds free (remove ids i)
 ids-remove free [] zero are = tt
 ids-remove free [] (suc i) are = tt
 ids-remove free (j ∷ ids) zero are = are.2
-ids-remove free (j ∷ ids) (suc i) are = (are.0, remove-none (nat_eq j) ids i are.1, ids-remove free ids i are.2)
+ids-remove free (j ∷ ids) (suc i) are =
+    (are.0, remove-none (nat_eq j) ids i are.1, ids-remove free ids i are.2)
 
 module _ {X : Type 0} (P : X → Type 0) where
   pub all-push : (xs : List X) (x : X) → AllByRecursion P xs → P x → AllByRecursion P (xs ++ x ∷ [])
   all-push [] x each here = (here, tt)
   all-push (y ∷ xs) x each here = (each.0, all-push xs x each.1 here)
 
-  pub all-set : (xs : List X) (i : ℕ) (x : X) → AllByRecursion P xs → P x → AllByRecursion P (set xs i x)
+  pub all-set : (xs : List X) (i : ℕ) (x : X) → AllByRecursion P xs → P x
+      → AllByRecursion P (set xs i x)
   all-set [] i x each here = tt
   all-set (y ∷ xs) zero x each here = (here, each.1)
   all-set (y ∷ xs) (suc i) x each here = (each.0, all-set xs i x each.1 here)
@@ -45,12 +53,15 @@ module _ {X : Type 0} (P : X → Type 0) where
   all-remove (y ∷ xs) zero each = each.1
   all-remove (y ∷ xs) (suc i) each = (each.0, all-remove xs i each.1)
 
-  pub all-at : (xs : List X) (i : ℕ) (d : X) → AllByRecursion P xs → i < length xs → P (get_or xs i d)
+  pub all-at : (xs : List X) (i : ℕ) (d : X) → AllByRecursion P xs → i < length xs
+      → P (get_or xs i d)
   all-at [] i d each less = absurd (omega (arith, less))
   all-at (y ∷ xs) zero d each less = each.0
   all-at (y ∷ xs) (suc i) d each less = all-at xs i d each.1 (omega (arith, less))
 
 -- want of memory leaves all but the room for a merge
-pub no_memory : {T : Type 0} (result : Result T ChainRefused) (old new : ChainState) → IsErrAnd result (λ why. why ≡ NoMemory) → new ≡ record old { merge_room = None } → IsKeptAfter result old new
+pub no_memory : {T : Type 0} (result : Result T ChainRefused) (old new : ChainState)
+    → IsErrAnd result (λ why. why ≡ NoMemory) → new ≡ record old { merge_room = None }
+    → IsKeptAfter result old new
 no_memory (Ok answer) old new is same = tt
 no_memory (Err why) old new is same = rw is same

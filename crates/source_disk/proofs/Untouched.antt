@@ -15,14 +15,20 @@ use Rattle.log_model.proofs.TouchedLaws.{untouched_stays}
 use Rattle.source_disk.specs.SourceDisk.{number_of, capacity_of}
 use Rattle.source_disk.specs.Laws.{UntouchedIsZero}
 
-zero_at : (c sector : ℕ) → sector < c → slice_get (replicate c zero_sector) sector ≡ Some zero_sector
+zero_at : (c sector : ℕ) → sector < c
+    → slice_get (replicate c zero_sector) sector ≡ Some zero_sector
 zero_at c sector less =
-    slice_get-get_or (replicate c zero_sector) sector zero_sector (let long = length-replicate c zero_sector in omega (arith, long, less))
+    slice_get-get_or (replicate c zero_sector) sector zero_sector
+    (let long = length-replicate c zero_sector in omega (arith, long, less))
     ∙ ap (λ (x : Sector). Some x) (get_or-replicate c sector zero_sector zero_sector less)
 
 pub untouched_is_zero : UntouchedIsZero
 untouched_is_zero disks d log s sector legal has less none =
     let blocks = touched (capacity_of d) (number_of d) 0 (mark s log) log in
-    let outside : in_blocks blocks sector ≡ false = second_fails (ltb sector (capacity_of d)) (in_blocks blocks sector) (lt-ltb sector (capacity_of d) less) (sym (in_runs_of (in_blocks blocks) (capacity_of d) sector) ∙ none) in
-    untouched_stays disks (capacity_of d) (number_of d) 0 (mark s log) log sector legal has (omega arith) outside
+    let outside : in_blocks blocks sector ≡ false =
+    second_fails (ltb sector (capacity_of d)) (in_blocks blocks sector)
+    (lt-ltb sector (capacity_of d) less)
+    (sym (in_runs_of (in_blocks blocks) (capacity_of d) sector) ∙ none) in
+    untouched_stays disks (capacity_of d) (number_of d) 0 (mark s log) log sector legal has
+    (omega arith) outside
     ∙ zero_at (capacity_of d) sector less

@@ -29,14 +29,17 @@ use Rattle.source_vm.proofs.LiveLemmas.{ascends-push, owner_in-push, owner_in-wi
 abbrev pub entry : ℕ → Act → Entry
 entry who act = record { who = who; act = act }
 
-tracking-last : (log : List Entry) (e : Entry) → tracking (log ++ e ∷ []) ≡ tracking_after (tracking log) e
+tracking-last : (log : List Entry) (e : Entry)
+    → tracking (log ++ e ∷ []) ≡ tracking_after (tracking log) e
 tracking-last log e = fold-append tracking_after Never log (e ∷ [])
 
-written-last : (log : List Entry) (e : Entry) → written (log ++ e ∷ []) ≡ written log + sectors_of e.act
+written-last : (log : List Entry) (e : Entry)
+    → written (log ++ e ∷ []) ≡ written log + sectors_of e.act
 written-last log e = omega (arith, sum_by-append (λ x. sectors_of x.act) log (e ∷ []))
 
 -- tracking was enabled where an Enable entry stands
-enabled-step : (t : Tracking) (who : ℕ) (act : Act) → was_enabled (tracking_after t (entry who act)) ≡ enabled_after (was_enabled t) (entry who act)
+enabled-step : (t : Tracking) (who : ℕ) (act : Act)
+    → was_enabled (tracking_after t (entry who act)) ≡ enabled_after (was_enabled t) (entry who act)
 enabled-step Never who (Write d f s) = refl
 enabled-step Never who (Snap id by) = refl
 enabled-step Never who (Remove id) = refl
@@ -62,7 +65,8 @@ enabled-step Active who On = refl
 pub was_enabled_is : (log : List Entry) → was_enabled (tracking log) ≡ is_enabled log
 was_enabled_is =
     by_last (λ log. was_enabled (tracking log) ≡ is_enabled log) refl
-    (λ log e h. ap was_enabled (tracking-last log e) ∙ enabled-step (tracking log) e.who e.act ∙ ap (λ b. enabled_after b e) h ∙ sym (enabled-last log e))
+    (λ log e h. ap was_enabled (tracking-last log e) ∙ enabled-step (tracking log) e.who e.act
+    ∙ ap (λ b. enabled_after b e) h ∙ sym (enabled-last log e))
 
 never_enabled : (t : Tracking) → was_enabled t ≡ false → t ≡ Never
 never_enabled Never h = refl
@@ -70,7 +74,8 @@ never_enabled Enabled h = absurd (false≢true (sym h))
 never_enabled Active h = absurd (false≢true (sym h))
 
 -- tracking by a snapshot or a power-on
-started_is : (t : Tracking) (who : ℕ) (act : Act) → (is_snap act ≡ true) ⊎ (is_on act ≡ true) → is_enable act ≡ false → started t ≡ tracking_after t (entry who act)
+started_is : (t : Tracking) (who : ℕ) (act : Act) → (is_snap act ≡ true) ⊎ (is_on act ≡ true)
+    → is_enable act ≡ false → started t ≡ tracking_after t (entry who act)
 started_is t who (Snap id by) h other = by_kind t
   where
     by_kind : (u : Tracking) → started u ≡ tracking_after u (entry who (Snap id by))
@@ -94,36 +99,51 @@ started_is t who Off (inl h) other = absurd (false≢true h)
 started_is t who Off (inr h) other = absurd (false≢true h)
 
 -- tracking by any other act but Enable
-stays_is : (t : Tracking) (who : ℕ) (act : Act) → is_snap act ≡ false → is_on act ≡ false → is_enable act ≡ false → t ≡ tracking_after t (entry who act)
+stays_is : (t : Tracking) (who : ℕ) (act : Act) → is_snap act ≡ false → is_on act ≡ false
+    → is_enable act ≡ false → t ≡ tracking_after t (entry who act)
 stays_is Never who act a b d = sym (ap (λ x. cond x Enabled Never) d)
 stays_is Enabled who act a b d = sym ((λ i. cond (a i || b i) Active Enabled) ∙ refl)
 stays_is Active who act a b d = refl
 
 -- what is kept after an entry that may stand is what the longer log says
 abbrev StandAfter : KeptFacts → List LiveSnap → List Entry → ℕ → Act → Type 0
-StandAfter facts live log who act = FactsStand (facts_after (length log) act facts) (live_after act live) (log ++ entry who act ∷ [])
+StandAfter facts live log who act =
+    FactsStand (facts_after (length log) act facts) (live_after act live)
+    (log ++ entry who act ∷ [])
 
-module _ (facts : KeptFacts) (live : List LiveSnap) (log : List Entry) (who : ℕ) (stand : FactsStand facts live log) where
+module _ (facts : KeptFacts) (live : List LiveSnap) (log : List Entry) (who : ℕ)
+    (stand : FactsStand facts live log) where
   -- of a log with one entry more
   on_is : (act : Act) → on_after facts.on (entry who act) ≡ machine_on (log ++ entry who act ∷ [])
-  on_is act = ap (λ b. on_after b (entry who act)) stand.on ∙ sym (machine_on-last log (entry who act))
+  on_is act = ap (λ b. on_after b (entry who act)) stand.on
+      ∙ sym (machine_on-last log (entry who act))
 
-  tracked_is : (act : Act) → tracking_after facts.tracking (entry who act) ≡ tracking (log ++ entry who act ∷ [])
-  tracked_is act = ap (λ t. tracking_after t (entry who act)) stand.tracked ∙ sym (tracking-last log (entry who act))
+  tracked_is : (act : Act)
+      → tracking_after facts.tracking (entry who act) ≡ tracking (log ++ entry who act ∷ [])
+  tracked_is act = ap (λ t. tracking_after t (entry who act)) stand.tracked
+      ∙ sym (tracking-last log (entry who act))
 
-  taken_is : (act : Act) → facts.taken + taken (entry who act ∷ []) ≡ taken (log ++ entry who act ∷ [])
-  taken_is act = ap (λ n. n + taken (entry who act ∷ [])) stand.snapped ∙ sym (taken-append log (entry who act ∷ []))
+  taken_is : (act : Act)
+      → facts.taken + taken (entry who act ∷ []) ≡ taken (log ++ entry who act ∷ [])
+  taken_is act = ap (λ n. n + taken (entry who act ∷ [])) stand.snapped
+      ∙ sym (taken-append log (entry who act ∷ []))
 
   written_is : (act : Act) → facts.written + sectors_of act ≡ written (log ++ entry who act ∷ [])
-  written_is act = ap (λ n. n + sectors_of act) stand.sectors ∙ sym (written-last log (entry who act))
+  written_is act = ap (λ n. n + sectors_of act) stand.sectors
+      ∙ sym (written-last log (entry who act))
 
-  off_is : (act : Act) → off_after facts.last_off (length log, entry who act) ≡ last_off (log ++ entry who act ∷ [])
-  off_is act = ap (λ o. off_after o (length log, entry who act)) stand.off ∙ sym (last_off-last log (entry who act))
+  off_is : (act : Act) → off_after facts.last_off (length log, entry who act)
+      ≡ last_off (log ++ entry who act ∷ [])
+  off_is act = ap (λ o. off_after o (length log, entry who act)) stand.off
+      ∙ sym (last_off-last log (entry who act))
 
-  owner_is : (act : Act) (s : ℕ) → owner_after s (owner_in s live) (entry who act) ≡ owner_of s (log ++ entry who act ∷ [])
-  owner_is act s = ap (λ o. owner_after s o (entry who act)) (stand.owners s) ∙ sym (owner_of-last s log (entry who act))
+  owner_is : (act : Act) (s : ℕ)
+      → owner_after s (owner_in s live) (entry who act) ≡ owner_of s (log ++ entry who act ∷ [])
+  owner_is act s = ap (λ o. owner_after s o (entry who act)) (stand.owners s)
+      ∙ sym (owner_of-last s log (entry who act))
 
-  pub stand_after : (disks : Disks) (act : Act) → ActMayStand disks log who act → StandAfter facts live log who act
+  pub stand_after : (disks : Disks) (act : Act) → ActMayStand disks log who act
+      → StandAfter facts live log who act
   stand_after disks (Write d f s) may = record {
     on = on_is (Write d f s);
     tracked = stays_is facts.tracking who (Write d f s) refl refl refl ∙ tracked_is (Write d f s);
@@ -136,15 +156,20 @@ module _ (facts : KeptFacts) (live : List LiveSnap) (log : List Entry) (who : �
   }
   stand_after disks (Snap id by) may =
       let next : id ≡ facts.taken + 1 = may.0 ∙ ap (λ n. n + 1) (sym stand.snapped) in
-      let below : All (λ s. s.id < id) live = All-weaker (λ s. s.id ≤ facts.taken) (λ s. s.id < id) (λ s le. omega (arith, le, next)) live stand.were_taken in
+      let below : All (λ s. s.id < id) live =
+      All-weaker (λ s. s.id ≤ facts.taken) (λ s. s.id < id) (λ s le. omega (arith, le, next))
+      live stand.were_taken in
       record {
         on = on_is (Snap id by);
-        tracked = started_is facts.tracking who (Snap id by) (inl refl) refl ∙ tracked_is (Snap id by);
+        tracked = started_is facts.tracking who (Snap id by) (inl refl) refl
+            ∙ tracked_is (Snap id by);
         snapped = next ∙ taken_is (Snap id by);
         sectors = sym (add-zero facts.written) ∙ written_is (Snap id by);
         off = off_is (Snap id by);
         ascending = ascends-push live (snap id by) stand.ascending below;
-        were_taken = All-push (λ s. s.id ≤ id) live (snap id by) (All-weaker (λ s. s.id ≤ facts.taken) (λ s. s.id ≤ id) (λ s le. omega (arith, le, next)) live stand.were_taken) (omega arith);
+        were_taken = All-push (λ s. s.id ≤ id) live (snap id by)
+            (All-weaker (λ s. s.id ≤ facts.taken) (λ s. s.id ≤ id) (λ s le. omega (arith, le, next))
+            live stand.were_taken) (omega arith);
         owners = λ s. owner_in-push s live (snap id by) below ∙ owner_is (Snap id by) s;
       }
   stand_after disks (Remove id) may = record {
@@ -153,8 +178,10 @@ module _ (facts : KeptFacts) (live : List LiveSnap) (log : List Entry) (who : �
     snapped = sym (add-zero facts.taken) ∙ taken_is (Remove id);
     sectors = sym (add-zero facts.written) ∙ written_is (Remove id);
     off = off_is (Remove id);
-    ascending = AllPairs-filter (λ x later. x.id < later.id) (λ x. not (eqb x.id id)) live stand.ascending;
-    were_taken = All-filter (λ x. not (eqb x.id id)) (λ s. s.id ≤ facts.taken) live stand.were_taken;
+    ascending = AllPairs-filter (λ x later. x.id < later.id) (λ x. not (eqb x.id id)) live
+        stand.ascending;
+    were_taken = All-filter (λ x. not (eqb x.id id)) (λ s. s.id ≤ facts.taken) live
+        stand.were_taken;
     owners = λ s. owner_in-without s id live ∙ owner_is (Remove id) s;
   }
   stand_after disks (Reset d) may = record {
@@ -168,7 +195,8 @@ module _ (facts : KeptFacts) (live : List LiveSnap) (log : List Entry) (who : �
     owners = owner_is (Reset d);
   }
   stand_after disks Enable may =
-      let never : facts.tracking ≡ Never = never_enabled facts.tracking (ap was_enabled stand.tracked ∙ was_enabled_is log ∙ may) in
+      let never : facts.tracking ≡ Never =
+      never_enabled facts.tracking (ap was_enabled stand.tracked ∙ was_enabled_is log ∙ may) in
       record {
         on = on_is Enable;
         tracked = sym (ap (λ t. tracking_after t (entry who Enable)) never) ∙ tracked_is Enable;

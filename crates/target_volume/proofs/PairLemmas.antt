@@ -1,4 +1,5 @@
--- Lists of pairs of a key and a value: what is found after a pair was put in or taken out, what maps
+-- Lists of pairs of a key and a value: what is found after a pair was put in or taken out, what
+-- maps
 -- of the values leave, and that their order stays.
 use Rattle.std.proofs.Common.{◌≡◌, Bool, true, false, not, cond, List, [], ◌∷◌, map, Option, Some, None, option_map, option_and_then, Ordering, Less, Equal, Greater, is_eq, ap, sym, ◌∙◌, subst, refl}
 use Rattle.std.proofs.lemmas.Cmp.{tied_itself, alike_right}
@@ -24,9 +25,11 @@ module _ {K X : Type 0} {R : K → K → Ordering} (o : IsTotalOrder R) where
 
   same_step : (k : K) (x : X) (e : K × X) (es : List (K × X)) (r : Ordering) → R k e.0 ≡ r
       → lookup (is_at (R k)) (insert_entry R es k x) ≡ Some x
-      → lookup (is_at (R k)) (match_ordering r ((k, x) ∷ e ∷ es) ((e.0, x) ∷ es) (e ∷ insert_entry R es k x))
+      → lookup (is_at (R k))
+      (match_ordering r ((k, x) ∷ e ∷ es) ((e.0, x) ∷ es) (e ∷ insert_entry R es k x))
       ≡ Some x
-  same_step k x e es Less h rest = ap (λ b. cond b (Some x) (lookup (is_at (R k)) (e ∷ es))) (at_self o k)
+  same_step k x e es Less h rest =
+      ap (λ b. cond b (Some x) (lookup (is_at (R k)) (e ∷ es))) (at_self o k)
   same_step k x e es Equal h rest = ap (λ b. cond (is_eq b) (Some x) (lookup (is_at (R k)) es)) h
   same_step k x e es Greater h rest =
       ap (λ b. cond (is_eq b) (Some e.1) (lookup (is_at (R k)) (insert_entry R es k x))) h ∙ rest
@@ -40,7 +43,8 @@ module _ {K X : Type 0} {R : K → K → Ordering} (o : IsTotalOrder R) where
   other_step : (k q : K) (x : X) (e : K × X) (es : List (K × X)) (r : Ordering) → R k e.0 ≡ r
       → is_at (R q) k ≡ false
       → lookup (is_at (R q)) (insert_entry R es k x) ≡ lookup (is_at (R q)) es
-      → lookup (is_at (R q)) (match_ordering r ((k, x) ∷ e ∷ es) ((e.0, x) ∷ es) (e ∷ insert_entry R es k x))
+      → lookup (is_at (R q))
+      (match_ordering r ((k, x) ∷ e ∷ es) ((e.0, x) ∷ es) (e ∷ insert_entry R es k x))
       ≡ lookup (is_at (R q)) (e ∷ es)
   other_step k q x e es Less h apart rest =
       ap (λ b. cond b (Some x) (lookup (is_at (R q)) (e ∷ es))) apart
@@ -59,7 +63,8 @@ module _ {K X : Type 0} {R : K → K → Ordering} (o : IsTotalOrder R) where
   -- the second of two values under one key is the one that stands
   again_step : (k : K) (x y : X) (e : K × X) (es : List (K × X)) (r : Ordering) → R k e.0 ≡ r
       → insert_entry R (insert_entry R es k x) k y ≡ insert_entry R es k y
-      → insert_entry R (match_ordering r ((k, x) ∷ e ∷ es) ((e.0, x) ∷ es) (e ∷ insert_entry R es k x)) k y
+      → insert_entry R (match_ordering r ((k, x) ∷ e ∷ es) ((e.0, x) ∷ es)
+      (e ∷ insert_entry R es k x)) k y
       ≡ match_ordering r ((k, y) ∷ e ∷ es) ((e.0, y) ∷ es) (e ∷ insert_entry R es k y)
   again_step k x y e es Less h rest =
       ap (λ c. match_ordering c ((k, y) ∷ (k, x) ∷ e ∷ es) ((k, y) ∷ e ∷ es)
@@ -68,7 +73,8 @@ module _ {K X : Type 0} {R : K → K → Ordering} (o : IsTotalOrder R) where
       ap (λ c. match_ordering c ((k, y) ∷ (e.0, x) ∷ es) ((e.0, y) ∷ es)
       ((e.0, x) ∷ insert_entry R es k y)) h
   again_step k x y e es Greater h rest =
-      ap (λ c. match_ordering c ((k, y) ∷ e ∷ insert_entry R es k x) ((e.0, y) ∷ insert_entry R es k x)
+      ap (λ c. match_ordering c ((k, y) ∷ e ∷ insert_entry R es k x)
+      ((e.0, y) ∷ insert_entry R es k x)
       (e ∷ insert_entry R (insert_entry R es k x) k y)) h
       ∙ ap (λ l. e ∷ l) rest
 
@@ -89,7 +95,8 @@ module _ {K X : Type 0} {R : K → K → Ordering} (o : IsTotalOrder R) where
   gone_step k e rest false h gone =
       ap (λ b. cond b (Some e.1) (lookup (is_at (R k)) rest)) h ∙ gone
 
-  pub lookup-without_same : (k : K) (es : List (K × X)) → lookup (is_at (R k)) (without R k es) ≡ None
+  pub lookup-without_same : (k : K) (es : List (K × X))
+      → lookup (is_at (R k)) (without R k es) ≡ None
   lookup-without_same k [] = refl
   lookup-without_same k (e ∷ es) =
       gone_step k e (without R k es) (is_at (R k) e.0) refl (lookup-without_same k es)
@@ -159,7 +166,8 @@ map_values f es = map (λ e. (e.0, f e.1)) es
 module _ {K X Y : Type 0} (R : K → K → Ordering) (f : X → Y) where
   mapped_step : (k : K) (x : X) (e : K × X) (es : List (K × X)) (r : Ordering)
       → map_values f (insert_entry R es k x) ≡ insert_entry R (map_values f es) k (f x)
-      → map_values f (match_ordering r ((k, x) ∷ e ∷ es) ((e.0, x) ∷ es) (e ∷ insert_entry R es k x))
+      → map_values f (match_ordering r ((k, x) ∷ e ∷ es) ((e.0, x) ∷ es)
+      (e ∷ insert_entry R es k x))
       ≡ match_ordering r ((k, f x) ∷ (e.0, f e.1) ∷ map_values f es) ((e.0, f x) ∷ map_values f es)
       ((e.0, f e.1) ∷ insert_entry R (map_values f es) k (f x))
   mapped_step k x e es Less rest = refl
@@ -197,7 +205,8 @@ module _ {K V : Type 0} {R : K → K → Ordering} (o : IsTotalOrder R) where
       → AllByRecursion (λ y. R k y ≡ Less) (keys_of es) → insert_entry R es k v ≡ (k, v) ∷ es
   insert_below k v [] below = refl
   insert_below k v (e ∷ es) below =
-      ap (λ c. match_ordering c ((k, v) ∷ e ∷ es) ((e.0, v) ∷ es) (e ∷ insert_entry R es k v)) below.0
+      ap (λ c. match_ordering c ((k, v) ∷ e ∷ es) ((e.0, v) ∷ es) (e ∷ insert_entry R es k v))
+      below.0
 
   -- and isn't among them
   pub missing_below : (k : K) (es : List (K × V))
@@ -343,7 +352,8 @@ module _ {K X Y : Type 0} {R : K → K → Ordering} (o : IsTotalOrder R) (g : X
   unfolding IsStrictlySortedBy
   sorted_kept [] sorted = tt
   sorted_kept (e ∷ es) sorted =
-      sorted_step e (kept_values g es) (g e.1) (below_kept e.0 es sorted.0) (sorted_kept es sorted.1)
+      sorted_step e (kept_values g es) (g e.1) (below_kept e.0 es sorted.0)
+      (sorted_kept es sorted.1)
 
   -- ---- what a look-up finds of those that are kept
 
@@ -378,7 +388,8 @@ module _ {K X Y : Type 0} {R : K → K → Ordering} (o : IsTotalOrder R) (g : X
       (v : Option Y) (r : Ordering) → g x ≡ Some y → g e.1 ≡ v → R k e.0 ≡ r
       → AllByRecursion (λ y. R e.0 y ≡ Less) (keys_of es)
       → kept_values g (insert_entry R es k x) ≡ insert_entry R (kept_values g es) k y
-      → kept_values g (match_ordering r ((k, x) ∷ e ∷ es) ((e.0, x) ∷ es) (e ∷ insert_entry R es k x))
+      → kept_values g (match_ordering r ((k, x) ∷ e ∷ es) ((e.0, x) ∷ es)
+      (e ∷ insert_entry R es k x))
       ≡ insert_entry R (cons_option (option_map (λ y. (e.0, y)) v) (kept_values g es)) k y
   goes_in exact k x y e es None Less kept was h below rest =
       let all : AllByRecursion (λ y. R k y ≡ Less) (keys_of es) = below_all o k e es h below in
@@ -390,7 +401,8 @@ module _ {K X Y : Type 0} {R : K → K → Ordering} (o : IsTotalOrder R) (g : X
       ap (λ w. cons_option (option_map (λ z. (k, z)) w)
       (cons_option (option_map (λ z. (e.0, z)) (g e.1)) (kept_values g es))) kept
       ∙ ap (λ w. (k, y) ∷ cons_option (option_map (λ z. (e.0, z)) w) (kept_values g es)) was
-      ∙ sym (ap (λ c. match_ordering c ((k, y) ∷ (e.0, z) ∷ kept_values g es) ((e.0, y) ∷ kept_values g es)
+      ∙ sym (ap (λ c. match_ordering c ((k, y) ∷ (e.0, z) ∷ kept_values g es)
+      ((e.0, y) ∷ kept_values g es)
       ((e.0, z) ∷ insert_entry R (kept_values g es) k y)) h)
   goes_in exact k x y e es None Equal kept was h below rest =
       let all : AllByRecursion (λ y. R k y ≡ Less) (keys_of es) = like_all o k e es h below in
@@ -399,15 +411,19 @@ module _ {K X Y : Type 0} {R : K → K → Ordering} (o : IsTotalOrder R) (g : X
       ∙ sym (insert_below o k y (kept_values g es) (below_kept k es all))
   goes_in exact k x y e es (Some z) Equal kept was h below rest =
       ap (λ w. cons_option (option_map (λ z. (e.0, z)) w) (kept_values g es)) kept
-      ∙ sym (ap (λ c. match_ordering c ((k, y) ∷ (e.0, z) ∷ kept_values g es) ((e.0, y) ∷ kept_values g es)
+      ∙ sym (ap (λ c. match_ordering c ((k, y) ∷ (e.0, z) ∷ kept_values g es)
+      ((e.0, y) ∷ kept_values g es)
       ((e.0, z) ∷ insert_entry R (kept_values g es) k y)) h)
   goes_in exact k x y e es None Greater kept was h below rest =
-      ap (λ w. cons_option (option_map (λ z. (e.0, z)) w) (kept_values g (insert_entry R es k x))) was
+      ap (λ w. cons_option (option_map (λ z. (e.0, z)) w) (kept_values g (insert_entry R es k x)))
+      was
       ∙ rest
   goes_in exact k x y e es (Some z) Greater kept was h below rest =
-      ap (λ w. cons_option (option_map (λ z. (e.0, z)) w) (kept_values g (insert_entry R es k x))) was
+      ap (λ w. cons_option (option_map (λ z. (e.0, z)) w) (kept_values g (insert_entry R es k x)))
+      was
       ∙ ap (λ l. (e.0, z) ∷ l) rest
-      ∙ sym (ap (λ c. match_ordering c ((k, y) ∷ (e.0, z) ∷ kept_values g es) ((e.0, y) ∷ kept_values g es)
+      ∙ sym (ap (λ c. match_ordering c ((k, y) ∷ (e.0, z) ∷ kept_values g es)
+      ((e.0, y) ∷ kept_values g es)
       ((e.0, z) ∷ insert_entry R (kept_values g es) k y)) h)
 
   pub kept-insert_entry : (exact : CmpEqualImpliesEq R) (k : K) (x : X) (y : Y) (es : List (K × X))
@@ -426,7 +442,8 @@ module _ {K X Y : Type 0} {R : K → K → Ordering} (o : IsTotalOrder R) (g : X
       → g x ≡ None → g e.1 ≡ v → R k e.0 ≡ r
       → AllByRecursion (λ y. R e.0 y ≡ Less) (keys_of es)
       → kept_values g (insert_entry R es k x) ≡ without R k (kept_values g es)
-      → kept_values g (match_ordering r ((k, x) ∷ e ∷ es) ((e.0, x) ∷ es) (e ∷ insert_entry R es k x))
+      → kept_values g (match_ordering r ((k, x) ∷ e ∷ es) ((e.0, x) ∷ es)
+      (e ∷ insert_entry R es k x))
       ≡ without R k (cons_option (option_map (λ y. (e.0, y)) v) (kept_values g es))
   goes_out k x e es None Less lost was h below rest =
       let all : AllByRecursion (λ y. R k y ≡ Less) (keys_of es) = below_all o k e es h below in
@@ -457,10 +474,12 @@ module _ {K X Y : Type 0} {R : K → K → Ordering} (o : IsTotalOrder R) (g : X
       ∙ without_missing o k (kept_values g es)
       (missing_below o k (kept_values g es) (below_kept k es all)))
   goes_out k x e es None Greater lost was h below rest =
-      ap (λ w. cons_option (option_map (λ z. (e.0, z)) w) (kept_values g (insert_entry R es k x))) was
+      ap (λ w. cons_option (option_map (λ z. (e.0, z)) w) (kept_values g (insert_entry R es k x)))
+      was
       ∙ rest
   goes_out k x e es (Some z) Greater lost was h below rest =
-      ap (λ w. cons_option (option_map (λ z. (e.0, z)) w) (kept_values g (insert_entry R es k x))) was
+      ap (λ w. cons_option (option_map (λ z. (e.0, z)) w) (kept_values g (insert_entry R es k x)))
+      was
       ∙ ap (λ l. (e.0, z) ∷ l) rest
       ∙ sym (ap (λ c. cond (not (is_eq c)) ((e.0, z) ∷ without R k (kept_values g es))
       (without R k (kept_values g es))) h)

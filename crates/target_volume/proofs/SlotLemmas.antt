@@ -36,7 +36,8 @@ put_step : (sound : Bool) (faults : ℕ) (name : VolumeName) (slot : Slot) (e : 
     (es : List (VolumeName × Slot)) (r : Ordering) → IsCountedIn sound faults (slot_state slot)
     → IsCountedIn sound faults (slot_state e.1) → AreCountedByRecursion sound faults es
     → AreCountedByRecursion sound faults (insert_entry volume_cmp es name slot)
-    → AreCountedByRecursion sound faults (match_ordering r ((name, slot) ∷ e ∷ es) ((e.0, slot) ∷ es)
+    → AreCountedByRecursion sound faults
+    (match_ordering r ((name, slot) ∷ e ∷ es) ((e.0, slot) ∷ es)
     (e ∷ insert_entry volume_cmp es name slot))
 put_step sound faults name slot e es Less put first kept rest = (put, (first, kept))
 put_step sound faults name slot e es Equal put first kept rest = (put, kept)
@@ -44,7 +45,8 @@ put_step sound faults name slot e es Greater put first kept rest = (first, rest)
 
 put_each : (sound : Bool) (faults : ℕ) (name : VolumeName) (slot : Slot)
     (es : List (VolumeName × Slot)) → IsCountedIn sound faults (slot_state slot)
-    → AreCountedByRecursion sound faults es → AreCountedByRecursion sound faults (insert_entry volume_cmp es name slot)
+    → AreCountedByRecursion sound faults es
+    → AreCountedByRecursion sound faults (insert_entry volume_cmp es name slot)
 put_each sound faults name slot [] put kept = (put, tt)
 put_each sound faults name slot (e ∷ es) put kept =
     put_step sound faults name slot e es (volume_cmp name e.0) put kept.0 kept.1
@@ -85,7 +87,8 @@ found_each sound faults t (e ∷ es) slot kept found =
 
 pub kept_put : (sound : Bool) (faults : ℕ) (name : VolumeName) (slot : Slot)
     (es : List (VolumeName × Slot)) → IsCountedIn sound faults (slot_state slot)
-    → AreCountedIn sound faults es → AreCountedIn sound faults (insert_entry volume_cmp es name slot)
+    → AreCountedIn sound faults es
+    → AreCountedIn sound faults (insert_entry volume_cmp es name slot)
 kept_put sound faults name slot es put kept =
     All-from_recursion (CountedAt sound faults) (insert_entry volume_cmp es name slot)
     (put_each sound faults name slot es put (recursion_from_All (CountedAt sound faults) es kept))
@@ -121,7 +124,8 @@ whole_called sound failing calls after es whole same later = record {
 -- a slot that is put in
 pub whole_put : (sound : Bool) (failing : List ℕ) (calls : CallLog) (name : VolumeName)
     (slot : Slot) (es after : List (VolumeName × Slot)) → IsWhole sound failing calls es
-    → IsCountedIn sound calls.faults (slot_state slot) → after ≡ insert_entry volume_cmp es name slot
+    → IsCountedIn sound calls.faults (slot_state slot)
+    → after ≡ insert_entry volume_cmp es name slot
     → AreAscending after → IsWhole sound failing calls after
 whole_put sound failing calls name slot es after whole put is ordered = record {
   own = whole.own;
@@ -222,7 +226,8 @@ pub capacity_at : (name : VolumeName) (es : List (VolumeName × Slot)) (found : 
     ≡ option_map (λ v. v.capacity) (find_volume name (told_of (slots_of es)))
 capacity_at name es found is =
     capacity_in found
-    ∙ ap (λ o. option_map (λ (v : StoredVolume). v.capacity) (option_map stored_of (option_map slot_state o))) is
+    ∙ ap (λ o. option_map (λ (v : StoredVolume). v.capacity)
+    (option_map stored_of (option_map slot_state o))) is
     ∙ sym (ap (option_map (λ (v : StoredVolume). v.capacity)) (told_at name es))
 
 told_some : (found : Option Slot)
@@ -289,7 +294,8 @@ lends_created s now after calls name capacity vol same ordered none given called
       sized = length-replicate capacity (filled s.junk);
       free = loans_found name s.slots ordered ∙ ap (option_and_then loan_in) none;
       lent = ap store_state left
-          ∙ lending s calls (counted_by 1 s.created) name (record { capacity = capacity; faults = 0 })
+          ∙ lending s calls (counted_by 1 s.created) name
+          (record { capacity = capacity; faults = 0 })
           ordered (ap (λ (l : CallLog). l.faults) called);
       counted = omega arith;
       sound = λ t. none_given (counted_by 1 s.created) s.failing (given t);
@@ -392,7 +398,8 @@ pub home_at : (name : VolumeName) (capacity faults : ℕ) (es : List (VolumeName
     → IsHome capacity (find_volume name (slots_of es))
 home_at name capacity faults es home =
     home_only capacity faults (find_volume name (slots_of es))
-    (subst (λ (o : Option SlotState). IsHomeWith capacity faults o) (sym (slots_found name es)) home)
+    (subst (λ (o : Option SlotState). IsHomeWith capacity faults o) (sym (slots_found name es))
+    home)
 
 -- ---- taking back
 
@@ -426,7 +433,8 @@ not_lent (Some slot) lent none = cc
 -- its count of faults as it went out is in the store's
 lent_inside : (sound : Bool) (faults lent : ℕ) (found : Option Slot)
     → IsLentWith lent (option_map slot_state found)
-    → ((slot : Slot) → found ≡ Some slot → IsCountedIn sound faults (slot_state slot)) → lent ≤ faults
+    → ((slot : Slot) → found ≡ Some slot → IsCountedIn sound faults (slot_state slot))
+    → lent ≤ faults
 lent_inside sound faults lent None with kept = absurd with
 lent_inside sound faults lent (Some (SlotHome held)) with kept = absurd with
 lent_inside sound faults lent (Some (SlotLent c f)) with kept =
@@ -504,7 +512,8 @@ pub kept_state : (s now : MemVolumesState) (v vol : MemVolumeState) (calls : Cal
     → find_volume v.name s.slots ≡ found → IsLentWith lent found
     → find_volume vol.name now.slots ≡ Some (Lent loan)
     → record s { calls = calls; sound = sound; slots = slots } ≡ after_keeping loan.faults vol now
-kept_state s now v vol calls sound slots lent loan found same samev called both put there with lentout =
+kept_state s now v vol calls sound slots lent loan found same samev called both put there with
+    lentout =
     let here : find_volume v.name s.slots ≡ Some (Lent loan) =
     ap (λ (p : MemVolumeState × MemVolumesState). find_volume p.0.name p.1.slots)
     (pair samev same) ∙ lentout in
@@ -665,7 +674,8 @@ orderly s es is ordered kept =
           (λ v. IsSome v.contents ⊎ IsSome o)) (sym (loans_found name s.slots ascending))
           (home_case (find_volume name s.slots)));
       sized = λ name.
-          subst (λ (o : Option StoredVolume). IfSome o (λ v. IfSome v.contents (IsSized v.capacity)))
+          subst (λ (o : Option StoredVolume). IfSome o
+          (λ v. IfSome v.contents (IsSized v.capacity)))
           (sym (told_found name s.slots))
           (sized_case s.sound s.calls.faults (find_volume name s.slots) (each name));
     }

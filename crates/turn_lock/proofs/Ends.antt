@@ -23,14 +23,16 @@ use Rattle.turn_lock.proofs.Joins.{left_none}
 
 module _ {X F E : Type 0} (frame : X → F) (story_of : X → List E) (who : E → ℕ) where
   -- only the seat 0 is there, and it has the view of the first
-  only_first : (x : X) (P : ℕ → View F E → Type 0) → P 0 (first_view frame story_of x) → (id : ℕ) (v : View F E) → get_elem? (first_view frame story_of x ∷ []) id ≡ some v → P id v
+  only_first : (x : X) (P : ℕ → View F E → Type 0) → P 0 (first_view frame story_of x)
+      → (id : ℕ) (v : View F E) → get_elem? (first_view frame story_of x ∷ []) id ≡ some v → P id v
   only_first x P p zero v e = subst (P 0) (some-injective (first_view frame story_of x) v e) p
   only_first x P p (suc id) v e = absurd (some-ne-none v (sym e))
 
   nothing_yet : (x : X) (n : ℕ) → added_by who n (length (story_of x)) (story_of x) ≡ []
   nothing_yet x n = ap (filter (is_by who n)) (drop-length (story_of x))
 
-  pub opens : (x : X) → K frame story_of who (beginning_of frame story_of x) (opening (1 ∷ 0 ∷ 0 ∷ []) (Some x ∷ []) (first_view frame story_of x))
+  pub opens : (x : X) → K frame story_of who (beginning_of frame story_of x)
+      (opening (1 ∷ 0 ∷ 0 ∷ []) (Some x ∷ []) (first_view frame story_of x))
   opens x =
       let place : ℕ → Whereabouts = put (λ _. free) 0 (seated 0) in
       let v : View F E = first_view frame story_of x in
@@ -45,8 +47,11 @@ module _ {X F E : Type 0} (frame : X → F) (story_of : X → List E) (who : E �
         slot = inl (x, refl, refl, refl);
         reaches = omega arith;
         some_seat = omega arith;
-        heads = λ u at. subst (λ z. (is_live z ≡ true) × (z.number ≡ 0) × (z.chief ≡ v.chief)) (some-injective v u at) (refl, refl, refl);
-        seats = λ id u at live. only_first x (λ i z. Fits frame story_of who b (story_of x) place (λ _. None) 0 (count_by waits (v ∷ [])) i z)
+        heads = λ u at. subst (λ z. (is_live z ≡ true) × (z.number ≡ 0) × (z.chief ≡ v.chief))
+            (some-injective v u at) (refl, refl, refl);
+        seats = λ id u at live. only_first x
+            (λ i z. Fits frame story_of who b (story_of x) place (λ _. None) 0
+            (count_by waits (v ∷ [])) i z)
             record {
               begun = refl;
               begins = goes_self (story_of x);
@@ -58,9 +63,12 @@ module _ {X F E : Type 0} (frame : X → F) (story_of : X → List E) (who : E �
               holding = λ h. absurd (let e : false ≡ true = h in cc);
             } id u at;
         taken = λ n i is. dite (ℕ_discrete n 0)
-            (λ e. let zero_is : 0 ≡ i = ap seat_number (sym (put_here (λ _. free) 0 (seated 0) n e) ∙ is) in
-            subst (λ j. (u : View F E) × (get_elem? (v ∷ []) j ≡ some u) × (is_live u ≡ true) × (u.number ≡ n)) zero_is (v, refl, refl, sym e))
-            (λ ne. absurd (let z : 3 ≡ 0 = sym (ap kind (put_else (λ _. free) 0 (seated 0) n ne)) ∙ ap kind is in omega arith));
+            (λ e. let zero_is : 0
+            ≡ i = ap seat_number (sym (put_here (λ _. free) 0 (seated 0) n e) ∙ is) in
+            subst (λ j. (u : View F E) × (get_elem? (v ∷ []) j ≡ some u) × (is_live u ≡ true)
+            × (u.number ≡ n)) zero_is (v, refl, refl, sym e))
+            (λ ne. absurd (let z : 3 ≡ 0 = sym (ap kind (put_else (λ _. free) 0 (seated 0) n ne))
+            ∙ ap kind is in omega arith));
         leads = record {
           limit = lit≤ tt;
           room = omega arith;
@@ -68,21 +76,28 @@ module _ {X F E : Type 0} (frame : X → F) (story_of : X → List E) (who : E �
           undrawn = λ n. (
             (λ le. put_else (λ _. free) 0 (seated 0) n (λ e. let h : 1 ≤ n = le in omega arith)),
             (λ is. dite (ℕ_discrete n 0)
-                (λ e. absurd (let z : 0 ≡ 3 = sym (ap kind (put_here (λ _. free) 0 (seated 0) n e)) ∙ ap kind is in omega arith))
+                (λ e. absurd (let z : 0 ≡ 3 = sym (ap kind (put_here (λ _. free) 0 (seated 0) n e))
+                ∙ ap kind is in omega arith))
                 (λ ne. omega arith)),
           );
           next = λ n. (
             (λ is. absurd (let e : false ≡ true = ap is_some is in cc)),
             (λ is. dite (ℕ_discrete n 0)
-                (λ e. absurd (let z : 0 ≡ 2 = sym (ap kind (put_here (λ _. free) 0 (seated 0) n e)) ∙ ap kind is in omega arith))
-                (λ ne. absurd (let z : 3 ≡ 2 = sym (ap kind (put_else (λ _. free) 0 (seated 0) n ne)) ∙ ap kind is in omega arith))),
+                (λ e. absurd (let z : 0 ≡ 2 = sym (ap kind (put_here (λ _. free) 0 (seated 0) n e))
+                ∙ ap kind is in omega arith))
+                (λ ne. absurd (let z : 3
+                ≡ 2 = sym (ap kind (put_else (λ _. free) 0 (seated 0) n ne)) ∙ ap kind is in
+                omega arith))),
           );
           silent = λ n _. nothing_yet x n;
           gone = λ n. (
             (λ is. absurd (let e : false ≡ true = is in cc)),
             (λ is. dite (ℕ_discrete n 0)
-                (λ e. absurd (let z : 0 ≡ 1 = sym (ap kind (put_here (λ _. free) 0 (seated 0) n e)) ∙ ap kind is in omega arith))
-                (λ ne. absurd (let z : 3 ≡ 1 = sym (ap kind (put_else (λ _. free) 0 (seated 0) n ne)) ∙ ap kind is in omega arith))),
+                (λ e. absurd (let z : 0 ≡ 1 = sym (ap kind (put_here (λ _. free) 0 (seated 0) n e))
+                ∙ ap kind is in omega arith))
+                (λ ne. absurd (let z : 3
+                ≡ 1 = sym (ap kind (put_else (λ _. free) 0 (seated 0) n ne)) ∙ ap kind is in
+                omega arith))),
           );
           once = refl;
           left = λ n is. nothing_yet x n ∙ refl;
@@ -90,15 +105,19 @@ module _ {X F E : Type 0} (frame : X → F) (story_of : X → List E) (who : E �
         };
       }
 
-  in_filter : (p : E → Bool) (xs : List E) (k : ℕ) (d : E) → k < length xs → p (get_or xs k d) ≡ true → 0 < length (filter p xs)
+  in_filter : (p : E → Bool) (xs : List E) (k : ℕ) (d : E) → k < length xs
+      → p (get_or xs k d) ≡ true → 0 < length (filter p xs)
   in_filter p [] k d lt is = absurd (omega arith)
-  in_filter p (x ∷ xs) zero d lt is = subst (λ t. 0 < length (cond t (x ∷ filter p xs) (filter p xs))) (sym is) (omega arith)
+  in_filter p (x ∷ xs) zero d lt is =
+      subst (λ t. 0 < length (cond t (x ∷ filter p xs) (filter p xs))) (sym is) (omega arith)
   in_filter p (x ∷ xs) (suc k) d lt is =
       let h = in_filter p xs k d (omega arith) is in
-      elim (p x) as (λ t. 0 < length (cond t (x ∷ filter p xs) (filter p xs))) [ true ↦ omega arith | false ↦ h ]
+      elim (p x) as (λ t. 0 < length (cond t (x ∷ filter p xs) (filter p xs)))
+      [ true ↦ omega arith | false ↦ h ]
 
   -- each entry is under the number 0 or under an ended one
-  pub whose : (xs mine : List E) (ls : List (EndedPass E)) → ((n : ℕ) → filter (is_by who n) xs ≡ cond (eqb n 0) mine (left_by n ls))
+  pub whose : (xs mine : List E) (ls : List (EndedPass E))
+      → ((n : ℕ) → filter (is_by who n) xs ≡ cond (eqb n 0) mine (left_by n ls))
       → All (λ e. (who e ≡ 0) ⊎ (is_among (who e) ls ≡ true)) xs
   whose xs mine ls each k d lt =
       let n : ℕ = who (get_or xs k d) in
@@ -109,7 +128,9 @@ module _ {X F E : Type 0} (frame : X → F) (story_of : X → List E) (who : E �
       (elim (is_among n ls) as P [
         | true ↦ λ _. inr refl
         | false ↦ λ out.
-            let none : filter (is_by who n) xs ≡ [] = each n ∙ ap (λ t. cond t mine (left_by n ls)) (ne_eqb n 0 ne) ∙ left_none n ls out in
+            let none : filter (is_by who n) xs ≡ [] =
+            each n ∙ ap (λ t. cond t mine (left_by n ls)) (ne_eqb n 0 ne)
+            ∙ left_none n ls out in
             absurd (let z : length (filter (is_by who n) xs) ≡ 0 = ap length none in omega arith)
       ]) refl)
 
@@ -120,9 +141,11 @@ module _ {X F E : Type 0} (frame : X → F) (story_of : X → List E) (who : E �
     pub stands : get_elem? xs 0 ≡ some (Some value)
     pub framed : frame value ≡ b.frame
     pub goes_on : GoesOn v.seen (story_of value)
-    pub each : (n : ℕ) → added_by who n b.start (story_of value) ≡ cond (eqb n 0) v.mine (left_by n v.chief.ended)
+    pub each : (n : ℕ) → added_by who n b.start (story_of value)
+        ≡ cond (eqb n 0) v.mine (left_by n v.chief.ended)
 
-  pub closes : (b : Beginning F) (id : ℕ) (v : View F E) (ws : List ℕ) (xs : List (Option X)) → is_live v ≡ true → v.number ≡ 0 → v.holds ≡ false → v.chief.out ≡ 0 → v.chief.due ≡ None
+  pub closes : (b : Beginning F) (id : ℕ) (v : View F E) (ws : List ℕ) (xs : List (Option X))
+      → is_live v ≡ true → v.number ≡ 0 → v.holds ≡ false → v.chief.out ≡ 0 → v.chief.due ≡ None
       → Final (Seen (K frame story_of who b) id v) ws xs → Closes b v xs
   closes b id v ws xs live zero_is free_hands alone none_due end =
       let s = end.0 in
@@ -135,22 +158,29 @@ module _ {X F E : Type 0} (frame : X → F) (story_of : X → List E) (who : E �
       let none_left : View F E = spent in
       let only : (i : ℕ) (u : View F E) → get_elem? s.views i ≡ some u → is_live u ≡ true → i ≡ id =
       λ i u atu liveu. dite (ℕ_discrete i id) (λ e. e)
-      (λ ne. absurd (let two = two_of_them is_live none_left refl s.views id i v u at atu ne live liveu in
+      (λ ne. absurd (let two = two_of_them is_live none_left refl s.views id i v u at atu ne live
+      liveu in
       let all : count_by is_live s.views ≡ c.out + 1 = l.others in omega arith)) in
-      let home : (x : X) × (s.homes ≡ some (Some x) ∷ []) × (frame x ≡ b.frame) × (story_of x ≡ r.story) =
+      let home : (x : X) × (s.homes ≡ some (Some x) ∷ []) × (frame x ≡ b.frame)
+      × (story_of x ≡ r.story) =
       ⊎_elim (λ h. h)
       (λ h. absurd (
       let e = only h.1.0 h.1.1 h.1.2 h.1.3 in
-      let is_v : v ≡ h.1.1 = one_place s.views id v h.1.1 at (subst (λ j. get_elem? s.views j ≡ some h.1.1) e h.1.2) in
+      let is_v : v ≡ h.1.1 =
+      one_place s.views id v h.1.1 at (subst (λ j. get_elem? s.views j ≡ some h.1.1) e h.1.2) in
       let z : true ≡ false = sym h.1.4 ∙ sym (ap (λ y. y.holds) is_v) ∙ free_hands in cc))
       r.slot in
       let x : X = home.0 in
       let whole : story_of x ≡ r.story = home.3 in
-      let not_first : (n : ℕ) → kind (r.place n) ≢ 0 → n ≢ 0 = λ n ne e. ne (ap (λ z. kind (r.place z)) (e ∙ sym zero_is) ∙ ap kind f.sits) in
-      let other : (n : ℕ) → n ≢ 0 → cond (eqb n 0) v.mine (left_by n c.ended) ≡ left_by n c.ended = λ n ne. ap (λ t. cond t v.mine (left_by n c.ended)) (ne_eqb n 0 ne) in
+      let not_first : (n : ℕ) → kind (r.place n) ≢ 0 → n ≢ 0 =
+      λ n ne e. ne (ap (λ z. kind (r.place z)) (e ∙ sym zero_is) ∙ ap kind f.sits) in
+      let other : (n : ℕ) → n ≢ 0 → cond (eqb n 0) v.mine (left_by n c.ended) ≡ left_by n c.ended =
+      λ n ne. ap (λ t. cond t v.mine (left_by n c.ended)) (ne_eqb n 0 ne) in
       let absent : (n : ℕ) → kind (r.place n) ≢ 1 → left_by n c.ended ≡ [] =
-      λ n ne. left_none n c.ended (false_from_ne_true (is_among n c.ended) (λ h. ne (ap kind ((l.gone n).0 h)))) in
-      let P : ℕ → Whereabouts → Type 0 = λ n p. r.place n ≡ p → added_by who n b.start r.story ≡ cond (eqb n 0) v.mine (left_by n c.ended) in
+      λ n ne. left_none n c.ended
+      (false_from_ne_true (is_among n c.ended) (λ h. ne (ap kind ((l.gone n).0 h)))) in
+      let P : ℕ → Whereabouts → Type 0 = λ n p. r.place n ≡ p
+      → added_by who n b.start r.story ≡ cond (eqb n 0) v.mine (left_by n c.ended) in
       record {
         value = x;
         stands = end.4 0 (Some x) (ap (λ hs. get_elem? hs 0) home.1);
@@ -160,12 +190,20 @@ module _ {X F E : Type 0} (frame : X → F) (story_of : X → List E) (who : E �
           | seated i ↦ λ is.
               let t = r.taken n i is in
               let e = only i t.0 t.1 t.2 in
-              let is_v : v ≡ t.0 = one_place s.views id v t.0 at (subst (λ j. get_elem? s.views j ≡ some t.0) e t.1) in
+              let is_v : v ≡ t.0 = one_place s.views id v t.0 at
+              (subst (λ j. get_elem? s.views j ≡ some t.0) e t.1) in
               let n_is : v.number ≡ n = ap (λ y. y.number) is_v ∙ t.3 in
-              ap (λ z. added_by who z b.start r.story) (sym n_is) ∙ f.own ∙ sym (ap (λ q. cond q v.mine (left_by n c.ended)) (eq-eqb n 0 (sym n_is ∙ zero_is)))
-          | ended ↦ λ is. l.left n is ∙ sym (other n (not_first n (λ z. let e : 1 ≡ 0 = sym (ap kind is) ∙ z in omega arith)))
-          | due ↦ λ is. absurd (let z : false ≡ true = ap is_some (sym none_due ∙ (l.next n).1 is) in cc)
+              ap (λ z. added_by who z b.start r.story) (sym n_is) ∙ f.own
+              ∙ sym (ap (λ q. cond q v.mine (left_by n c.ended))
+              (eq-eqb n 0 (sym n_is ∙ zero_is)))
+          | ended ↦ λ is. l.left n is
+              ∙ sym (other n (not_first n (λ z. let e : 1 ≡ 0 = sym (ap kind is) ∙ z in
+              omega arith)))
+          | due ↦ λ is. absurd (let z : false ≡ true = ap is_some (sym none_due ∙ (l.next n).1 is)
+              in cc)
           | free ↦ λ is. l.silent n (inl is)
-              ∙ sym (other n (not_first n (λ z. let e : 3 ≡ 0 = sym (ap kind is) ∙ z in omega arith)) ∙ absent n (λ z. let e : 3 ≡ 1 = sym (ap kind is) ∙ z in omega arith))
+              ∙ sym (other n (not_first n (λ z. let e : 3 ≡ 0 = sym (ap kind is) ∙ z in
+              omega arith)) ∙ absent n (λ z. let e : 3 ≡ 1 = sym (ap kind is) ∙ z in
+              omega arith))
         ] refl;
       }

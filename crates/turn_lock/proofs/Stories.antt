@@ -11,20 +11,26 @@ module _ {E : Type 0} where
   goes_short seen story h = omega (arith, length-take (length seen) story, ap length h)
 
   pub goes_append : (seen story added : List E) → GoesOn seen story → GoesOn seen (story ++ added)
-  goes_append seen story added h = take-append-le (length seen) story added (goes_short seen story h) ∙ h
+  goes_append seen story added h =
+      take-append-le (length seen) story added (goes_short seen story h) ∙ h
 
   pub goes_self : (story : List E) → GoesOn story story
   goes_self story = take-length story
 
   -- of two beginnings of one story the shorter begins the other
-  pub goes_between : (a b story : List E) → GoesOn a story → GoesOn b story → length a ≤ length b → GoesOn a b
-  goes_between a b story ha hb le = ap (take (length a)) (sym hb) ∙ take-take (length a) (length b) story le ∙ ha
+  pub goes_between : (a b story : List E) → GoesOn a story → GoesOn b story → length a ≤ length b
+      → GoesOn a b
+  goes_between a b story ha hb le =
+      ap (take (length a)) (sym hb) ∙ take-take (length a) (length b) story le ∙ ha
 
-  pub goes_parts : (seen story : List E) → GoesOn seen story → story ≡ seen ++ drop (length seen) story
-  goes_parts seen story h = sym (take-append-drop (length seen) story) ∙ ap (λ t. t ++ drop (length seen) story) h
+  pub goes_parts : (seen story : List E) → GoesOn seen story
+      → story ≡ seen ++ drop (length seen) story
+  goes_parts seen story h =
+      sym (take-append-drop (length seen) story) ∙ ap (λ t. t ++ drop (length seen) story) h
 
   pub goes_trans : (a b c : List E) → GoesOn a b → GoesOn b c → GoesOn a c
-  goes_trans a b c hab hbc = sym (take-take (length a) (length b) c (goes_short a b hab)) ∙ ap (take (length a)) hbc ∙ hab
+  goes_trans a b c hab hbc = sym (take-take (length a) (length b) c (goes_short a b hab))
+      ∙ ap (take (length a)) hbc ∙ hab
 
   pub nil_left : (xs ys : List E) → xs ++ ys ≡ [] → xs ≡ []
   nil_left [] ys e = refl
@@ -58,62 +64,96 @@ module _ {E : Type 0} where
 
   -- what holds of both holds of the longer
   pub longer_both : (P : List E → Type 0) (a b : List E) → P a → P b → P (longer a b)
-  longer_both P a b pa pb = elim (nat_lt (length a) (length b)) as (λ t. P (cond t b a)) [ true ↦ pb | false ↦ pa ]
+  longer_both P a b pa pb =
+      elim (nat_lt (length a) (length b)) as (λ t. P (cond t b a)) [ true ↦ pb | false ↦ pa ]
 
 module _ {E : Type 0} (who : E → ℕ) where
   pub by_append : (n start : ℕ) (xs ys : List E) → start ≤ length xs
       → added_by who n start (xs ++ ys) ≡ added_by who n start xs ++ filter (is_by who n) ys
-  by_append n start xs ys le = ap (filter (is_by who n)) (drop-append-le start xs ys le) ∙ filter-append (is_by who n) (drop start xs) ys
+  by_append n start xs ys le = ap (filter (is_by who n)) (drop-append-le start xs ys le)
+      ∙ filter-append (is_by who n) (drop start xs) ys
 
   pub by_parts : (n start : ℕ) (seen story : List E) → GoesOn seen story → start ≤ length seen
-      → added_by who n start story ≡ added_by who n start seen ++ filter (is_by who n) (drop (length seen) story)
-  by_parts n start seen story h le = ap (added_by who n start) (goes_parts seen story h) ∙ by_append n start seen (drop (length seen) story) le
+      → added_by who n start story ≡ added_by who n start seen ++ filter (is_by who n)
+      (drop (length seen) story)
+  by_parts n start seen story h le = ap (added_by who n start) (goes_parts seen story h)
+      ∙ by_append n start seen (drop (length seen) story) le
 
-  filter_other : (m n : ℕ) → m ≢ n → (xs : List E) → filter (is_by who m) (filter (is_by who n) xs) ≡ []
+  filter_other : (m n : ℕ) → m ≢ n → (xs : List E)
+      → filter (is_by who m) (filter (is_by who n) xs) ≡ []
   filter_other m n ne [] = refl
   filter_other m n ne (x ∷ xs) =
-      let P : Bool → Type 0 = λ t. is_by who n x ≡ t → filter (is_by who m) (cond t (x ∷ filter (is_by who n) xs) (filter (is_by who n) xs)) ≡ [] in
+      let P : Bool → Type 0 = λ t. is_by who n x ≡ t
+      → filter (is_by who m) (cond t (x ∷ filter (is_by who n) xs) (filter (is_by who n) xs))
+      ≡ [] in
       elim (is_by who n x) as P [
-        | true ↦ λ e. let other : is_by who m x ≡ false = ne_eqb (who x) m (λ h. ne (sym h ∙ eqb-true (who x) n e)) in
-            ap (λ t. cond t (x ∷ filter (is_by who m) (filter (is_by who n) xs)) (filter (is_by who m) (filter (is_by who n) xs))) other ∙ filter_other m n ne xs
+        | true ↦ λ e. let other : is_by who m x ≡ false =
+            ne_eqb (who x) m (λ h. ne (sym h ∙ eqb-true (who x) n e)) in
+            ap (λ t. cond t (x ∷ filter (is_by who m) (filter (is_by who n) xs))
+            (filter (is_by who m) (filter (is_by who n) xs))) other ∙ filter_other m n ne xs
         | false ↦ λ e. filter_other m n ne xs
       ] refl
 
   -- entries that are all under one number are under no other
-  pub others_add_none : (m n : ℕ) → m ≢ n → (xs : List E) → filter (is_by who n) xs ≡ xs → filter (is_by who m) xs ≡ []
+  pub others_add_none : (m n : ℕ) → m ≢ n → (xs : List E) → filter (is_by who n) xs ≡ xs
+      → filter (is_by who m) xs ≡ []
   others_add_none m n ne xs all = ap (filter (is_by who m)) (sym all) ∙ filter_other m n ne xs
 
   -- nothing new of the number, where it has seen all that is under it
   pub none_new : (n start : ℕ) (seen story mine : List E) → GoesOn seen story → start ≤ length seen
-      → added_by who n start seen ≡ mine → added_by who n start story ≡ mine → filter (is_by who n) (drop (length seen) story) ≡ []
+      → added_by who n start seen ≡ mine → added_by who n start story ≡ mine
+      → filter (is_by who n) (drop (length seen) story) ≡ []
   none_new n start seen story mine h le known own =
-      nothing_more (added_by who n start seen) (filter (is_by who n) (drop (length seen) story)) (known ∙ sym own ∙ by_parts n start seen story h le)
+      nothing_more (added_by who n start seen) (filter (is_by who n) (drop (length seen) story))
+      (known ∙ sym own ∙ by_parts n start seen story h le)
 
   -- what is between a beginning that has all of it and the story has all of it
-  pub known_between : (n start : ℕ) (a b story mine : List E) → GoesOn a b → GoesOn b story → start ≤ length a
-      → added_by who n start a ≡ mine → added_by who n start story ≡ mine → added_by who n start b ≡ mine
+  pub known_between : (n start : ℕ) (a b story mine : List E) → GoesOn a b → GoesOn b story
+      → start ≤ length a
+      → added_by who n start a ≡ mine → added_by who n start story ≡ mine
+      → added_by who n start b ≡ mine
   known_between n start a b story mine hab hb le known own =
       let rest = none_new n start a story mine (goes_trans a b story hab hb) le known own in
       let ab = by_parts n start a b hab le in
       let le' : start ≤ length b = omega (arith, goes_short a b hab) in
       let all = by_parts n start b story hb le' in
-      let e : added_by who n start a ≡ (added_by who n start a ++ filter (is_by who n) (drop (length a) b)) ++ filter (is_by who n) (drop (length b) story) =
+      let e : added_by who n start a
+      ≡ (added_by who n start a ++ filter (is_by who n) (drop (length a) b)) ++ filter
+      (is_by who n) (drop (length b) story) =
       known ∙ sym own ∙ all ∙ ap (λ t. t ++ filter (is_by who n) (drop (length b) story)) ab in
       let none : filter (is_by who n) (drop (length a) b) ≡ [] =
       nil_of_length (filter (is_by who n) (drop (length a) b))
-      (omega (arith, ap length e, length-append (added_by who n start a ++ filter (is_by who n) (drop (length a) b)) (filter (is_by who n) (drop (length b) story)), length-append (added_by who n start a) (filter (is_by who n) (drop (length a) b)))) in
+      (omega (
+        arith,
+        ap length e,
+        length-append
+            (added_by who n start a ++ filter (is_by who n) (drop (length a) b))
+            (filter (is_by who n) (drop (length b) story)),
+        length-append (added_by who n start a)
+            (filter (is_by who n) (drop (length a) b)),
+      )) in
       ab ∙ ap (λ t. added_by who n start a ++ t) none ∙ append-nil (added_by who n start a) ∙ known
 
   pub nothing_before : (n start : ℕ) (seen story : List E) → GoesOn seen story → start ≤ length seen
       → added_by who n start story ≡ [] → added_by who n start seen ≡ []
   nothing_before n start seen story h le none =
-      nil_left (added_by who n start seen) (filter (is_by who n) (drop (length seen) story)) (sym (by_parts n start seen story h le) ∙ none)
+      nil_left (added_by who n start seen) (filter (is_by who n) (drop (length seen) story))
+      (sym (by_parts n start seen story h le) ∙ none)
 
   pub adds_none : (n : ℕ) (story : List E) → AddsUnder who n story story
-  adds_none n story = (goes_self story, (let e = drop-length story in ap (filter (is_by who n)) e ∙ sym e))
+  adds_none n story = (
+    goes_self story,
+    (let e = drop-length story in
+        ap (filter (is_by who n)) e ∙ sym e),
+  )
 
-  pub adds_one : (n : ℕ) (story : List E) (e : E) → who e ≡ n → AddsUnder who n story (story ++ e ∷ [])
+  pub adds_one : (n : ℕ) (story : List E) (e : E) → who e ≡ n
+      → AddsUnder who n story (story ++ e ∷ [])
   adds_one n story e is =
       let seam : drop (length story) (story ++ e ∷ []) ≡ e ∷ [] = drop-append_seam story (e ∷ []) in
-      let one : filter (is_by who n) (e ∷ []) ≡ e ∷ [] = ap (λ t. cond t (e ∷ []) []) (eq-eqb (who e) n is) in
-      (goes_append story story (e ∷ []) (goes_self story), ap (filter (is_by who n)) seam ∙ one ∙ sym seam)
+      let one : filter (is_by who n) (e ∷ []) ≡ e ∷ [] =
+      ap (λ t. cond t (e ∷ []) []) (eq-eqb (who e) n is) in (
+        goes_append story story (e ∷ []) (goes_self story),
+        ap (filter (is_by who n)) seam ∙ one
+            ∙ sym seam,
+      )

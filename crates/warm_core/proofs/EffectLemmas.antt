@@ -35,9 +35,11 @@ pub record Copies (w : World) (t : StageState) (s : Snapped) : Type 0 where
   pub snap : w.snap ≡ Some s
   pub fits : StageFits w.capacity w.disk w.log w.base s t
 
-pub stage-copies : (w : World) (t : StageState) → IsSound w → w.stage ≡ Some t → (s : Snapped) × Copies w t s
+pub stage-copies : (w : World) (t : StageState) → IsSound w → w.stage ≡ Some t
+    → (s : Snapped) × Copies w t s
 stage-copies w t sound is =
-    let snap = some-parts w.snap (sound.stage_has_snap (ap (λ (o : Option StageState). is_some o) is)) in
+    let snap = some-parts w.snap
+    (sound.stage_has_snap (ap (λ (o : Option StageState). is_some o) is)) in
     (snap.0, record { snap = snap.1; fits = (sound.stage_is snap.0 snap.1 t is).fits })
 
 pub order-of : (w : World) (t : StageState) → IsSound w → w.stage ≡ Some t → IsInOrder t
@@ -47,56 +49,93 @@ pub sized-of : (w : World) (t : StageState) → IsSound w → w.stage ≡ Some t
 sized-of w t sound is = ((stage-copies w t sound is).1).fits.sized
 
 -- what an event of the stage asks, at the stage that is at hand
-runs-at-both : (w : World) (P : List ℕ → Snapped → StageState → Type 0) (s : Snapped) (t : StageState) (snap : Option Snapped) (stage : Option StageState) → snap ≡ Some s → stage ≡ Some t
-    → IsSomeAnd snap (λ s. IsSomeAnd stage (λ t. P (blocks_asked w.capacity w.disk w.log w.base s t.full) s t))
+runs-at-both : (w : World) (P : List ℕ → Snapped → StageState
+    → Type 0) (s : Snapped) (t : StageState) (snap : Option Snapped) (stage : Option StageState)
+    → snap ≡ Some s → stage ≡ Some t
+    → IsSomeAnd snap (λ s. IsSomeAnd stage
+    (λ t. P (blocks_asked w.capacity w.disk w.log w.base s t.full) s t))
     → P (blocks_asked w.capacity w.disk w.log w.base s t.full) s t
 runs-at-both w P s t None stage one two h = absurd h
 runs-at-both w P s t (Some x) None one two h = absurd h
 runs-at-both w P s t (Some x) (Some y) one two h =
-    subst (λ (t : StageState). P (blocks_asked w.capacity w.disk w.log w.base s t.full) s t) (same_Some y t two)
-    (subst (λ (s : Snapped). P (blocks_asked w.capacity w.disk w.log w.base s y.full) s y) (same_Some x s one) h)
+    subst (λ (t : StageState). P (blocks_asked w.capacity w.disk w.log w.base s t.full) s t)
+    (same_Some y t two)
+    (subst (λ (s : Snapped). P (blocks_asked w.capacity w.disk w.log w.base s y.full) s y)
+    (same_Some x s one) h)
 
-pub runs-at : (w : World) (P : List ℕ → Snapped → StageState → Type 0) (s : Snapped) (t : StageState) → w.snap ≡ Some s → w.stage ≡ Some t → Runs w P
+pub runs-at : (w : World) (P : List ℕ → Snapped → StageState
+    → Type 0) (s : Snapped) (t : StageState) → w.snap ≡ Some s → w.stage ≡ Some t → Runs w P
     → P (blocks_asked w.capacity w.disk w.log w.base s t.full) s t
 runs-at w P s t one two h = runs-at-both w P s t w.snap w.stage one two h
 
 -- ---- a page
 
-pub tells-of : (w : World) (s : Snapped) (t : StageState) → w.capacity < 2 ^ 64 → IsSound w → w.snap ≡ Some s → w.stage ≡ Some t → AnswersTell w.machine w.capacity w.disk w.log w.base s t.full
+pub tells-of : (w : World) (s : Snapped) (t : StageState) → w.capacity < 2 ^ 64 → IsSound w
+    → w.snap ≡ Some s → w.stage ≡ Some t
+    → AnswersTell w.machine w.capacity w.disk w.log w.base s t.full
 tells-of w s t small sound one two =
     let fits = (sound.stage_is s one t two).fits in
-    stages_are_answered w.machine w.capacity w.disk w.log w.base s t.full (ground-of w s small sound one) fits.unfinished fits.partial
+    stages_are_answered w.machine w.capacity w.disk w.log w.base s t.full
+    (ground-of w s small sound one) fits.unfinished fits.partial
 
-pub page-effect : (w : World) (s : Snapped) (t : StageState) (page : PageContents) → w.capacity < 2 ^ 64 → IsSound w → w.snap ≡ Some s → w.stage ≡ Some t → IsOk (answer_now w s t)
-    → page ≡ page_from w.capacity (areas_of w.capacity (blocks_asked w.capacity w.disk w.log w.base s t.full)) t.covered
+pub page-effect : (w : World) (s : Snapped) (t : StageState) (page : PageContents)
+    → w.capacity < 2 ^ 64 → IsSound w → w.snap ≡ Some s → w.stage ≡ Some t → IsOk (answer_now w s t)
+    → page ≡ page_from w.capacity
+    (areas_of w.capacity (blocks_asked w.capacity w.disk w.log w.base s t.full)) t.covered
     → record w { stage = Some (with_page (page.start + page.length) t) } ≡ after_page w
 page-effect w s t page small sound one two ok is =
     let tells = tells-of w s t small sound one two in
-    let areas : List Run = areas_of w.capacity (blocks_asked w.capacity w.disk w.log w.base s t.full) in
+    let areas : List Run =
+    areas_of w.capacity (blocks_asked w.capacity w.disk w.log w.base s t.full) in
     let found = ok-parts (answer_now w s t) ok in
-    let answer_is : answer_now w s t ≡ Ok areas = found.1 ∙ ap (λ (rs : List Run). Ok rs) (tells.told found.0 found.1) in
+    let answer_is : answer_now w s t ≡ Ok areas =
+    found.1 ∙ ap (λ (rs : List Run). Ok rs) (tells.told found.0 found.1) in
     let end : page.start + page.length ≡ page_end_of w.capacity t.covered (answer_now w s t) =
-    ap (λ (p : PageContents). p.start + p.length) is ∙ sym (ap (page_end_of w.capacity t.covered) answer_is) in
-    let step : Snapped → StageState → World → World = λ snap t w. record w { stage = Some (with_page (page_end_of w.capacity t.covered (answer_now w snap t)) t) } in
-    ap (λ n. record w { stage = Some (with_page n t) }) end ∙ sym (by_stage-is step w s t (record { snap = one; stage = two }))
+    ap (λ (p : PageContents). p.start + p.length) is
+    ∙ sym (ap (page_end_of w.capacity t.covered) answer_is) in
+    let step : Snapped → StageState → World → World =
+    λ snap t w. record w {
+      stage = Some
+          (with_page (page_end_of w.capacity t.covered (answer_now w snap t)) t);
+    } in
+    ap (λ n. record w { stage = Some (with_page n t) }) end
+    ∙ sym (by_stage-is step w s t (record { snap = one; stage = two }))
 
-pub page-lies : (w : World) (s : Snapped) (t : StageState) (page : PageContents) → w.capacity < 2 ^ 64 → IsSound w → w.snap ≡ Some s → w.stage ≡ Some t → t.covered < w.capacity
-    → page ≡ page_from w.capacity (areas_of w.capacity (blocks_asked w.capacity w.disk w.log w.base s t.full)) t.covered → LiesWithin t.capacity page
+pub page-lies : (w : World) (s : Snapped) (t : StageState) (page : PageContents)
+    → w.capacity < 2 ^ 64 → IsSound w → w.snap ≡ Some s → w.stage ≡ Some t → t.covered < w.capacity
+    → page ≡ page_from w.capacity
+    (areas_of w.capacity (blocks_asked w.capacity w.disk w.log w.base s t.full)) t.covered
+    → LiesWithin t.capacity page
 page-lies w s t page small sound one two less is =
     let tells = tells-of w s t small sound one two in
     let sized = sized-of w t sound two in
-    subst (λ n. LiesWithin n page) (sym sized) (subst (λ (p : PageContents). LiesWithin w.capacity p) (sym is) (tells.pages t.covered less))
+    subst (λ n. LiesWithin n page) (sym sized)
+    (subst (λ (p : PageContents). LiesWithin w.capacity p) (sym is)
+    (tells.pages t.covered less))
 
 -- ---- a read of what a log leaves
 
-pub read-is : (disks : Disks) (c d first count : ℕ) (log : List Entry) → HasDisk disks d c → Legal disks log → first + count ≤ c
-    → map (λ i. sector_at d (first + i) log) (range_with_len 0 count) ≡ slice_range (contents c d log) first (first + count)
+pub read-is : (disks : Disks) (c d first count : ℕ) (log : List Entry) → HasDisk disks d c
+    → Legal disks log → first + count ≤ c
+    → map (λ i. sector_at d (first + i) log) (range_with_len 0 count)
+    ≡ slice_range (contents c d log) first (first + count)
 read-is disks c d first count log has legal fits =
     let disk : List Sector = contents c d log in
     let long : length disk ≡ c = length-contents disks c d log legal has in
-    let n : length (slice_range disk first (first + count)) ≡ count = omega (arith, fits, long, length-take (first + count - first) (drop first disk), length-drop first disk) in
-    sym (fill_by_all (λ i. sector_at d (first + i) log) (slice_range disk first (first + count)) count zero_sector n
+    let n : length (slice_range disk first (first + count)) ≡ count =
+    omega (
+      arith,
+      fits,
+      long,
+      length-take (first + count - first) (drop first disk),
+      length-drop
+          first disk,
+    ) in
+    sym (fill_by_all (λ i. sector_at d (first + i) log) (slice_range disk first (first + count))
+    count zero_sector n
     (λ k less.
     let inside : k < first + count - first = omega arith in
-    get_or_from_slice_get (slice_range disk first (first + count)) k (sector_at d (first + k) log) zero_sector
-    (slice_get-take (drop first disk) (first + count - first) k inside ∙ slice_get-drop disk first k ∙ sector_at_is disks c d (first + k) log has legal (omega arith))))
+    get_or_from_slice_get (slice_range disk first (first + count)) k (sector_at d (first + k) log)
+    zero_sector
+    (slice_get-take (drop first disk) (first + count - first) k inside ∙ slice_get-drop disk first k
+    ∙ sector_at_is disks c d (first + k) log has legal (omega arith))))

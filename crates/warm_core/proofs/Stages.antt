@@ -36,17 +36,27 @@ use Rattle.warm_core.proofs.Holding.{outside, inside, loose-outside, on_base-wri
 
 -- ---- the disk at a mark
 
-pub length-disk_at : (c d m : ℕ) (log : List Entry) → Legal (only d c) log → length (disk_at c d m log) ≡ c
-length-disk_at c d m log legal = length-contents (only d c) c d (take m log) (prefixes_are_legal (only d c) log m legal) (refl, refl)
+pub length-disk_at : (c d m : ℕ) (log : List Entry) → Legal (only d c) log
+    → length (disk_at c d m log) ≡ c
+length-disk_at c d m log legal =
+    length-contents (only d c) c d (take m log) (prefixes_are_legal (only d c) log m legal)
+    (refl, refl)
 
--- outside what a stage asks for the disk is the same at the place since which it asks and at its mark
-unasked-same : (machine c d : ℕ) (log : List Entry) (base : Option Base) (snap : Snapped) (full : Bool) (s : ℕ) → IsGround machine c d log base snap → since_mark full base ≤ snap.mark
-    → in_blocks (blocks_asked c d log base snap full) s ≡ false → slice_get (disk_at c d snap.mark log) s ≡ slice_get (disk_at c d (since_mark full base) log) s
-unasked-same machine c d log base snap full s ground le none = untouched_stays (only d c) c d (since_mark full base) snap.mark log s ground.legal (refl, refl) le none
+-- outside what a stage asks for the disk is the same at the place since which it asks and at its
+-- mark
+unasked-same : (machine c d : ℕ) (log : List Entry) (base : Option Base) (snap : Snapped)
+    (full : Bool) (s : ℕ) → IsGround machine c d log base snap → since_mark full base ≤ snap.mark
+    → in_blocks (blocks_asked c d log base snap full) s ≡ false
+    → slice_get (disk_at c d snap.mark log) s
+    ≡ slice_get (disk_at c d (since_mark full base) log) s
+unasked-same machine c d log base snap full s ground le none =
+    untouched_stays (only d c) c d (since_mark full base) snap.mark log s ground.legal (refl, refl)
+    le none
 
 -- ---- a stage that isn't at its end
 
-module _ {c d : ℕ} {log : List Entry} {base : Option Base} {snap : Snapped} {t : StageState} (fits : StageFits c d log base snap t) where
+module _ {c d : ℕ} {log : List Entry} {base : Option Base} {snap : Snapped} {t : StageState}
+    (fits : StageFits c d log base snap t) where
   not-flushed : t.at < c → t.flushed ≡ true → ⊥
   not-flushed less flushed =
       let ended = fits.order.ended flushed in
@@ -55,16 +65,21 @@ module _ {c d : ℕ} {log : List Entry} {base : Option Base} {snap : Snapped} {t
 
 -- ---- a page
 
-some-base-runs : (machine c d : ℕ) (log : List Entry) (base : Option Base) (snap : Snapped) (v : VolumeContents) (areas : List Run) → IsGround machine c d log base snap → IsSome base
-    → answer machine c d log base snap false ≡ Ok areas → Staged c d log base (Some snap) v → RunsOnBase c d log base snap v
+some-base-runs : (machine c d : ℕ) (log : List Entry) (base : Option Base) (snap : Snapped)
+    (v : VolumeContents) (areas : List Run) → IsGround machine c d log base snap → IsSome base
+    → answer machine c d log base snap false ≡ Ok areas → Staged c d log base (Some snap) v
+    → RunsOnBase c d log base snap v
 some-base-runs machine c d log None snap v areas ground some ok staged = absurd (false≢true some)
 some-base-runs machine c d log (Some b) snap v areas ground some ok (inl on) = on
 some-base-runs machine c d log (Some b) snap v areas ground some ok (inr forgotten) =
     let between = answers-between machine c d log b snap ground in
-    absurd (answer-not-err areas (in_force machine d log) (sym ok ∙ between.strange forgotten.reset))
+    absurd (answer-not-err areas (in_force machine d log)
+    (sym ok ∙ between.strange forgotten.reset))
 
-pub answered-stands : (machine c d : ℕ) (log : List Entry) (base : Option Base) (snap : Snapped) (t : StageState) (v : VolumeContents) (areas : List Run) → IsGround machine c d log base snap
-    → StageStands c d log base snap t v → MayAsk (blocks_asked c d log base snap t.full) t → answer machine c d log base snap t.full ≡ Ok areas
+pub answered-stands : (machine c d : ℕ) (log : List Entry) (base : Option Base) (snap : Snapped)
+    (t : StageState) (v : VolumeContents) (areas : List Run) → IsGround machine c d log base snap
+    → StageStands c d log base snap t v → MayAsk (blocks_asked c d log base snap t.full) t
+    → answer machine c d log base snap t.full ≡ Ok areas
     → StageStands c d log base snap (with_page (page_end_of c t.covered (Ok areas)) t) v
 answered-stands machine c d log base snap t v areas ground stands ask ok =
     let fits = stands.fits in
@@ -80,13 +95,17 @@ answered-stands machine c d log base snap t v areas ground stands ask ok =
         tight = holds.tight;
         whole = holds.whole;
         on_base = λ partial some.
-            some-base-runs machine c d log base snap v areas ground (fits.partial partial) (sym (ap (answer machine c d log base snap) partial) ∙ ok) stands.staged;
+            some-base-runs machine c d log base snap v areas ground (fits.partial partial)
+            (sym (ap (answer machine c d log base snap) partial) ∙ ok) stands.staged;
       };
       staged = stands.staged;
     }
 
-pub refused-stands : (machine c d : ℕ) (log : List Entry) (base : Option Base) (snap : Snapped) (t : StageState) (v : VolumeContents) (found : Option ChangeId) → IsGround machine c d log base snap
-    → StageStands c d log base snap t v → MayAsk (blocks_asked c d log base snap t.full) t → t.full ≡ false → answer machine c d log base snap t.full ≡ Err found
+pub refused-stands : (machine c d : ℕ) (log : List Entry) (base : Option Base) (snap : Snapped)
+    (t : StageState) (v : VolumeContents) (found : Option ChangeId)
+    → IsGround machine c d log base snap
+    → StageStands c d log base snap t v → MayAsk (blocks_asked c d log base snap t.full) t
+    → t.full ≡ false → answer machine c d log base snap t.full ≡ Err found
     → StageStands c d log base snap (made_full t) v
 refused-stands machine c d log base snap t v found ground stands ask partial err =
     let fits = stands.fits in
@@ -106,43 +125,61 @@ refused-stands machine c d log base snap t v found ground stands ask partial err
 -- ---- a piece
 
 -- a full stage has no base, or one that is forgotten, so what is staged doesn't speak of the volume
-full-staged : (c d : ℕ) (log : List Entry) (base : Option Base) (snap : Snapped) (v : VolumeContents) → HasToBeFull d log base snap → Staged c d log base (Some snap) v
+full-staged : (c d : ℕ) (log : List Entry) (base : Option Base) (snap : Snapped)
+    (v : VolumeContents) → HasToBeFull d log base snap → Staged c d log base (Some snap) v
 full-staged c d log None snap v must = tt
 full-staged c d log (Some b) snap v must = inr must
 
-runs-staged : (c d : ℕ) (log : List Entry) (base : Option Base) (snap : Snapped) (v : VolumeContents) → RunsOnBase c d log base snap v → Staged c d log base (Some snap) v
+runs-staged : (c d : ℕ) (log : List Entry) (base : Option Base) (snap : Snapped)
+    (v : VolumeContents) → RunsOnBase c d log base snap v → Staged c d log base (Some snap) v
 runs-staged c d log None snap v runs = absurd runs
 runs-staged c d log (Some b) snap v runs = inl runs
 
-runs-written : (c d : ℕ) (log : List Entry) (base : Option Base) (snap : Snapped) (v : VolumeContents) (first : ℕ) (xs : List Sector) → IsSized c v → first + length xs ≤ c
-    → is_unfinished base (Some snap) ≡ true → ((s : ℕ) → first ≤ s → s < first + length xs → in_blocks (blocks_asked c d log base snap false) s ≡ true)
+runs-written : (c d : ℕ) (log : List Entry) (base : Option Base) (snap : Snapped)
+    (v : VolumeContents) (first : ℕ) (xs : List Sector) → IsSized c v → first + length xs ≤ c
+    → is_unfinished base (Some snap) ≡ true
+    → ((s : ℕ) → first ≤ s → s < first + length xs
+    → in_blocks (blocks_asked c d log base snap false) s ≡ true)
     → RunsOnBase c d log base snap v → RunsOnBase c d log base snap (volume_written first xs v)
 runs-written c d log None snap v first xs sized fits unfinished all runs = runs
 runs-written c d log (Some b) snap v first xs sized fits unfinished all runs =
     on_base-written c d log b (Some snap) v first xs sized fits
-    (λ s from less. ap (λ (bs : List ℕ). in_blocks bs s) (open-asked c d log b snap unfinished) ∙ all s from less) runs
+    (λ s from less. ap (λ (bs : List ℕ). in_blocks bs s) (open-asked c d log b snap unfinished)
+    ∙ all s from less) runs
 
-runs-broken : (c d : ℕ) (log : List Entry) (base : Option Base) (snap : Snapped) (v new : VolumeContents) (first count : ℕ) → IsSized c v → first + count ≤ c
-    → is_unfinished base (Some snap) ≡ true → ((s : ℕ) → first ≤ s → s < first + count → in_blocks (blocks_asked c d log base snap false) s ≡ true)
-    → IsBrokenAt first count v new → RunsOnBase c d log base snap v → RunsOnBase c d log base snap new
+runs-broken : (c d : ℕ) (log : List Entry) (base : Option Base) (snap : Snapped)
+    (v new : VolumeContents) (first count : ℕ) → IsSized c v → first + count ≤ c
+    → is_unfinished base (Some snap) ≡ true
+    → ((s : ℕ) → first ≤ s → s < first + count
+    → in_blocks (blocks_asked c d log base snap false) s ≡ true)
+    → IsBrokenAt first count v new → RunsOnBase c d log base snap v
+    → RunsOnBase c d log base snap new
 runs-broken c d log None snap v new first count sized fits unfinished all broken runs = runs
 runs-broken c d log (Some b) snap v new first count sized fits unfinished all broken runs =
     on_base-broken c d log b (Some snap) v new first count sized fits
-    (λ s from less. ap (λ (bs : List ℕ). in_blocks bs s) (open-asked c d log b snap unfinished) ∙ all s from less) broken runs
+    (λ s from less. ap (λ (bs : List ℕ). in_blocks bs s) (open-asked c d log b snap unfinished)
+    ∙ all s from less) broken runs
 
 -- what is staged after a stage wrote, by whether it is a full one
-staged-by : (c d : ℕ) (log : List Entry) (base : Option Base) (snap : Snapped) (v : VolumeContents) (full : Bool)
-    → (full ≡ true → HasToBeFull d log base snap) → (full ≡ false → RunsOnBase c d log base snap v) → Staged c d log base (Some snap) v
+staged-by : (c d : ℕ) (log : List Entry) (base : Option Base) (snap : Snapped) (v : VolumeContents)
+    (full : Bool)
+    → (full ≡ true → HasToBeFull d log base snap) → (full ≡ false → RunsOnBase c d log base snap v)
+    → Staged c d log base (Some snap) v
 staged-by c d log base snap v true must runs = full-staged c d log base snap v (must refl)
 staged-by c d log base snap v false must runs = runs-staged c d log base snap v (runs refl)
 
 -- `xs` was written as the run: each sector that the stage has to write there is as at the mark
-written-stands : (machine c d : ℕ) (log : List Entry) (base : Option Base) (snap : Snapped) (t : StageState) (v : VolumeContents) (run : Run) (xs : List Sector) → IsGround machine c d log base snap
+written-stands : (machine c d : ℕ) (log : List Entry) (base : Option Base) (snap : Snapped)
+    (t : StageState) (v : VolumeContents) (run : Run) (xs : List Sector)
+    → IsGround machine c d log base snap
     → StageStands c d log base snap t v → IsPiece run t → length xs ≡ run.count
     → StageFits c d log base snap (with_piece run t)
-    → ((s : ℕ) → t.at ≤ s → s < run.first → has_to_write (blocks_asked c d log base snap t.full) t s ≡ false)
-    → (t.full ≡ false → (s : ℕ) → run.first ≤ s → s < end_of run → in_blocks (blocks_asked c d log base snap t.full) s ≡ true)
-    → ((s : ℕ) → run.first ≤ s → s < end_of run → slice_get xs (s - run.first) ≡ slice_get (disk_at c d snap.mark log) s)
+    → ((s : ℕ) → t.at ≤ s → s < run.first
+    → has_to_write (blocks_asked c d log base snap t.full) t s ≡ false)
+    → (t.full ≡ false → (s : ℕ) → run.first ≤ s → s < end_of run
+    → in_blocks (blocks_asked c d log base snap t.full) s ≡ true)
+    → ((s : ℕ) → run.first ≤ s → s < end_of run
+    → slice_get xs (s - run.first) ≡ slice_get (disk_at c d snap.mark log) s)
     → StageStands c d log base snap (with_piece run t) (volume_written run.first xs v)
 written-stands machine c d log base snap t v run xs ground stands piece long fits none all same =
     let old = stands.fits in
@@ -154,37 +191,48 @@ written-stands machine c d log base snap t v run xs ground stands piece long fit
     let end = piece.within in
     let within = order.within in
     let room : run.first + length xs ≤ c = omega (arith, long, end, within, sized) in
-    let on : t.full ≡ false → RunsOnBase c d log base snap (volume_written run.first xs v) = λ partial.
+    let on : t.full ≡ false → RunsOnBase c d log base snap (volume_written run.first xs v) =
+    λ partial.
     runs-written c d log base snap v run.first xs stands.sized room old.unfinished
-    (λ s low high. ap (λ b. in_blocks (blocks_asked c d log base snap b) s) (sym partial) ∙ all partial s low (omega (arith, long, high)))
+    (λ s low high. ap (λ b. in_blocks (blocks_asked c d log base snap b) s) (sym partial)
+    ∙ all partial s low (omega (arith, long, high)))
     (holds.on_base partial (omega (arith, some, end))) in
     record {
       sized = written-sized c run.first xs v stands.sized room;
       fits = fits;
       holds = record {
         copied = λ s less due. elim (cases_lt s run.first) [
-          | inl before ↦ outside c run.first xs v stands.sized room s (inl before) ∙ elim (cases_lt s t.at) [
-            | inl done ↦ holds.copied s done due
-            | inr left ↦ absurd (false≢true (sym (none s left before) ∙ due))
-          ]
-          | inr low ↦ inside c run.first xs v stands.sized room s low (omega (arith, long, less)) ∙ same s low less
+          | inl before ↦ outside c run.first xs v stands.sized room s (inl before)
+              ∙ elim (cases_lt s t.at) [
+                | inl done ↦ holds.copied s done due
+                | inr left ↦ absurd (false≢true (sym (none s left before) ∙ due))
+              ]
+          | inr low ↦ inside c run.first xs v stands.sized room s low (omega (arith, long, less))
+              ∙ same s low less
         ];
-        tight = λ flushed. absurd (not-flushed old (omega (arith, from, some, end, within, sized)) flushed);
-        whole = λ flushed. absurd (not-flushed old (omega (arith, from, some, end, within, sized)) flushed);
+        tight = λ flushed. absurd
+            (not-flushed old (omega (arith, from, some, end, within, sized)) flushed);
+        whole = λ flushed. absurd
+            (not-flushed old (omega (arith, from, some, end, within, sized)) flushed);
         on_base = λ partial some. on partial;
       };
       staged = staged-by c d log base snap (volume_written run.first xs v) t.full old.full on;
     }
 
-pub length-slice : (xs : List Sector) (first count : ℕ) → first + count ≤ length xs → length (slice_range xs first (first + count)) ≡ count
-length-slice xs first count fits = omega (arith, fits, length-take (first + count - first) (drop first xs), length-drop first xs)
+pub length-slice : (xs : List Sector) (first count : ℕ) → first + count ≤ length xs
+    → length (slice_range xs first (first + count)) ≡ count
+length-slice xs first count fits =
+    omega (arith, fits, length-take (first + count - first) (drop first xs), length-drop first xs)
 
-in-slice : (xs : List Sector) (first count s : ℕ) → first ≤ s → s < first + count → slice_get (slice_range xs first (first + count)) (s - first) ≡ slice_get xs s
+in-slice : (xs : List Sector) (first count s : ℕ) → first ≤ s → s < first + count
+    → slice_get (slice_range xs first (first + count)) (s - first) ≡ slice_get xs s
 in-slice xs first count s from less =
-    slice_get-take (drop first xs) (first + count - first) (s - first) (omega arith) ∙ slice_get-drop xs first (s - first)
+    slice_get-take (drop first xs) (first + count - first) (s - first) (omega arith)
+    ∙ slice_get-drop xs first (s - first)
     ∙ ap (slice_get xs) (let at : first + (s - first) ≡ s = omega arith in at)
 
-pub copied-stands : (machine c d : ℕ) (log : List Entry) (base : Option Base) (snap : Snapped) (t : StageState) (v : VolumeContents) (run : Run) → IsGround machine c d log base snap
+pub copied-stands : (machine c d : ℕ) (log : List Entry) (base : Option Base) (snap : Snapped)
+    (t : StageState) (v : VolumeContents) (run : Run) → IsGround machine c d log base snap
     → StageStands c d log base snap t v → MayCopy (blocks_asked c d log base snap t.full) run t
     → StageStands c d log base snap (with_piece run t) (with_copy c d snap.mark log run v)
 copied-stands machine c d log base snap t v run ground stands may =
@@ -194,21 +242,28 @@ copied-stands machine c d log base snap t v run ground stands may =
     let end = may.piece.within in
     let within = fits.order.within in
     let sized = fits.sized in
-    written-stands machine c d log base snap t v run (slice_range disk run.first (end_of run)) ground stands may.piece
+    written-stands machine c d log base snap t v run (slice_range disk run.first (end_of run))
+    ground stands may.piece
     (length-slice disk run.first run.count (omega (arith, whole, end, within, sized)))
-    ((numbers_stay machine c d log base snap t ground fits).copied run may) may.is_next (λ partial. may.in_area)
+    ((numbers_stay machine c d log base snap t ground fits).copied run may) may.is_next
+    (λ partial. may.in_area)
     (λ s low high. in-slice disk run.first run.count s low high)
 
 -- what was never written is zero
-gap-is-zero : (machine c d : ℕ) (log : List Entry) (base : Option Base) (snap : Snapped) (full : Bool) (first count s : ℕ) → IsGround machine c d log base snap → full ≡ true
-    → in_blocks (blocks_asked c d log base snap full) s ≡ false → first ≤ s → s < first + count → s < c
+gap-is-zero : (machine c d : ℕ) (log : List Entry) (base : Option Base) (snap : Snapped)
+    (full : Bool) (first count s : ℕ) → IsGround machine c d log base snap → full ≡ true
+    → in_blocks (blocks_asked c d log base snap full) s ≡ false → first ≤ s → s < first + count
+    → s < c
     → slice_get (replicate count zero_sector) (s - first) ≡ slice_get (disk_at c d snap.mark log) s
 gap-is-zero machine c d log base snap full first count s ground is none low high less =
-    let gap : in_blocks (blocks_asked c d log base snap true) s ≡ false = ap (λ b. in_blocks (blocks_asked c d log base snap b) s) (sym is) ∙ none in
+    let gap : in_blocks (blocks_asked c d log base snap true) s ≡ false =
+    ap (λ b. in_blocks (blocks_asked c d log base snap b) s) (sym is) ∙ none in
     slice_get-replicate count (s - first) zero_sector (omega arith)
-    ∙ sym (unasked-same machine c d log base snap true s ground (omega arith) gap ∙ slice_get-replicate c s zero_sector less)
+    ∙ sym (unasked-same machine c d log base snap true s ground (omega arith) gap
+    ∙ slice_get-replicate c s zero_sector less)
 
-pub zeroed-stands : (machine c d : ℕ) (log : List Entry) (base : Option Base) (snap : Snapped) (t : StageState) (v : VolumeContents) (run : Run) → IsGround machine c d log base snap
+pub zeroed-stands : (machine c d : ℕ) (log : List Entry) (base : Option Base) (snap : Snapped)
+    (t : StageState) (v : VolumeContents) (run : Run) → IsGround machine c d log base snap
     → StageStands c d log base snap t v → MayZero (blocks_asked c d log base snap t.full) run t
     → StageStands c d log base snap (with_piece run t) (volume_zeroed run.first run.count v)
 zeroed-stands machine c d log base snap t v run ground stands may =
@@ -217,51 +272,74 @@ zeroed-stands machine c d log base snap t v run ground stands may =
     let within = fits.order.within in
     let sized = fits.sized in
     let next = may.is_next in
-    written-stands machine c d log base snap t v run (replicate run.count zero_sector) ground stands may.piece (length-replicate run.count zero_sector)
-    (zeroed-fits c d log base snap t run fits may) (λ s from less. absurd (omega (arith, next, from, less))) (λ partial. absurd (false≢true (sym partial ∙ may.full)))
-    (λ s low high. gap-is-zero machine c d log base snap t.full run.first run.count s ground may.full (may.in_gap s low high) low high (omega (arith, high, end, within, sized)))
+    written-stands machine c d log base snap t v run (replicate run.count zero_sector) ground stands
+    may.piece (length-replicate run.count zero_sector)
+    (zeroed-fits c d log base snap t run fits may)
+    (λ s from less. absurd (omega (arith, next, from, less)))
+    (λ partial. absurd (false≢true (sym partial ∙ may.full)))
+    (λ s low high. gap-is-zero machine c d log base snap t.full run.first run.count s ground
+    may.full (may.in_gap s low high) low high (omega (arith, high, end, within, sized)))
 
 -- ---- a flush
 
 -- a sector that a partial stage doesn't have to write is as at the base, and so as at the mark
-unwritten-same : (machine c d : ℕ) (log : List Entry) (base : Option Base) (snap : Snapped) (v : VolumeContents) (s : ℕ) → IsGround machine c d log base snap
-    → is_unfinished base (Some snap) ≡ true → RunsOnBase c d log base snap v → in_blocks (blocks_asked c d log base snap false) s ≡ false
+unwritten-same : (machine c d : ℕ) (log : List Entry) (base : Option Base) (snap : Snapped)
+    (v : VolumeContents) (s : ℕ) → IsGround machine c d log base snap
+    → is_unfinished base (Some snap) ≡ true → RunsOnBase c d log base snap v
+    → in_blocks (blocks_asked c d log base snap false) s ≡ false
     → slice_get v.sectors s ≡ slice_get (disk_at c d snap.mark log) s
 unwritten-same machine c d log None snap v s ground unfinished runs none = absurd runs
 unwritten-same machine c d log (Some b) snap v s ground unfinished runs none =
-    runs.as_base s (ap (λ (bs : List ℕ). in_blocks bs s) (open-asked c d log b snap unfinished) ∙ none)
+    runs.as_base s (ap (λ (bs : List ℕ). in_blocks bs s) (open-asked c d log b snap unfinished)
+    ∙ none)
     ∙ sym (unasked-same machine c d log (Some b) snap false s ground (ground.from_base b refl) none)
 
 -- at its end each sector is as at the mark
-ended-same : (machine c d : ℕ) (log : List Entry) (base : Option Base) (snap : Snapped) (full : Bool) (at : ℕ) (v : VolumeContents) (s : ℕ) (b : Bool) → IsGround machine c d log base snap
+ended-same : (machine c d : ℕ) (log : List Entry) (base : Option Base) (snap : Snapped)
+    (full : Bool) (at : ℕ) (v : VolumeContents) (s : ℕ) (b : Bool)
+    → IsGround machine c d log base snap
     → is_unfinished base (Some snap) ≡ true
-    → ((s : ℕ) → s < at → (full || in_blocks (blocks_asked c d log base snap full) s) ≡ true → slice_get v.sectors s ≡ slice_get (disk_at c d snap.mark log) s)
-    → ((s : ℕ) → at ≤ s → s < c → (full || in_blocks (blocks_asked c d log base snap full) s) ≡ false)
-    → (full ≡ false → RunsOnBase c d log base snap v) → s < c → (full || in_blocks (blocks_asked c d log base snap full) s) ≡ b
+    → ((s : ℕ) → s < at → (full || in_blocks (blocks_asked c d log base snap full) s) ≡ true
+    → slice_get v.sectors s ≡ slice_get (disk_at c d snap.mark log) s)
+    → ((s : ℕ) → at ≤ s → s < c
+    → (full || in_blocks (blocks_asked c d log base snap full) s) ≡ false)
+    → (full ≡ false → RunsOnBase c d log base snap v) → s < c
+    → (full || in_blocks (blocks_asked c d log base snap full) s) ≡ b
     → slice_get v.sectors s ≡ slice_get (disk_at c d snap.mark log) s
-ended-same machine c d log base snap full at v s true ground unfinished copied ready runs less is = elim (cases_lt s at) [
-  | inl before ↦ copied s before is
-  | inr from ↦ absurd (false≢true (sym (ready s from less) ∙ is))
-]
-ended-same machine c d log base snap true at v s false ground unfinished copied ready runs less is = absurd (false≢true (sym is))
-ended-same machine c d log base snap false at v s false ground unfinished copied ready runs less is = unwritten-same machine c d log base snap v s ground unfinished (runs refl) is
+ended-same machine c d log base snap full at v s true ground unfinished copied ready runs less is =
+    elim (cases_lt s at) [
+      | inl before ↦ copied s before is
+      | inr from ↦ absurd (false≢true (sym (ready s from less) ∙ is))
+    ]
+ended-same machine c d log base snap true at v s false ground unfinished copied ready runs less is =
+    absurd (false≢true (sym is))
+ended-same machine c d log base snap false at v s false ground unfinished copied ready runs less is
+    = unwritten-same machine c d log base snap v s ground unfinished (runs refl) is
 
-flushed-on_base : (c d : ℕ) (log : List Entry) (b : Base) (snap : Option Snapped) (v : VolumeContents) → IsSized c v → IsOnBase c d log b snap v → IsOnBase c d log b snap (volume_flushed v)
+flushed-on_base : (c d : ℕ) (log : List Entry) (b : Base) (snap : Option Snapped)
+    (v : VolumeContents) → IsSized c v → IsOnBase c d log b snap v
+    → IsOnBase c d log b snap (volume_flushed v)
 flushed-on_base c d log b snap v sized on = record {
   as_base = on.as_base;
   loose_inside = λ s loose. absurd (false≢true (sym ((loose_then c v s sized).flushed) ∙ loose));
 }
 
-flushed-runs : (c d : ℕ) (log : List Entry) (base : Option Base) (snap : Snapped) (v : VolumeContents) → IsSized c v → RunsOnBase c d log base snap v → RunsOnBase c d log base snap (volume_flushed v)
+flushed-runs : (c d : ℕ) (log : List Entry) (base : Option Base) (snap : Snapped)
+    (v : VolumeContents) → IsSized c v → RunsOnBase c d log base snap v
+    → RunsOnBase c d log base snap (volume_flushed v)
 flushed-runs c d log None snap v sized runs = runs
 flushed-runs c d log (Some b) snap v sized runs = flushed-on_base c d log b (Some snap) v sized runs
 
-flushed-staged : (c d : ℕ) (log : List Entry) (base : Option Base) (snap : Option Snapped) (v : VolumeContents) → IsSized c v → Staged c d log base snap v → Staged c d log base snap (volume_flushed v)
+flushed-staged : (c d : ℕ) (log : List Entry) (base : Option Base) (snap : Option Snapped)
+    (v : VolumeContents) → IsSized c v → Staged c d log base snap v
+    → Staged c d log base snap (volume_flushed v)
 flushed-staged c d log None snap v sized staged = tt
-flushed-staged c d log (Some b) snap v sized (inl on) = inl (flushed-on_base c d log b snap v sized on)
+flushed-staged c d log (Some b) snap v sized (inl on) =
+    inl (flushed-on_base c d log b snap v sized on)
 flushed-staged c d log (Some b) snap v sized (inr forgotten) = inr forgotten
 
-pub flushed-stands : (machine c d : ℕ) (log : List Entry) (base : Option Base) (snap : Snapped) (t : StageState) (v : VolumeContents) → IsGround machine c d log base snap
+pub flushed-stands : (machine c d : ℕ) (log : List Entry) (base : Option Base) (snap : Snapped)
+    (t : StageState) (v : VolumeContents) → IsGround machine c d log base snap
     → StageStands c d log base snap t v → MayFlush (blocks_asked c d log base snap t.full) t
     → StageStands c d log base snap (at_its_end t) (volume_flushed v)
 flushed-stands machine c d log base snap t v ground stands may =
@@ -269,12 +347,17 @@ flushed-stands machine c d log base snap t v ground stands may =
     let holds = stands.holds in
     let sized = fits.sized in
     let all = may.all in
-    let same : (s : ℕ) → s < c → slice_get v.sectors s ≡ slice_get (disk_at c d snap.mark log) s = λ s less.
-    ended-same machine c d log base snap t.full t.at v s (has_to_write (blocks_asked c d log base snap t.full) t s) ground fits.unfinished holds.copied
+    let same : (s : ℕ) → s < c → slice_get v.sectors s ≡ slice_get (disk_at c d snap.mark log) s =
+    λ s less.
+    ended-same machine c d log base snap t.full t.at v s
+    (has_to_write (blocks_asked c d log base snap t.full) t s) ground fits.unfinished
+    holds.copied
     (λ s from below. may.ready s from (omega (arith, all, sized, below)))
     (λ partial. holds.on_base partial (omega (arith, all, sized, less))) less refl in
     let whole : v.sectors ≡ disk_at c d snap.mark log =
-    same_items v.sectors (disk_at c d snap.mark log) (stands.sized.0 ∙ sym (length-disk_at c d snap.mark log ground.legal)) (λ s less. same s (omega (arith, less, stands.sized.0))) in
+    same_items v.sectors (disk_at c d snap.mark log)
+    (stands.sized.0 ∙ sym (length-disk_at c d snap.mark log ground.legal))
+    (λ s less. same s (omega (arith, less, stands.sized.0))) in
     record {
       sized = (keep_their_size c v stands.sized).flushed;
       fits = (numbers_stay machine c d log base snap t ground fits).flushed may;
@@ -282,7 +365,8 @@ flushed-stands machine c d log base snap t v ground stands may =
         copied = λ s less due. same s (omega (arith, less, sized));
         tight = λ flushed. (flushed_is_none_loose c v stands.sized).by_flush;
         whole = λ flushed. whole;
-        on_base = λ partial some. flushed-runs c d log base snap v stands.sized (holds.on_base partial some);
+        on_base = λ partial some. flushed-runs c d log base snap v stands.sized
+            (holds.on_base partial some);
       };
       staged = flushed-staged c d log base (Some snap) v stands.sized stands.staged;
     }
@@ -291,19 +375,26 @@ flushed-stands machine c d log base snap t v ground stands may =
 
 none-loose : (c : ℕ) (v : VolumeContents) (s : ℕ) → IsSized c v → IsFlushed v → is_loose s v ≡ false
 none-loose c v s sized flushed =
-    ap (λ (l : List Bool). slice_index_or l s false) (flushed ∙ ap (λ n. replicate n false) (sized.0 ∙ sym sized.1)) ∙ (loose_then c v s sized).flushed
+    ap (λ (l : List Bool). slice_index_or l s false)
+    (flushed ∙ ap (λ n. replicate n false) (sized.0 ∙ sym sized.1))
+    ∙ (loose_then c v s sized).flushed
 
-pub done-staged : (c d : ℕ) (log : List Entry) (base : Option Base) (snap : Snapped) (t : StageState) (v : VolumeContents) (id : ChangeId) → StageStands c d log base snap t v → t.flushed ≡ true
+pub done-staged : (c d : ℕ) (log : List Entry) (base : Option Base) (snap : Snapped)
+    (t : StageState) (v : VolumeContents) (id : ChangeId) → StageStands c d log base snap t v
+    → t.flushed ≡ true
     → Staged c d log (Some (record { mark = snap.mark; id = id })) (Some snap) v
 done-staged c d log base snap t v id stands flushed =
     let holds = stands.holds in
     inl (record {
       as_base = λ s none. ap (λ (xs : List Sector). slice_get xs s) (holds.whole flushed);
-      loose_inside = λ s loose. absurd (false≢true (sym (none-loose c v s stands.sized (holds.tight flushed)) ∙ loose));
+      loose_inside = λ s loose. absurd
+          (false≢true (sym (none-loose c v s stands.sized (holds.tight flushed)) ∙ loose));
     })
 
-broken-copy : (c d : ℕ) (log : List Entry) (base : Option Base) (snap : Snapped) (t : StageState) (v new : VolumeContents) (run : Run) → StageStands c d log base snap t v
-    → MayCopy (blocks_asked c d log base snap t.full) run t → IsBrokenAt run.first run.count v new → Staged c d log base (Some snap) new
+broken-copy : (c d : ℕ) (log : List Entry) (base : Option Base) (snap : Snapped) (t : StageState)
+    (v new : VolumeContents) (run : Run) → StageStands c d log base snap t v
+    → MayCopy (blocks_asked c d log base snap t.full) run t → IsBrokenAt run.first run.count v new
+    → Staged c d log base (Some snap) new
 broken-copy c d log base snap t v new run stands may broken =
     let fits = stands.fits in
     let some = may.piece.some in
@@ -311,45 +402,63 @@ broken-copy c d log base snap t v new run stands may broken =
     let within = fits.order.within in
     let sized = fits.sized in
     staged-by c d log base snap new t.full fits.full (λ partial.
-    runs-broken c d log base snap v new run.first run.count stands.sized (omega (arith, end, within, sized)) fits.unfinished
-    (λ s low high. ap (λ b. in_blocks (blocks_asked c d log base snap b) s) (sym partial) ∙ may.in_area s low high) broken
+    runs-broken c d log base snap v new run.first run.count stands.sized
+    (omega (arith, end, within, sized)) fits.unfinished
+    (λ s low high. ap (λ b. in_blocks (blocks_asked c d log base snap b) s) (sym partial)
+    ∙ may.in_area s low high) broken
     (stands.holds.on_base partial (omega (arith, some, end))))
 
-pub broken-staged : (c d : ℕ) (log : List Entry) (base : Option Base) (snap : Snapped) (t : StageState) (v new : VolumeContents) (run : Run) → StageStands c d log base snap t v
-    → (MayCopy (blocks_asked c d log base snap t.full) run t) ⊎ (MayZero (blocks_asked c d log base snap t.full) run t)
+pub broken-staged : (c d : ℕ) (log : List Entry) (base : Option Base) (snap : Snapped)
+    (t : StageState) (v new : VolumeContents) (run : Run) → StageStands c d log base snap t v
+    → (MayCopy (blocks_asked c d log base snap t.full) run t)
+    ⊎ (MayZero (blocks_asked c d log base snap t.full) run t)
     → IsBrokenAt run.first run.count v new → Staged c d log base (Some snap) new
-broken-staged c d log base snap t v new run stands (inl copy) broken = broken-copy c d log base snap t v new run stands copy broken
-broken-staged c d log base snap t v new run stands (inr zero_) broken = full-staged c d log base snap new (stands.fits.full zero_.full)
+broken-staged c d log base snap t v new run stands (inl copy) broken =
+    broken-copy c d log base snap t v new run stands copy broken
+broken-staged c d log base snap t v new run stands (inr zero_) broken =
+    full-staged c d log base snap new (stands.fits.full zero_.full)
 
 -- ---- later entries
 
-on_base-later : (c d : ℕ) (log more : List Entry) (b : Base) (snap : Option Snapped) (v : VolumeContents) → b.mark ≤ length log → open_blocks c d (log ++ more) b snap ≡ open_blocks c d log b snap
+on_base-later : (c d : ℕ) (log more : List Entry) (b : Base) (snap : Option Snapped)
+    (v : VolumeContents) → b.mark ≤ length log
+    → open_blocks c d (log ++ more) b snap ≡ open_blocks c d log b snap
     → IsOnBase c d log b snap v → IsOnBase c d (log ++ more) b snap v
 on_base-later c d log more b snap v le same on = record {
   as_base = λ s none.
-      on.as_base s (ap (λ (bs : List ℕ). in_blocks bs s) (sym same) ∙ none) ∙ ap (λ (xs : List Sector). slice_get xs s) (sym (disk_at-later c d b.mark log more le));
+      on.as_base s (ap (λ (bs : List ℕ). in_blocks bs s) (sym same) ∙ none)
+      ∙ ap (λ (xs : List Sector). slice_get xs s) (sym (disk_at-later c d b.mark log more le));
   loose_inside = λ s loose. ap (λ (bs : List ℕ). in_blocks bs s) same ∙ on.loose_inside s loose;
 }
 
-pub open-later : (c d : ℕ) (log more : List Entry) (b : Base) (snap : Option Snapped) → ((s : Snapped) → snap ≡ Some s → s.mark ≤ length log)
+pub open-later : (c d : ℕ) (log more : List Entry) (b : Base) (snap : Option Snapped)
+    → ((s : Snapped) → snap ≡ Some s → s.mark ≤ length log)
     → open_blocks c d (log ++ more) b snap ≡ open_blocks c d log b snap
 open-later c d log more b None within = refl
 open-later c d log more b (Some snap) within =
-    ap (λ (bs : List ℕ). cond (is_unfinished (Some b) (Some snap)) bs []) (asked-later c d log more (Some b) snap false (within snap refl))
+    ap (λ (bs : List ℕ). cond (is_unfinished (Some b) (Some snap)) bs [])
+    (asked-later c d log more (Some b) snap false (within snap refl))
 
 pub staged-later : EntriesStay
 staged-later c d log more None snap v low within staged = tt
-staged-later c d log more (Some b) snap v low within (inl on) = inl (on_base-later c d log more b snap v (low b refl) (open-later c d log more b snap within) on)
-staged-later c d log more (Some b) snap v low within (inr forgotten) = inr (forgotten-later d log more b snap (low b refl) forgotten)
+staged-later c d log more (Some b) snap v low within (inl on) =
+    inl (on_base-later c d log more b snap v (low b refl) (open-later c d log more b snap within)
+    on)
+staged-later c d log more (Some b) snap v low within (inr forgotten) =
+    inr (forgotten-later d log more b snap (low b refl) forgotten)
 
-runs-later : (machine c d : ℕ) (log more : List Entry) (base : Option Base) (snap : Snapped) (v : VolumeContents) → IsGround machine c d log base snap
+runs-later : (machine c d : ℕ) (log more : List Entry) (base : Option Base) (snap : Snapped)
+    (v : VolumeContents) → IsGround machine c d log base snap
     → RunsOnBase c d log base snap v → RunsOnBase c d (log ++ more) base snap v
 runs-later machine c d log more None snap v ground runs = runs
 runs-later machine c d log more (Some b) snap v ground runs =
     on_base-later c d log more b (Some snap) v (base-within machine c d log b snap ground)
-    (open-later c d log more b (Some snap) (λ s is. subst (λ (x : Snapped). x.mark ≤ length log) (same_Some snap s is) (mark-within machine c d log (Some b) snap ground))) runs
+    (open-later c d log more b (Some snap)
+    (λ s is. subst (λ (x : Snapped). x.mark ≤ length log) (same_Some snap s is)
+    (mark-within machine c d log (Some b) snap ground))) runs
 
-pub later-stands : (machine c d : ℕ) (log more : List Entry) (base : Option Base) (snap : Snapped) (t : StageState) (v : VolumeContents) → IsGround machine c d log base snap
+pub later-stands : (machine c d : ℕ) (log more : List Entry) (base : Option Base) (snap : Snapped)
+    (t : StageState) (v : VolumeContents) → IsGround machine c d log base snap
     → StageStands c d log base snap t v → StageStands c d (log ++ more) base snap t v
 later-stands machine c d log more base snap t v ground stands =
     let holds = stands.holds in
@@ -361,22 +470,28 @@ later-stands machine c d log more base snap t v ground stands =
       fits = fits-later machine c d log more base snap t ground stands.fits;
       holds = record {
         copied = λ s less due.
-            holds.copied s less (ap (λ (bs : List ℕ). has_to_write bs t s) (sym asked) ∙ due) ∙ ap (λ (xs : List Sector). slice_get xs s) (sym disk);
+            holds.copied s less (ap (λ (bs : List ℕ). has_to_write bs t s) (sym asked) ∙ due)
+            ∙ ap (λ (xs : List Sector). slice_get xs s) (sym disk);
         tight = holds.tight;
         whole = λ flushed. holds.whole flushed ∙ sym disk;
-        on_base = λ partial some. runs-later machine c d log more base snap v ground (holds.on_base partial some);
+        on_base = λ partial some. runs-later machine c d log more base snap v ground
+            (holds.on_base partial some);
       };
       staged = staged-later c d log more base (Some snap) v
-          (λ b is. base-within machine c d log b snap (subst (λ (o : Option Base). IsGround machine c d log o snap) is ground))
-          (λ s is. subst (λ (x : Snapped). x.mark ≤ length log) (same_Some snap s is) mark) stands.staged;
+          (λ b is. base-within machine c d log b snap
+          (subst (λ (o : Option Base). IsGround machine c d log o snap) is ground))
+          (λ s is. subst (λ (x : Snapped). x.mark ≤ length log) (same_Some snap s is) mark)
+          stands.staged;
     }
 
 -- ---- all together
 
 pub stages_stay : StagesWithVolumesStay
 stages_stay machine c d log base snap t v ground stands = record {
-  answered = λ areas ask ok. answered-stands machine c d log base snap t v areas ground stands ask ok;
-  refused = λ found ask partial err. refused-stands machine c d log base snap t v found ground stands ask partial err;
+  answered = λ areas ask ok. answered-stands machine c d log base snap t v areas ground stands ask
+      ok;
+  refused = λ found ask partial err. refused-stands machine c d log base snap t v found ground
+      stands ask partial err;
   copied = λ run may. copied-stands machine c d log base snap t v run ground stands may;
   zeroed = λ run may. zeroed-stands machine c d log base snap t v run ground stands may;
   flushed = λ may. flushed-stands machine c d log base snap t v ground stands may;
@@ -387,11 +502,14 @@ stages_stay machine c d log base snap t v ground stands = record {
 
 -- ---- a stage that begins
 
-begun-written : (c d : ℕ) (log : List Entry) (base : Option Base) (snap : Snapped) → HasWritten c d log base snap (is_none base) 0 0
+begun-written : (c d : ℕ) (log : List Entry) (base : Option Base) (snap : Snapped)
+    → HasWritten c d log base snap (is_none base) 0 0
 begun-written c d log None snap = refl
-begun-written c d log (Some b) snap = let zero_at = sectors_below-le (blocks_asked c d log (Some b) snap false) 0 in omega (arith, zero_at)
+begun-written c d log (Some b) snap = let zero_at =
+    sectors_below-le (blocks_asked c d log (Some b) snap false) 0 in omega (arith, zero_at)
 
-begun-must : (d : ℕ) (log : List Entry) (base : Option Base) (snap : Snapped) → is_none base ≡ true → HasToBeFull d log base snap
+begun-must : (d : ℕ) (log : List Entry) (base : Option Base) (snap : Snapped) → is_none base ≡ true
+    → HasToBeFull d log base snap
 begun-must d log None snap full = tt
 begun-must d log (Some b) snap full = absurd (false≢true full)
 
@@ -435,6 +553,7 @@ begun-stands c d log base snap v sized unfinished staged = record {
 
 pub written-at-end : WrittenAtEnd
 written-at-end c d log base snap t fits flushed = record {
-  written = subst (λ n. HasWritten c d log base snap t.full n t.written) (fits.order.ended flushed ∙ fits.sized) fits.written;
+  written = subst (λ n. HasWritten c d log base snap t.full n t.written) (fits.order.ended flushed
+      ∙ fits.sized) fits.written;
   full = fits.full;
 }

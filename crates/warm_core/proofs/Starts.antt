@@ -22,8 +22,10 @@ legal-none disks log is = subst (λ (xs : List Entry). Legal disks xs) (sym is) 
   each = λ place e read. absurd (none-some e read);
 })
 
-pub sized-of : (sectors : List Sector) (loose : List Run) (c : ℕ) → length sectors ≡ c → IsSized c (volume_of sectors loose)
-sized-of sectors loose c is = (is, length-map-range_with_len (in_runs loose) 0 (length sectors) ∙ is)
+pub sized-of : (sectors : List Sector) (loose : List Run) (c : ℕ) → length sectors ≡ c
+    → IsSized c (volume_of sectors loose)
+sized-of sectors loose c is =
+    (is, length-map-range_with_len (in_runs loose) 0 (length sectors) ∙ is)
 
 pub start-sound : (w : World) → IsStart w → IsSound w
 start-sound w start = record {
@@ -38,5 +40,6 @@ start-sound w start = record {
   stage_has_snap = λ some. absurd (none-is_some w.stage start.no_stage some);
   stage_is = λ snap is. absurd (none-some snap (sym start.no_snap ∙ is));
   complete_is = λ p is. absurd (none-some p (sym start.incomplete ∙ is));
-  staged = subst (λ (o : Option Base). Staged w.capacity w.disk w.log o w.snap w.volume) (sym start.no_base) tt;
+  staged = subst (λ (o : Option Base). Staged w.capacity w.disk w.log o w.snap w.volume)
+      (sym start.no_base) tt;
 }

@@ -23,9 +23,12 @@ returns-clause-answer c =
     let parts = rw c.in_ok-front.ensures.ok_part at c.split_at_slash.ensures in
     let uuid = rw c.in_ok-uuid.ensures.ok_part at c.parse_uuid.ensures in
     let number = rw c.in_ok-seq.ensures.ok_part at c.parse_number.ensures in
-    spelled_by_parts c.args.text.now c.in_ok-uuid.uuid c.in_ok-seq.seq (search rules) number.0 (search rules)
+    spelled_by_parts c.args.text.now c.in_ok-uuid.uuid c.in_ok-seq.seq (search rules) number.0
+    (search rules)
     parts.0 (sym parts.1 ∙ uuid) (sym parts.2 ∙ number.1)
 
 pub returns-clause-spelled : goal.returns-clause-spelled
 returns-clause-spelled c =
-    λ id spells. one_answer c.args.text.now (Ok (record { uuid = c.in_ok-uuid.uuid; seq = c.in_ok-seq.seq })) (Ok id) (returns-clause-answer c) spells
+    λ id spells. one_answer c.args.text.now
+    (Ok (record { uuid = c.in_ok-uuid.uuid; seq = c.in_ok-seq.seq })) (Ok id)
+    (returns-clause-answer c) spells

@@ -5,4 +5,5 @@ use Rattle.change_id.proofs.written_parses.Goals as goal
 
 pub returns : goal.returns
 returns c = λ id answer is_id a.
-    one_answer (spelling id.uuid id.seq) answer (Ok id) a (record { identifier = is_id; spelled = refl })
+    one_answer (spelling id.uuid id.seq) answer (Ok id) a
+    (record { identifier = is_id; spelled = refl })

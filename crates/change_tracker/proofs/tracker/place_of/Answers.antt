@@ -13,13 +13,21 @@ returns-in_default c =
     let ks : List Kept = c.args.snapshots.now in
     let rise = ids_rise 0 c.requires.0 ks c.requires.1 in
     let point : Point c.args.id ks c.partition_point-place.result =
-    IsPartitionPoint-from_clause (λ k. ltb k.id c.args.id) ks c.partition_point-place.result c.partition_point-place.ensures.partitioned (IsPartitionedBy-ltb (λ k. k.id) ks c.args.id rise) (λ a r f k. search rules) in
-    none_with_id ks c.args.id c.partition_point-place.result c.get.result point rise (other_here ks c.args.id c.partition_point-place.result c.in-Some.kept c.in-Some.ensures.lookup c.if-kept-id.false)
+    IsPartitionPoint-from_clause (λ k. ltb k.id c.args.id) ks c.partition_point-place.result
+    c.partition_point-place.ensures.partitioned
+    (IsPartitionedBy-ltb (λ k. k.id) ks c.args.id rise) (λ a r f k. search rules) in
+    none_with_id ks c.args.id c.partition_point-place.result c.get.result point rise
+    (other_here ks c.args.id c.partition_point-place.result c.in-Some.kept
+    c.in-Some.ensures.lookup c.if-kept-id.false)
 
 pub returns-in_default-2 : goal.returns-in_default-2
 returns-in_default-2 c =
     let ks : List Kept = c.args.snapshots.now in
     let rise = ids_rise 0 c.requires.0 ks c.requires.1 in
     let point : Point c.args.id ks c.partition_point-place.result =
-    IsPartitionPoint-from_clause (λ k. ltb k.id c.args.id) ks c.partition_point-place.result c.partition_point-place.ensures.partitioned (IsPartitionedBy-ltb (λ k. k.id) ks c.args.id rise) (λ a r f k. search rules) in
-    none_with_id ks c.args.id c.partition_point-place.result c.get.result point rise (none_here ks c.args.id c.partition_point-place.result c.get.result c.get.ensures.lookup c.in_default.is)
+    IsPartitionPoint-from_clause (λ k. ltb k.id c.args.id) ks c.partition_point-place.result
+    c.partition_point-place.ensures.partitioned
+    (IsPartitionedBy-ltb (λ k. k.id) ks c.args.id rise) (λ a r f k. search rules) in
+    none_with_id ks c.args.id c.partition_point-place.result c.get.result point rise
+    (none_here ks c.args.id c.partition_point-place.result c.get.result c.get.ensures.lookup
+    c.in_default.is)

@@ -10,5 +10,6 @@ loop-copy-preserved c =
     let i = c.loop-copy.copy-index in
     let copy = get_or copies i new_copy in
     let within : i < length copies = omega arith in
-    map_over_more fresh_copy c.args.copies.now copies i copy c.loop-copy-test.true c.loop-copy.invariant
+    map_over_more fresh_copy c.args.copies.now copies i copy c.loop-copy-test.true
+    c.loop-copy.invariant
     (get_or_default copies i new_copy copy within)

@@ -19,7 +19,8 @@ one_more count seen x next old new all within is pushed before =
 
 pub loop-preserved : goal.loop-preserved
 loop-preserved c =
-    one_more c.args.count c.loop.counter c.loop.x _ c.loop.bytes.items c.push.new.self.items _ (omega arith)
+    one_more c.args.count c.loop.counter c.loop.x _ c.loop.bytes.items c.push.new.self.items _
+    (omega arith)
     c.advance-x.ensures c.in_ok-push.ensures.items c.loop.invariant
 
 pub returns-clause-len : goal.returns-clause-len

@@ -13,14 +13,21 @@ returns-then-cells-lt-CELL_BYTES c = λ body behind is.
 
 pub returns-then-cells-ne-OPEN_GATE : goal.returns-then-cells-ne-OPEN_GATE
 returns-then-cells-ne-OPEN_GATE c = λ body behind is.
-    let gate : get_or c.args.cells.now 0 0 ≡ OPEN_GATE = open_gate c.args.cells.now body behind is in
+    let gate : get_or c.args.cells.now 0 0 ≡ OPEN_GATE =
+    open_gate c.args.cells.now body behind is in
     grind (arith, common_steps)
 
 pub returns-then-len-behind : goal.returns-then-len-behind
 returns-then-len-behind c = λ body behind is.
     let word : c.word-len.result ≡ word_at (drop 1 c.args.cells.now) =
     c.word-len.ensures ∙ ap word_at (take_rest c.args.cells.now 1) in
-    absurd (omega (arith, open_fits c.args.cells.now body behind is, word, ap length (take_rest c.args.cells.now 5)))
+    absurd (omega (
+      arith,
+      open_fits c.args.cells.now body behind is,
+      word,
+      ap length
+          (take_rest c.args.cells.now 5),
+    ))
 
 pub returns : goal.returns
 returns c =
@@ -32,5 +39,7 @@ returns c =
     let rest : take (length cells - 5) (drop 5 cells) ≡ drop 5 cells = take_rest cells 5 in
     is_open cells _ _ bytes (drop_bytes 1 cells bytes) (omega arith) gate
     (omega (arith, word, ap length rest))
-    (c.split_at.ensures.front ∙ ap (λ xs. take c.word-len.result xs) rest ∙ ap (λ n. take n (drop 5 cells)) word)
-    (c.split_at.ensures.back ∙ ap (λ xs. drop c.word-len.result xs) rest ∙ ap (λ n. drop n (drop 5 cells)) word)
+    (c.split_at.ensures.front ∙ ap (λ xs. take c.word-len.result xs) rest
+    ∙ ap (λ n. take n (drop 5 cells)) word)
+    (c.split_at.ensures.back ∙ ap (λ xs. drop c.word-len.result xs) rest
+    ∙ ap (λ n. drop n (drop 5 cells)) word)

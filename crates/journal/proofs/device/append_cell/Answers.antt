@@ -18,16 +18,20 @@ returns-in_err-or-clause-cut g c =
 pub returns-in_err-or-2-clause-cut : goal.returns-in_err-or-2-clause-cut
 returns-in_err-or-2-clause-cut g c =
     let written : (g.D.Disk.state c.write_at.new.self).contents
-    ≡ option_map (after_write c.args.len c.args.cell.now) (g.D.Disk.state c.args.disk.now).contents =
+    ≡ option_map (after_write c.args.len c.args.cell.now) (g.D.Disk.state c.args.disk.now).contents
+    =
     grind (arith, common_steps, c.write_at.ensures.written) in
-    let kept : (g.D.Disk.state c.sync.new.self).contents ≡ (g.D.Disk.state c.write_at.new.self).contents =
+    let kept : (g.D.Disk.state c.sync.new.self).contents
+    ≡ (g.D.Disk.state c.write_at.new.self).contents =
     grind (arith, common_steps, c.sync.ensures.kept) in
-    on_err _ (sync_cut _ _ _ c.args.len c.args.cell.now c.requires.settled c.requires.long written kept)
+    on_err _ (sync_cut _ _ _ c.args.len c.args.cell.now c.requires.settled c.requires.long written
+    kept)
 
 pub returns-in_err-or-3-clause-cut : goal.returns-in_err-or-3-clause-cut
 returns-in_err-or-3-clause-cut g c =
     let written : (g.D.Disk.state c.write_at.new.self).contents
-    ≡ option_map (after_write c.args.len c.args.cell.now) (g.D.Disk.state c.args.disk.now).contents =
+    ≡ option_map (after_write c.args.len c.args.cell.now) (g.D.Disk.state c.args.disk.now).contents
+    =
     grind (arith, common_steps, c.write_at.ensures.written) in
     let synced : (g.D.Disk.state c.sync.new.self).contents
     ≡ option_map after_sync (g.D.Disk.state c.write_at.new.self).contents =
@@ -41,13 +45,15 @@ returns-in_err-or-3-clause-cut g c =
 pub returns-clause-cut : goal.returns-clause-cut
 returns-clause-cut g c =
     let written : (g.D.Disk.state c.write_at.new.self).contents
-    ≡ option_map (after_write c.args.len c.args.cell.now) (g.D.Disk.state c.args.disk.now).contents =
+    ≡ option_map (after_write c.args.len c.args.cell.now) (g.D.Disk.state c.args.disk.now).contents
+    =
     grind (arith, common_steps, c.write_at.ensures.written) in
     let synced : (g.D.Disk.state c.sync.new.self).contents
     ≡ option_map after_sync (g.D.Disk.state c.write_at.new.self).contents =
     grind (arith, common_steps, c.sync.ensures.synced) in
     let opened : (g.D.Disk.state c.write_at-2.new.self).contents
-    ≡ option_map (after_write (c.args.len - 1) (OPEN_GATE ∷ [])) (g.D.Disk.state c.sync.new.self).contents =
+    ≡ option_map (after_write (c.args.len - 1) (OPEN_GATE ∷ []))
+    (g.D.Disk.state c.sync.new.self).contents =
     grind (arith, common_steps, c.write_at-2.ensures.written) in
     on_err_or c.sync-2.result c.or-4.result _ _ _ c.or-4.ensures c.sync-2.ensures.kept
     (λ kept.

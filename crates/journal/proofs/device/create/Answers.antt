@@ -17,7 +17,8 @@ returns-in_err-or-2-clause-cut g c =
     let broken : WhereTold (IsBrokenWrite 0 EMPTY_BYTES)
     (g.D.Disk.state c.cut.new.self).contents (g.D.Disk.state c.write_at.new.self).contents =
     grind (arith, common_steps, c.write_at.ensures.broken, c.empty_file.ensures) in
-    on_err _ (write_few _ _ _ EMPTY_BYTES EMPTY_BYTES (omega arith) c.requires.settled c.requires.short cut broken)
+    on_err _ (write_few _ _ _ EMPTY_BYTES EMPTY_BYTES (omega arith) c.requires.settled
+    c.requires.short cut broken)
 
 pub returns-clause-cut : goal.returns-clause-cut
 returns-clause-cut g c =
@@ -29,4 +30,5 @@ returns-clause-cut g c =
     grind (arith, common_steps, c.write_at.ensures.written, c.empty_file.ensures) in
     on_err_or c.sync.result c.or-3.result _ _ _ c.or-3.ensures c.sync.ensures.kept
     (λ kept.
-    sync_few _ _ _ _ empty_file EMPTY_BYTES (omega arith) c.requires.settled c.requires.short cut written kept)
+    sync_few _ _ _ _ empty_file EMPTY_BYTES (omega arith) c.requires.settled c.requires.short cut
+    written kept)

@@ -10,13 +10,16 @@ loop-at-preserved g c =
     record {
       within = grind (arith, common_steps);
       piece =
-          rw same (next_piece c.loop-at.at c.min-end.result (length c.loop-at.bytes) c.loop-at.invariant.piece
+          rw same (next_piece c.loop-at.at c.min-end.result (length c.loop-at.bytes)
+          c.loop-at.invariant.piece
           (omega arith) (omega arith));
       kept = grind (arith, common_steps);
       faults = grind (arith, common_steps);
       read = λ contents told.
-          piece_read c.loop-at.at c.min-end.result c.loop-at.bytes c.read_piece.new.bytes contents.bytes (omega arith)
-          (omega arith) (omega (arith, c.requires.all contents told)) (c.loop-at.invariant.read contents told)
+          piece_read c.loop-at.at c.min-end.result c.loop-at.bytes c.read_piece.new.bytes
+          contents.bytes (omega arith)
+          (omega arith) (omega (arith, c.requires.all contents told))
+          (c.loop-at.invariant.read contents told)
           (at_some _ _ _ (c.loop-at.invariant.kept ∙ told) c.in_ok-read_piece.ensures.given);
     }
 

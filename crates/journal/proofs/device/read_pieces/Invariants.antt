@@ -9,7 +9,8 @@ invariant-loop-at g l = record {
   piece : (l.at % PIECE_BYTES ≡ 0) ⊎ (l.at ≡ length l.bytes);
   kept : (g.D.Disk.state l.disk).contents ≡ (g.D.Disk.state l.initial.disk).contents;
   faults : (g.D.Disk.state l.disk).faults ≡ (g.D.Disk.state l.initial.disk).faults;
-  read : ForSome (g.D.Disk.state l.initial.disk).contents (λ c. take l.at l.bytes ≡ take l.at c.bytes);
+  read : ForSome (g.D.Disk.state l.initial.disk).contents
+      (λ c. take l.at l.bytes ≡ take l.at c.bytes);
 }
 
 abbrev pub decreases-loop-at : goal.decreases-loop-at

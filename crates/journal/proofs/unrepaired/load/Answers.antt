@@ -24,7 +24,8 @@ returns-in_err-found g c =
     let is : c.from_residual-in_err-found.result ≡ Err c.in_err-found.field-0.0 =
     grind (arith, common_steps, c.from_residual-in_err-found.ensures) in
     let found : IsFound c.in_ok-bytes.bytes.items (Err c.in_err-found.field-0.0) =
-    subst (λ (xs : List ℕ). IsFound xs (Err c.in_err-found.field-0.0)) c.deref.ensures.value c.in_err-found.ensures in
+    subst (λ (xs : List ℕ). IsFound xs (Err c.in_err-found.field-0.0)) c.deref.ensures.value
+    c.in_err-found.ensures in
     let read = c.in_ok-bytes.ensures.read in
     rw is (
       unfound c.in_err-found.field-0.0 old new c.in_ok-bytes.bytes.items read.0 read.2 found,

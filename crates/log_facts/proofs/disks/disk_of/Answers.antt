@@ -15,9 +15,14 @@ loop-place-preserved c =
     let i = c.loop-place.place in
     let e = c.index-log-place.result in
     let more = taken_more log i e c.loop-place-test.true c.index-log-place.is in
-    let counts = c.after-count.ensures ∙ count_more c.args.disk log i c.loop-place.count e c.loop-place-test.true c.index-log-place.is c.loop-place.invariant.counts in
-    let few = few_more c.args.disk i c.loop-place.count c.after-count.result e c.loop-place.invariant.few_resets c.loop-place.invariant.few_counted c.after-count.ensures in
-    let long : length (take i log) ≡ i = length-take-le i log (omega (arith, c.loop-place-test.true)) in
+    let counts = c.after-count.ensures
+    ∙ count_more c.args.disk log i c.loop-place.count e c.loop-place-test.true
+    c.index-log-place.is c.loop-place.invariant.counts in
+    let few = few_more c.args.disk i c.loop-place.count c.after-count.result e
+    c.loop-place.invariant.few_resets c.loop-place.invariant.few_counted c.after-count.ensures
+    in
+    let long : length (take i log) ≡ i =
+    length-take-le i log (omega (arith, c.loop-place-test.true)) in
     let here = counts ∙ ap (count_of c.args.disk) more in
     record {
       counts = counts;
@@ -26,21 +31,32 @@ loop-place-preserved c =
       are = subst (λ (l : List Entry). AreCounts c.args.disk l c.if-is_snap.counts.items) (sym more)
           (elim c.if-is_snap.branch [
             | then-is_snap+in_ok-push w ↦
-                subst (λ (counts : List IdCount). AreCounts c.args.disk (take i log ++ e ∷ []) counts)
-                (sym (ap (λ (v : Vec IdCount Global). v.items) w.counts-is ∙ w.in_ok-push.ensures.items))
-                (counts_pushed c.args.disk (take i log) e c.loop-place.counts.items c.after-count.result (sym c.is_snap.ensures ∙ w.if-is_snap.true) here c.loop-place.invariant.are)
+                subst (λ (counts : List IdCount). AreCounts c.args.disk (take i log ++ e ∷ [])
+                counts)
+                (sym (ap (λ (v : Vec IdCount Global). v.items) w.counts-is
+                ∙ w.in_ok-push.ensures.items))
+                (counts_pushed c.args.disk (take i log) e c.loop-place.counts.items
+                c.after-count.result (sym c.is_snap.ensures ∙ w.if-is_snap.true) here
+                c.loop-place.invariant.are)
             | else-is_snap w ↦
-                subst (λ (counts : List IdCount). AreCounts c.args.disk (take i log ++ e ∷ []) counts)
+                subst (λ (counts : List IdCount). AreCounts c.args.disk (take i log ++ e ∷ [])
+                counts)
                 (sym (ap (λ (v : Vec IdCount Global). v.items) w.counts-is))
-                (counts_same c.args.disk (take i log) e c.loop-place.counts.items (sym c.is_snap.ensures ∙ w.if-is_snap.false) c.loop-place.invariant.are)
+                (counts_same c.args.disk (take i log) e c.loop-place.counts.items
+                (sym c.is_snap.ensures ∙ w.if-is_snap.false) c.loop-place.invariant.are)
           ]);
-      reset = subst (λ (l : List Entry). IsLastReset c.args.disk l c.if-resets.last_reset) (sym more)
+      reset = subst (λ (l : List Entry). IsLastReset c.args.disk l c.if-resets.last_reset)
+          (sym more)
           (elim c.if-resets.branch [
             | then-resets w ↦
-                subst (λ (o : Option ℕ). IsLastReset c.args.disk (take i log ++ e ∷ []) o) (sym w.last_reset-is)
-                (reset_here c.args.disk i (take i log) e c.loop-place.last_reset long (sym c.resets.ensures ∙ w.if-resets.true) c.loop-place.invariant.reset)
+                subst (λ (o : Option ℕ). IsLastReset c.args.disk (take i log ++ e ∷ []) o)
+                (sym w.last_reset-is)
+                (reset_here c.args.disk i (take i log) e c.loop-place.last_reset long
+                (sym c.resets.ensures ∙ w.if-resets.true) c.loop-place.invariant.reset)
             | else-resets w ↦
-                subst (λ (o : Option ℕ). IsLastReset c.args.disk (take i log ++ e ∷ []) o) (sym w.last_reset-is)
-                (reset_before c.args.disk (take i log) e c.loop-place.last_reset (sym c.resets.ensures ∙ w.if-resets.false) c.loop-place.invariant.reset)
+                subst (λ (o : Option ℕ). IsLastReset c.args.disk (take i log ++ e ∷ []) o)
+                (sym w.last_reset-is)
+                (reset_before c.args.disk (take i log) e c.loop-place.last_reset
+                (sym c.resets.ensures ∙ w.if-resets.false) c.loop-place.invariant.reset)
           ]);
     }

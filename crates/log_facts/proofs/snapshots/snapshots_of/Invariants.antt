@@ -9,5 +9,6 @@ abbrev pub invariant-loop-entry : goal.invariant-loop-entry
 invariant-loop-entry l = record {
   long : length l.snapshots.items ≡ taken l.log + 1;
   each : (snapshot : ℕ) → snapshot < length l.snapshots.items
-      → slice_get l.snapshots.items snapshot ≡ Some (snapshot_fact snapshot (take l.entry-index l.log));
+      → slice_get l.snapshots.items snapshot
+      ≡ Some (snapshot_fact snapshot (take l.entry-index l.log));
 }

@@ -8,5 +8,6 @@ invariant-loop-block l = record {
   from : l.initial.block ≤ l.block;
   upto : l.block ≤ max l.initial.block l.block-end;
   are : (block : ℕ) → contains nat_cmp l.blocks block
-      ≡ (contains nat_cmp l.initial.blocks block || (nat_le l.initial.block block && nat_lt block l.block));
+      ≡ (contains nat_cmp l.initial.blocks block ||
+      (nat_le l.initial.block block && nat_lt block l.block));
 }

@@ -8,4 +8,5 @@ use Rattle.log_facts.proofs.stages.areas_touched.Given as goal
 
 abbrev pub invariant-loop-entry : goal.invariant-loop-entry
 invariant-loop-entry l = (block : ℕ) → contains nat_cmp l.blocks block
-    ≡ (nat_lt block (block_count l.capacity) && list_any (touches block) (writes_of l.disk (take l.entry-index l.entries)))
+    ≡ (nat_lt block (block_count l.capacity) && list_any (touches block)
+    (writes_of l.disk (take l.entry-index l.entries)))

@@ -5,7 +5,8 @@ use Rattle.log_model.proofs.may_stand.may_write.Goals as goal
 
 pub written-requires : goal.written-requires
 written-requires c =
-    let bound = written_bounded (only c.args.disk c.args.capacity) c.args.log.now c.requires in omega (arith, bound)
+    let bound = written_bounded (only c.args.disk c.args.capacity) c.args.log.now c.requires in
+    omega (arith, bound)
 
 pub overflow_add-result : goal.overflow_add-result
 overflow_add-result c =

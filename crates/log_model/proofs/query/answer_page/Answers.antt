@@ -10,19 +10,23 @@ use Rattle.log_model.proofs.AreaLemmas.{touched_runs}
 use Rattle.sector_model.proofs.PageMade.{one_area_more, last_pushed, full_page, last_page}
 use Rattle.log_model.proofs.query.answer_page.Goals as goal
 
-next_facts : (top d at : ℕ) (log : List Entry) (r : Run) → top < 2 ^ 64 → next_run at (touched_runs top d log) ≡ Some r → Next (touched_runs top d log) at top r
+next_facts : (top d at : ℕ) (log : List Entry) (r : Run) → top < 2 ^ 64
+    → next_run at (touched_runs top d log) ≡ Some r → Next (touched_runs top d log) at top r
 next_facts top d at log r fits next =
-    let k : SpacedWithin 0 top (touched_runs top d log) = runs_of-spaced (in_blocks (touched_blocks top (writes_of d log))) top fits in
+    let k : SpacedWithin 0 top (touched_runs top d log) =
+    runs_of-spaced (in_blocks (touched_blocks top (writes_of d log))) top fits in
     next_is 0 top (touched_runs top d log) at r k.spaced k.ends next
 
 pub overflow_add-at : goal.overflow_add-at
 overflow_add-at c =
-    let facts = next_facts c.args.capacity c.args.disk c.loop-run.at c.args.log.now c.in-Some.run' (omega arith) (sym c.in-Some.ensures) in
+    let facts = next_facts c.args.capacity c.args.disk c.loop-run.at c.args.log.now c.in-Some.run'
+    (omega arith) (sym c.in-Some.ensures) in
     omega (arith, facts.is.inside)
 
 pub loop-run-smaller : goal.loop-run-smaller
 loop-run-smaller c =
-    let facts = next_facts c.args.capacity c.args.disk c.loop-run.at c.args.log.now c.in-Some.run' (omega arith) (sym c.in-Some.ensures) in
+    let facts = next_facts c.args.capacity c.args.disk c.loop-run.at c.args.log.now c.in-Some.run'
+    (omega arith) (sym c.in-Some.ensures) in
     omega (arith, facts.is.inside, facts.is.from, facts.is.some)
 
 pub loop-run-preserved : goal.loop-run-preserved
@@ -30,16 +34,27 @@ loop-run-preserved c =
     let r : Run = c.in-Some.run' in
     let areas : List Run = touched_runs c.args.capacity c.args.disk c.args.log.now in
     let told : List Run = c.loop-run.page.areas in
-    let facts = next_facts c.args.capacity c.args.disk c.loop-run.at c.args.log.now r (omega arith) (sym c.in-Some.ensures) in
-    let pushed : c.push.new.self.areas ≡ told ++ r ∷ [] = ap (λ (p : PageContents). p.areas) c.push.ensures in
+    let facts = next_facts c.args.capacity c.args.disk c.loop-run.at c.args.log.now r (omega arith)
+    (sym c.in-Some.ensures) in
+    let pushed : c.push.new.self.areas ≡ told ++ r ∷ [] =
+    ap (λ (p : PageContents). p.areas) c.push.ensures in
     record {
       begins = ap (λ (p : PageContents). p.start) c.push.ensures ∙ c.loop-run.invariant.begins;
-      joined = one_area_more c.args.start c.loop-run.at areas told r c.loop-run.invariant.joined facts.areas
-          ∙ sym (append_assoc told (r ∷ []) (areas_from (end_of r) areas)) ∙ ap (λ (xs : List Run). xs ++ areas_from (end_of r) areas) (sym pushed);
+      joined = one_area_more c.args.start c.loop-run.at areas told r c.loop-run.invariant.joined
+          facts.areas
+          ∙ sym (append_assoc told (r ∷ []) (areas_from (end_of r) areas))
+          ∙ ap (λ (xs : List Run). xs ++ areas_from (end_of r) areas) (sym pushed);
       from = omega (arith, facts.is.from, c.loop-run.invariant.from);
       within = facts.is.inside;
-      few = omega (arith, ap length pushed, length-append told (r ∷ []), c.loop-run.invariant.few, ap length c.areas.ensures);
-      ended = λ d some. ap (λ (xs : List Run). end_of (get_or xs (length xs - 1) d)) pushed ∙ ap end_of (last_pushed told r d);
+      few = omega (
+        arith,
+        ap length pushed,
+        length-append told (r ∷ []),
+        c.loop-run.invariant.few,
+        ap length c.areas.ensures,
+      );
+      ended = λ d some. ap (λ (xs : List Run). end_of (get_or xs (length xs - 1) d)) pushed
+          ∙ ap end_of (last_pushed told r d);
     }
 
 pub returns-then-areas-eq-PAGE_AREAS : goal.returns-then-areas-eq-PAGE_AREAS
@@ -47,15 +62,25 @@ returns-then-areas-eq-PAGE_AREAS c =
     let r : Run = c.in-Some.run' in
     let areas : List Run = touched_runs c.args.capacity c.args.disk c.args.log.now in
     let told : List Run = c.loop-run.page.areas in
-    let facts = next_facts c.args.capacity c.args.disk c.loop-run.at c.args.log.now r (omega arith) (sym c.in-Some.ensures) in
-    let long : length told ≡ 1024 = sym (ap length c.areas.ensures) ∙ c.if-areas-eq-PAGE_AREAS.true in
-    c.cover.ensures ∙ ap (λ n. record { start = n; length = c.loop-run.at - c.args.start; areas = told }) c.loop-run.invariant.begins
-    ∙ full_page c.args.capacity c.args.start c.loop-run.at areas told (areas_from (end_of r) areas) r (one_area_more c.args.start c.loop-run.at areas told r c.loop-run.invariant.joined facts.areas) long c.loop-run.invariant.ended
+    let facts = next_facts c.args.capacity c.args.disk c.loop-run.at c.args.log.now r (omega arith)
+    (sym c.in-Some.ensures) in
+    let long : length told ≡ 1024 =
+    sym (ap length c.areas.ensures) ∙ c.if-areas-eq-PAGE_AREAS.true in
+    c.cover.ensures ∙ ap (λ n. record
+    { start = n; length = c.loop-run.at - c.args.start; areas = told })
+    c.loop-run.invariant.begins
+    ∙ full_page c.args.capacity c.args.start c.loop-run.at areas told (areas_from (end_of r) areas)
+    r (one_area_more c.args.start c.loop-run.at areas told r c.loop-run.invariant.joined
+    facts.areas) long c.loop-run.invariant.ended
 
 pub returns : goal.returns
 returns c =
     let areas : List Run = touched_runs c.args.capacity c.args.disk c.args.log.now in
     let told : List Run = c.loop-run.page.areas in
-    let none : areas_from c.loop-run.at areas ≡ [] = areas_from-none areas c.loop-run.at (sym c.next_touched.ensures ∙ c.in_default.is) in
-    c.cover-2.ensures ∙ ap (λ n. record { start = n; length = c.args.capacity - c.args.start; areas = told }) c.loop-run.invariant.begins
-    ∙ last_page c.args.capacity c.args.start areas told (c.loop-run.invariant.joined ∙ ap (λ (rest : List Run). told ++ rest) none) c.loop-run.invariant.few
+    let none : areas_from c.loop-run.at areas ≡ [] =
+    areas_from-none areas c.loop-run.at (sym c.next_touched.ensures ∙ c.in_default.is) in
+    c.cover-2.ensures ∙ ap
+    (λ n. record { start = n; length = c.args.capacity - c.args.start; areas = told })
+    c.loop-run.invariant.begins
+    ∙ last_page c.args.capacity c.args.start areas told (c.loop-run.invariant.joined
+    ∙ ap (λ (rest : List Run). told ++ rest) none) c.loop-run.invariant.few

@@ -9,11 +9,13 @@ use Rattle.log_model.proofs.query.answer_page.Given as goal
 abbrev pub invariant-loop-run : goal.invariant-loop-run
 invariant-loop-run l = record {
   begins : l.page.start ≡ l.start;
-  joined : areas_from l.start (touched_runs l.capacity l.disk l.log) ≡ l.page.areas ++ areas_from l.at (touched_runs l.capacity l.disk l.log);
+  joined : areas_from l.start (touched_runs l.capacity l.disk l.log)
+      ≡ l.page.areas ++ areas_from l.at (touched_runs l.capacity l.disk l.log);
   from : l.start ≤ l.at;
   within : l.at ≤ l.capacity;
   few : length l.page.areas ≤ 1024;
-  ended : (d : Run) → 0 < length l.page.areas → end_of (get_or l.page.areas (length l.page.areas - 1) d) ≡ l.at;
+  ended : (d : Run) → 0 < length l.page.areas
+      → end_of (get_or l.page.areas (length l.page.areas - 1) d) ≡ l.at;
 }
 
 abbrev pub decreases-loop-run : goal.decreases-loop-run

@@ -10,7 +10,8 @@ use Rattle.log_model.proofs.AreaLemmas.{in_touched_runs, past_touched_runs, touc
 use Rattle.log_model.proofs.query.next_touched.Goals as goal
 
 spaced : (c d : ℕ) (log : List Entry) → c < 2 ^ 64 → AreSpaced (touched_runs c d log)
-spaced c d log fits = (runs_of-spaced (in_blocks (touched_blocks c (writes_of d log))) c fits).spaced
+spaced c d log fits =
+    (runs_of-spaced (in_blocks (touched_blocks c (writes_of d log))) c fits).spaced
 
 pub returns-then-first-capacity : goal.returns-then-first-capacity
 returns-then-first-capacity c =
@@ -19,7 +20,8 @@ returns-then-first-capacity c =
     let top : ℕ = c.args.capacity in
     sym (next_none 0 (touched_runs top d log) c.args.at (spaced top d log (omega arith))
     (λ s from. elim (cases_lt s top) [
-      | inl less ↦ in_touched_runs top d s log less ∙ c.first_sector-first.ensures.before s from (omega arith)
+      | inl less ↦ in_touched_runs top d s log less
+          ∙ c.first_sector-first.ensures.before s from (omega arith)
       | inr past ↦ past_touched_runs top d s log past
     ]))
 
@@ -34,11 +36,16 @@ returns c =
     let some : f < e = elim (cases_lt f e) [
       | inl less ↦ less
       | inr over ↦ let same : e ≡ f = omega arith in
-          absurd (true_false (c.first_sector-first.ensures.found found) (ap (λ s. is_touched d s log) (sym same) ∙ c.first_sector-end.ensures.found (omega arith)))
+          absurd (true_false (c.first_sector-first.ensures.found found)
+          (ap (λ s. is_touched d s log) (sym same)
+          ∙ c.first_sector-end.ensures.found (omega arith)))
     ] in
-    sym (next_some 0 (touched_runs top d log) c.args.at f e (spaced top d log (omega arith)) c.first_sector-first.ensures.from some
-    (λ s from less. in_touched_runs top d s log (omega arith) ∙ c.first_sector-first.ensures.before s from less)
-    (λ s from less. in_touched_runs top d s log (omega arith) ∙ c.first_sector-end.ensures.before s from less)
+    sym (next_some 0 (touched_runs top d log) c.args.at f e (spaced top d log (omega arith))
+    c.first_sector-first.ensures.from some
+    (λ s from less. in_touched_runs top d s log (omega arith)
+    ∙ c.first_sector-first.ensures.before s from less)
+    (λ s from less. in_touched_runs top d s log (omega arith)
+    ∙ c.first_sector-end.ensures.before s from less)
     (elim (cases_lt e top) [
       | inl less ↦ in_touched_runs top d e log less ∙ c.first_sector-end.ensures.found less
       | inr past ↦ past_touched_runs top d e log past

@@ -16,16 +16,26 @@ returns-then-number-seq-clause-place c =
     let place : ℕ = c.loop-place.place in
     let now : c.epoch-now.result ≡ epoch d log = c.epoch-now.ensures in
     let here : gives d q log (epoch d log) (0 + place) ≡ true =
-    ap (λ k. gives d q log (epoch d log) k) (omega arith) ∙ and_from (epoch d (take (place + 1) log) == epoch d log) (number d (take (place + 1) log) == q)
-    (eq-eqb (epoch d (take (place + 1) log)) (epoch d log) (sym c.epoch.ensures ∙ c.if-epoch-now.true ∙ now)) (eq-eqb (number d (take (place + 1) log)) q (sym c.number.ensures ∙ c.if-number-seq.true)) in
+    ap (λ k. gives d q log (epoch d log) k) (omega arith)
+    ∙ and_from (epoch d (take (place + 1) log) == epoch d log)
+    (number d (take (place + 1) log) == q)
+    (eq-eqb (epoch d (take (place + 1) log)) (epoch d log)
+    (sym c.epoch.ensures ∙ c.if-epoch-now.true ∙ now))
+    (eq-eqb (number d (take (place + 1) log)) q (sym c.number.ensures ∙ c.if-number-seq.true))
+    in
     let at : place ≡ 0 + place = omega arith in
-    at ∙ sym (ap (λ o. unwrap_or o (length log)) (find-range_at (gives d q log (epoch d log)) 0 (length log) place c.loop-place-test.true
-    (λ k less. ap (λ n. gives d q log (epoch d log) n) (omega arith) ∙ ap (λ e. gives d q log e k) (sym now) ∙ c.loop-place.invariant k less) here))
+    at ∙ sym (ap (λ o. unwrap_or o (length log))
+    (find-range_at (gives d q log (epoch d log)) 0 (length log) place c.loop-place-test.true
+    (λ k less. ap (λ n. gives d q log (epoch d log) n) (omega arith)
+    ∙ ap (λ e. gives d q log e k) (sym now) ∙ c.loop-place.invariant k less) here))
 
 pub returns-clause-place : goal.returns-clause-place
 returns-clause-place c =
     let log : List Entry = c.args.log.now in
     let d : ℕ = c.args.disk in
     let q : ℕ = c.args.seq in
-    sym (ap (λ o. unwrap_or o (length log)) (find-range_none (gives d q log (epoch d log)) 0 (length log)
-    (λ k less. ap (λ n. gives d q log (epoch d log) n) (omega arith) ∙ ap (λ e. gives d q log e k) (sym c.epoch-now.ensures) ∙ c.loop-place.invariant k (omega arith))))
+    sym (ap (λ o. unwrap_or o (length log))
+    (find-range_none (gives d q log (epoch d log)) 0 (length log)
+    (λ k less. ap (λ n. gives d q log (epoch d log) n) (omega arith)
+    ∙ ap (λ e. gives d q log e k) (sym c.epoch-now.ensures)
+    ∙ c.loop-place.invariant k (omega arith))))

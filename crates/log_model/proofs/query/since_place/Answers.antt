@@ -6,6 +6,9 @@ use Rattle.log_model.proofs.query.since_place.Goals as goal
 
 pub returns-in-From : goal.returns-in-From
 returns-in-From c = λ size.
-    let accepted : accepts c.args.machine c.args.disk c.args.snapshot c.in-From.id c.args.log.now ≡ true = sym c.accepts.ensures ∙ c.if-accepts.true in
-    ap (λ (since : Since). changed_areas c.args.machine size c.args.disk c.args.snapshot since c.args.log.now) c.in-From.is
-    ∙ told-from c.args.machine size c.args.disk c.args.snapshot c.numbered_place.result c.in-From.id c.args.log.now accepted c.numbered_place.ensures.place
+    let accepted : accepts c.args.machine c.args.disk c.args.snapshot c.in-From.id c.args.log.now
+    ≡ true = sym c.accepts.ensures ∙ c.if-accepts.true in
+    ap (λ (since : Since). changed_areas c.args.machine size c.args.disk c.args.snapshot since
+    c.args.log.now) c.in-From.is
+    ∙ told-from c.args.machine size c.args.disk c.args.snapshot c.numbered_place.result c.in-From.id
+    c.args.log.now accepted c.numbered_place.ensures.place

@@ -6,7 +6,8 @@ use Rattle.migrate_main.proofs.output.write_whole.Given as goal
 abbrev pub invariant-loop-done : goal.invariant-loop-done
 invariant-loop-done g l = record {
   within : l.done ≤ length l.bytes;
-  given : Appends (g.W.Write.contents l.initial.writer) (g.W.Write.contents l.writer) (take l.done l.bytes);
+  given : Appends (g.W.Write.contents l.initial.writer) (g.W.Write.contents l.writer)
+      (take l.done l.bytes);
 }
 
 abbrev pub decreases-loop-done : goal.decreases-loop-done

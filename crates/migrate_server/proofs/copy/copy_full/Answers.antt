@@ -22,13 +22,18 @@ loop-at-preserved g c =
         | then-piece+in_ok-write w ↦
             let xs = w.read.new.buffer in
             let is : xs ≡ take n (drop at disk) = grind (arith, common_steps) in
-            let long = ap length is ∙ length-take-le n (drop at disk) (let e = length-drop at disk in omega arith) in
-            ap V w.volume-is ∙ w.in_ok-write.ensures.written ∙ ap (after_write at xs) c.loop-at.invariant.state
+            let long = ap length is
+            ∙ length-take-le n (drop at disk) (let e = length-drop at disk in omega arith) in
+            ap V w.volume-is ∙ w.in_ok-write.ensures.written
+            ∙ ap (after_write at xs) c.loop-at.invariant.state
             ∙ copied_more disk xs at n (V c.args.volume.now) within fits is long
         | else-piece+in_ok-zero w ↦
             let is : replicate n zero_sector ≡ take n (drop at disk) =
-            cleared disk at n within (λ s l h. c.requires.frozen.clear s (omega arith) (c.next_piece-piece.ensures.gap w.if-piece.false s l h)) in
-            ap V w.volume-is ∙ w.in_ok-zero.ensures.zeroed ∙ ap (after_zero at n) c.loop-at.invariant.state
+            cleared disk at n within
+            (λ s l h. c.requires.frozen.clear s (omega arith)
+            (c.next_piece-piece.ensures.gap w.if-piece.false s l h)) in
+            ap V w.volume-is ∙ w.in_ok-zero.ensures.zeroed
+            ∙ ap (after_zero at n) c.loop-at.invariant.state
             ∙ copied_zeros disk at n (V c.args.volume.now) within fits is
       ];
       within = c.next_piece-piece.ensures.inside;

@@ -5,7 +5,8 @@ use Rattle.migrate_server.proofs.copy.copy_full.Given as goal
 
 abbrev pub invariant-loop-at : goal.invariant-loop-at
 invariant-loop-at g l = record {
-  state : g.V.Volume.state l.volume ≡ copied_to (frozen_sectors l.disk) l.at (g.V.Volume.state l.fn.volume);
+  state : g.V.Volume.state l.volume
+      ≡ copied_to (frozen_sectors l.disk) l.at (g.V.Volume.state l.fn.volume);
   within : l.at ≤ l.capacity;
 }
 

@@ -8,8 +8,12 @@ use Rattle.migrate_server.proofs.serve.serve.Given as goal
 abbrev pub invariant-loop-line : goal.invariant-loop-line
 invariant-loop-line g l = record {
   progress : Progress
-      (desk_of (g.S.Source.state l.fn.input) (g.K.Sink.state l.fn.out) (server_of l.fn.fleet l.fn.controller.journal (g.T.VolumeStore.state l.fn.controller.store)))
-      (desk_of (g.S.Source.state l.input) (g.K.Sink.state l.out) (server_of l.fleet l.controller.journal (g.T.VolumeStore.state l.controller.store))) l.reader;
+      (desk_of (g.S.Source.state l.fn.input) (g.K.Sink.state l.fn.out)
+      (server_of l.fn.fleet l.fn.controller.journal
+      (g.T.VolumeStore.state l.fn.controller.store)))
+      (desk_of (g.S.Source.state l.input) (g.K.Sink.state l.out)
+      (server_of l.fleet l.controller.journal (g.T.VolumeStore.state l.controller.store)))
+      l.reader;
   ready : IsReady (keeping l.controller.state l.controller.journal);
   taken : AllWouldBeTaken l.fleet l.controller.journal;
 }

@@ -8,4 +8,5 @@ pub returns-in-Ok : goal.returns-in-Ok
 returns-in-Ok c = λ size writes written.
     let w = c.args.write.now in
     let same : c.fill.new.self ≡ replicate w.count (filled w.fill) = grind (arith, common_steps) in
-    written_more size writes w c.fill.new.self c.args.disk.now c.write.new.self same c.in-Ok.ensures.ok written
+    written_more size writes w c.fill.new.self c.args.disk.now c.write.new.self same
+    c.in-Ok.ensures.ok written

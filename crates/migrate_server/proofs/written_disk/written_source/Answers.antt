@@ -12,8 +12,10 @@ loop-write-preserved c =
     let long = length-take buffer.len (sectors ++ drop (length sectors) buffer.items) in
     let both = length-append sectors (drop (length sectors) buffer.items) in
     let rest = length-drop (length sectors) buffer.items in
-    let kept : length (take buffer.len (sectors ++ drop (length sectors) buffer.items)) ≡ length buffer.items = omega (arith, long, both, rest) in
+    let kept : length (take buffer.len (sectors ++ drop (length sectors) buffer.items))
+    ≡ length buffer.items = omega (arith, long, both, rest) in
     record {
       room = λ k d less. omega (arith, kept, c.loop-write.invariant.room k d less);
-      written = written_at c.args.capacity writes i _ c.apply.new.disk c.loop-write-test.true (c.in_ok-apply.ensures c.args.capacity (take i writes) c.loop-write.invariant.written);
+      written = written_at c.args.capacity writes i _ c.apply.new.disk c.loop-write-test.true
+          (c.in_ok-apply.ensures c.args.capacity (take i writes) c.loop-write.invariant.written);
     }

@@ -7,13 +7,16 @@ use Rattle.record_codec.proofs.puts.put_each_id.Goals as goal
 
 pub loop-id-preserved : goal.loop-id-preserved
 loop-id-preserved c = (
-  put_step id_bytes c.args.ids.now c.loop-id.id-index (record { uuid = 0; seq = 0 }) c.args.out.now.items c.loop-id.out.items
+  put_step id_bytes c.args.ids.now c.loop-id.id-index (record { uuid = 0; seq = 0 })
+      c.args.out.now.items c.loop-id.out.items
       c.put_id.new.out.items c.loop-id-test.true c.loop-id.invariant.0 c.put_id.ensures.items,
   omega arith,
   omega arith,
-  All-more IdHasRange c.args.ids.now c.loop-id.id-index (record { uuid = 0; seq = 0 }) c.loop-id-test.true
+  All-more IdHasRange c.args.ids.now c.loop-id.id-index (record { uuid = 0; seq = 0 })
+      c.loop-id-test.true
       c.loop-id.invariant.3 c.put_id.ensures.fits,
 )
 
 pub returns-clause-fit : goal.returns-clause-fit
-returns-clause-fit c = all_taken IdHasRange c.args.ids.now c.loop-id.id-index (omega arith) c.loop-id.invariant.3
+returns-clause-fit c =
+    all_taken IdHasRange c.args.ids.now c.loop-id.id-index (omega arith) c.loop-id.invariant.3

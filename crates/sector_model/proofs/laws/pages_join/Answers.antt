@@ -4,7 +4,9 @@ use Rattle.sector_model.proofs.PageSectors.{areas_from_are_exact, pages_are_exac
 use Rattle.sector_model.proofs.laws.pages_join.Goals as goal
 
 pub returns-clause-all : goal.returns-clause-all
-returns-clause-all c = λ capacity areas spaced ends start pages are. pages_joined capacity areas start pages spaced ends are
+returns-clause-all c =
+    λ capacity areas spaced ends start pages are. pages_joined capacity areas start pages spaced
+    ends are
 
 pub returns-clause-areas : goal.returns-clause-areas
 returns-clause-areas c = area_pages_join

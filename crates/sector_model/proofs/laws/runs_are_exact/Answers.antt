@@ -12,4 +12,6 @@ pub returns-clause-members : goal.returns-clause-members
 returns-clause-members c = in_runs_of
 
 pub returns-clause-within : goal.returns-clause-within
-returns-clause-within c = λ test n fits. All-from_recursion (λ r. end_of r ≤ n) (runs_of test n) (runs_of-spaced test n fits).ends
+returns-clause-within c =
+    λ test n fits. All-from_recursion (λ r. end_of r ≤ n) (runs_of test n)
+    (runs_of-spaced test n fits).ends

@@ -5,4 +5,5 @@ use Rattle.snapshot_chain.specs.Layers.{has_found}
 use Rattle.snapshot_chain.proofs.layers.blocks_of.Given as goal
 
 abbrev pub invariant-loop-layer : goal.invariant-loop-layer
-invariant-loop-layer l = (b : ℕ) → contains nat_cmp l.blocks b ≡ has_found (take l.layer-index l.layers) b
+invariant-loop-layer l = (b : ℕ)
+    → contains nat_cmp l.blocks b ≡ has_found (take l.layer-index l.layers) b

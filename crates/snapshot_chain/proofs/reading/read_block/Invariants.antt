@@ -8,7 +8,9 @@ use Rattle.snapshot_chain.proofs.reading.read_block.Given as goal
 abbrev pub invariant-loop-left : goal.invariant-loop-left
 invariant-loop-left g l = record {
   bound : l.left ≤ length l.layers;
-  read : (k : ℕ) → k < length l.buf → IsRead (found (drop l.left l.layers) l.block (l.offset + k)) (get_or l.is_found k false) (slice_get l.buf k);
+  read : (k : ℕ) → k < length l.buf
+      → IsRead (found (drop l.left l.layers) l.block (l.offset + k)) (get_or l.is_found k false)
+      (slice_get l.buf k);
   marks : length l.is_found ≡ length l.buf;
   counted : l.fn.steps ≤ l.steps;
   cost : l.steps + l.left ≤ l.fn.steps + length l.layers;

@@ -10,7 +10,8 @@ loop-disk-init c = none_stepped (Took Enable) c.args.disks.now
 pub loop-disk-preserved : goal.loop-disk-preserved
 loop-disk-preserved c =
     let old : List SourceDiskState = c.args.disks.now in
-    one_more (Took Enable) c.loop-disk.disk-index old c.loop-disk.disks c.disk-item.result c.enable.new.self c.loop-disk.invariant c.loop-disk-test.true
+    one_more (Took Enable) c.loop-disk.disk-index old c.loop-disk.disks c.disk-item.result
+    c.enable.new.self c.loop-disk.invariant c.loop-disk-test.true
     (record {
       place = record {
         machine = ap (λ (d : SourceDiskState). machine_of d) c.enable.ensures.enabled;
@@ -21,4 +22,5 @@ loop-disk-preserved c =
     })
 
 pub returns : goal.returns
-returns c = all_took Enable c.loop-disk.disk-index c.args.disks.now c.loop-disk.disks c.loop-disk.invariant c.loop-disk-test.false
+returns c = all_took Enable c.loop-disk.disk-index c.args.disks.now c.loop-disk.disks
+    c.loop-disk.invariant c.loop-disk-test.false

@@ -9,15 +9,20 @@ use Rattle.source_vm.proofs.LiveLemmas.{NoneOf, none_owned, least_owned, snap}
 use Rattle.source_vm.proofs.live.least_owned_in.Goals as goal
 
 -- a slice from a place on is all that stands there
-all_of_it : (xs : List LiveSnap) (place : ℕ) → take (length xs - place) (drop place xs) ≡ drop place xs
-all_of_it xs place = take_all (length xs - place) (drop place xs) (omega (arith, length-drop place xs))
+all_of_it : (xs : List LiveSnap) (place : ℕ)
+    → take (length xs - place) (drop place xs) ≡ drop place xs
+all_of_it xs place = take_all (length xs - place) (drop place xs)
+    (omega (arith, length-drop place xs))
 
 -- one place more has another owner
-none_more : (by : Owner) (later : List LiveSnap) (i : ℕ) (x : LiveSnap) → NoneOf by later i → slice_get later i ≡ Some x → x.owner ≢ by → NoneOf by later (i + 1)
+none_more : (by : Owner) (later : List LiveSnap) (i : ℕ) (x : LiveSnap) → NoneOf by later i
+    → slice_get later i ≡ Some x → x.owner ≢ by → NoneOf by later (i + 1)
 none_more by later i x none at other k y less read = by_place (cases_eq k i)
   where
     by_place : (k ≡ i) ⊎ (k ≢ i) → y.owner ≢ by
-    by_place (inl same) has = other (ap (λ (z : LiveSnap). z.owner) (same_Some x y (sym at ∙ ap (slice_get later) (sym same) ∙ read)) ∙ has)
+    by_place (inl same) has =
+        other (ap (λ (z : LiveSnap). z.owner)
+        (same_Some x y (sym at ∙ ap (slice_get later) (sym same) ∙ read)) ∙ has)
     by_place (inr before) has = none k y (omega arith) read has
 
 pub returns-then-eq : goal.returns-then-eq
@@ -28,9 +33,11 @@ returns-then-eq c =
     let later : List LiveSnap = take (length xs - place) (drop place xs) in
     let x : LiveSnap = get_or later i (snap 0 Owner.Operator) in
     let has : x.owner ≡ c.args.owner = search rules in
-    let at : slice_get later i ≡ Some x = slice_get-get_or later i (snap 0 Owner.Operator) c.loop-snap-test.true in
+    let at : slice_get later i ≡ Some x =
+    slice_get-get_or later i (snap 0 Owner.Operator) c.loop-snap-test.true in
     least_owned c.args.owner c.args.from place i xs x c.requires c.place_from.ensures.point
-    (subst (λ (ys : List LiveSnap). NoneOf c.args.owner ys i) (all_of_it xs place) c.loop-snap.invariant)
+    (subst (λ (ys : List LiveSnap). NoneOf c.args.owner ys i) (all_of_it xs place)
+    c.loop-snap.invariant)
     (subst (λ (ys : List LiveSnap). slice_get ys i ≡ Some x) (all_of_it xs place) at) has
 
 pub loop-snap-preserved : goal.loop-snap-preserved
@@ -41,7 +48,8 @@ loop-snap-preserved c =
     let later : List LiveSnap = take (length xs - place) (drop place xs) in
     let x : LiveSnap = get_or later i (snap 0 Owner.Operator) in
     let other : x.owner ≢ c.args.owner = search rules in
-    none_more c.args.owner later i x c.loop-snap.invariant (slice_get-get_or later i (snap 0 Owner.Operator) c.loop-snap-test.true) other
+    none_more c.args.owner later i x c.loop-snap.invariant
+    (slice_get-get_or later i (snap 0 Owner.Operator) c.loop-snap-test.true) other
 
 pub returns : goal.returns
 returns c =

@@ -9,8 +9,11 @@ returns-then-is_touched c =
     let run = c.args.run in
     let first = sym c.is_touched.ensures ∙ c.if-is_touched.true in
     let last = c.is_touched-then-is_touched.ensures in (
-      λ is. area-asked c.args.capacity c.args.disk run entries c.requires.some c.requires.few c.requires.within first (sym last ∙ is),
-      λ all. last ∙ asked-touched c.args.capacity c.args.disk run entries (run.first + (run.count - 1)) c.requires.within all (omega arith) (let some = c.requires.some in omega (arith, some)),
+      λ is. area-asked c.args.capacity c.args.disk run entries c.requires.some c.requires.few
+          c.requires.within first (sym last ∙ is),
+      λ all. last ∙ asked-touched c.args.capacity c.args.disk run entries
+          (run.first + (run.count - 1)) c.requires.within all (omega arith)
+          (let some = c.requires.some in omega (arith, some)),
     )
 
 pub returns-else-is_touched : goal.returns-else-is_touched
@@ -19,5 +22,7 @@ returns-else-is_touched c =
     let run = c.args.run in
     let not = c.if-is_touched.false in (
       λ is. absurd (false≢true (sym not ∙ is)),
-      λ all. c.is_touched.ensures ∙ asked-touched c.args.capacity c.args.disk run entries run.first c.requires.within all (omega arith) (let some = c.requires.some in omega (arith, some)),
+      λ all. c.is_touched.ensures
+          ∙ asked-touched c.args.capacity c.args.disk run entries run.first c.requires.within all
+          (omega arith) (let some = c.requires.some in omega (arith, some)),
     )

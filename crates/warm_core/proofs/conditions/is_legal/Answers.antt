@@ -11,9 +11,12 @@ returns-then-log-lt-MAX_LOG_ENTRIES c =
     let e = c.args.entry.now in
     let is : c.as_slice-log.result.now ≡ w.log = c.as_slice-log.ensures in
     let n = ap (λ (xs : List Entry). length xs) is in
-    let short : length w.log < MAX_LOG_ENTRIES = omega (arith, n, c.if-log-lt-MAX_LOG_ENTRIES.true) in (
+    let short : length w.log < MAX_LOG_ENTRIES =
+    omega (arith, n, c.if-log-lt-MAX_LOG_ENTRIES.true) in (
       λ stands. legal_grows (only w.disk w.capacity) w.log e c.requires.sound.legal short
-          (subst (λ (xs : List Entry). MayStand (only w.disk w.capacity) xs e) is (c.may_stand_alone.ensures.0 stands)),
+          (subst (λ (xs : List Entry). MayStand (only w.disk w.capacity) xs e) is
+          (c.may_stand_alone.ensures.0 stands)),
       λ legal. c.may_stand_alone.ensures.1
-          (subst (λ (xs : List Entry). MayStand (only w.disk w.capacity) xs e) (sym is) (legal_last (only w.disk w.capacity) w.log e legal)),
+          (subst (λ (xs : List Entry). MayStand (only w.disk w.capacity) xs e) (sym is)
+          (legal_last (only w.disk w.capacity) w.log e legal)),
     )

@@ -16,9 +16,13 @@ pub returns : goal.returns
 returns c =
     let old = c.args.world.now in
     let w : World = after Flushed (world_of old) in
-    let without : Leaves Flushed old (record old { loose = []; stage = option_map at_its_end old.stage }) = record {
-      effect = ap (λ (v : VolumeContents). record w { volume = v }) (no_loose_runs old.volume old.loose);
+    let without : Leaves Flushed old
+    (record old { loose = []; stage = option_map at_its_end old.stage }) = record {
+      effect = ap (λ (v : VolumeContents). record w { volume = v })
+          (no_loose_runs old.volume old.loose);
       within = λ k d less. absurd (omega (arith, less));
     } in
-    subst (λ (rs : List Run). Leaves Flushed old (record c.end_stage.new.world { loose = rs })) (sym c.new.ensures)
-    (subst (λ (d : DiskWorld). Leaves Flushed old (record d { loose = [] })) (sym c.end_stage.ensures) without)
+    subst (λ (rs : List Run). Leaves Flushed old (record c.end_stage.new.world { loose = rs }))
+    (sym c.new.ensures)
+    (subst (λ (d : DiskWorld). Leaves Flushed old (record d { loose = [] }))
+    (sym c.end_stage.ensures) without)

@@ -23,9 +23,12 @@ loop-at-preserved c =
     let here : at ≡ first + n = omega arith in
     let zero_n : 0 + n ≡ n = omega arith in
     let next : n + 1 ≡ at + 1 - first = omega arith in
-    c.in_ok-push.ensures.items ∙ ap (λ (xs : List Sector). xs ++ c.sector_at.result ∷ []) c.loop-at.invariant
-    ∙ ap (λ (x : Sector). map sector (range_with_len 0 n) ++ x ∷ []) (c.sector_at.ensures ∙ ap (λ k. sector_at d k frozen) here)
-    ∙ sym (map-range_with_len_more sector 0 n n zero_n) ∙ ap (λ k. map sector (range_with_len 0 k)) next
+    c.in_ok-push.ensures.items
+    ∙ ap (λ (xs : List Sector). xs ++ c.sector_at.result ∷ []) c.loop-at.invariant
+    ∙ ap (λ (x : Sector). map sector (range_with_len 0 n) ++ x ∷ [])
+    (c.sector_at.ensures ∙ ap (λ k. sector_at d k frozen) here)
+    ∙ sym (map-range_with_len_more sector 0 n n zero_n)
+    ∙ ap (λ k. map sector (range_with_len 0 k)) next
 
 pub returns : goal.returns
 returns c =
@@ -33,10 +36,13 @@ returns c =
     let run = c.args.run in
     let frozen : List Entry = c.before-frozen.result.now in
     let is : frozen ≡ take c.args.snap.mark w.log =
-    c.before-frozen.ensures ∙ ap (λ (xs : List Entry). before c.args.snap.id xs) c.as_slice.ensures ∙ ap (λ n. take n w.log) c.requires.snap.mark_is in
+    c.before-frozen.ensures ∙ ap (λ (xs : List Entry). before c.args.snap.id xs) c.as_slice.ensures
+    ∙ ap (λ n. take n w.log) c.requires.snap.mark_is in
     let sector : List Entry → ℕ → Sector = λ log i. sector_at w.disk (run.first + i) log in
     let long : c.loop-at.at - run.first ≡ run.count = omega arith in
     c.loop-at.invariant ∙ ap (λ n. map (sector frozen) (range_with_len 0 n)) long
     ∙ ap (λ (xs : List Entry). map (sector xs) (range_with_len 0 run.count)) is
-    ∙ read-is (only w.disk w.capacity) w.capacity w.disk run.first run.count (take c.args.snap.mark w.log) (refl, refl)
-    (prefixes_are_legal (only w.disk w.capacity) w.log c.args.snap.mark c.requires.legal) c.requires.within
+    ∙ read-is (only w.disk w.capacity) w.capacity w.disk run.first run.count
+    (take c.args.snap.mark w.log) (refl, refl)
+    (prefixes_are_legal (only w.disk w.capacity) w.log c.args.snap.mark c.requires.legal)
+    c.requires.within

@@ -6,4 +6,5 @@ use Rattle.warm_core.proofs.effects.read_frozen.Given as goal
 -- the sectors so far
 abbrev pub invariant-loop-at : goal.invariant-loop-at
 invariant-loop-at l =
-    l.sectors.items ≡ map (λ i. sector_at l.world.disk (l.fn.run.first + i) l.frozen) (range_with_len 0 (l.at - l.fn.run.first))
+    l.sectors.items ≡ map (λ i. sector_at l.world.disk (l.fn.run.first + i) l.frozen)
+    (range_with_len 0 (l.at - l.fn.run.first))

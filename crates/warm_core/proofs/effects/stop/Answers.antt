@@ -16,9 +16,12 @@ returns c =
     let w : World = after (Stop filling) (world_of old) in
     let flags : List Bool = flags_of (length old.volume) old.loose in
     let filled : c.take_found.new.self ≡ with_found flags old.volume filling =
-    c.take_found.ensures ∙ ap (λ (xs : List Sector). with_found flags old.volume xs) c.as_slice.ensures in
-    let long : length c.take_found.new.self ≡ length old.volume = ap (λ (xs : List Sector). length xs) filled ∙ length-with_found flags old.volume filling in
-    let same : volume_of c.take_found.new.self old.loose ≡ volume_stopped filling (volume_of old.volume old.loose) =
+    c.take_found.ensures ∙ ap (λ (xs : List Sector). with_found flags old.volume xs)
+    c.as_slice.ensures in
+    let long : length c.take_found.new.self ≡ length old.volume =
+    ap (λ (xs : List Sector). length xs) filled ∙ length-with_found flags old.volume filling in
+    let same : volume_of c.take_found.new.self old.loose
+    ≡ volume_stopped filling (volume_of old.volume old.loose) =
     ap (λ n. record { sectors = c.take_found.new.self; loose = flags_of n old.loose }) long
     ∙ ap (λ (xs : List Sector). record { sectors = xs; loose = flags }) filled in
     record {

@@ -13,7 +13,8 @@ write-requires-clause-within c =
     let t = c.in-Some.stage in
     let run = c.args.run in
     let copies = stage-copies w t c.requires.sound.sound c.in-Some.is in
-    let may = runs-at w (λ blocks snap t. MayZero blocks run t) copies.0 t (copies.1).snap c.in-Some.is c.requires.happens in
+    let may = runs-at w (λ blocks snap t. MayZero blocks run t) copies.0 t (copies.1).snap
+    c.in-Some.is c.requires.happens in
     let end = may.piece.within in
     let within = (copies.1).fits.order.within in
     let sized = (copies.1).fits.sized in
@@ -30,4 +31,5 @@ zeroed-requires-clause-small c =
     omega (arith, sized, small, same)
 
 pub zeroed-requires-clause-order : goal.zeroed-requires-clause-order
-zeroed-requires-clause-order c = order-of (world_of c.args.world.now) c.in-Some.stage c.requires.sound.sound c.in-Some.is
+zeroed-requires-clause-order c =
+    order-of (world_of c.args.world.now) c.in-Some.stage c.requires.sound.sound c.in-Some.is

@@ -11,5 +11,6 @@ returns-in-Ok-clause-sound c =
     let left = c.in-Ok.ensures.ok in
     record {
       within = left.within;
-      sound = subst IsSound (sym left.effect) (events_keep_sound c.args.event (world_of c.args.world) small c.requires.sound may);
+      sound = subst IsSound (sym left.effect)
+          (events_keep_sound c.args.event (world_of c.args.world) small c.requires.sound may);
     }

@@ -9,5 +9,6 @@ abbrev pub invariant-loop-word : goal.invariant-loop-word
 invariant-loop-word l = record {
   touched : IsTouchedWhere (met_before l.word l.run) l.freezes l.initial.self l.self;
   later : NoneTouchedLater l.initial.self l.freezes → NoneTouchedLater l.self l.freezes;
-  room : (b : ℕ) → l.word ≤ b / 64 → meets b l.run.first l.run.count ≡ true → HasBlockRoom l.self l.freezes b;
+  room : (b : ℕ) → l.word ≤ b / 64 → meets b l.run.first l.run.count ≡ true
+      → HasBlockRoom l.self l.freezes b;
 }

@@ -9,5 +9,6 @@ invariant-loop-word l = record {
   same : HasSameTouches l.initial.self l.self;
   kept : KeepsPlaces l.freezes l.initial.self l.self;
   later : NoneTouchedLater l.self l.freezes;
-  room : (b : ℕ) → b / 64 < l.word → meets b l.run.first l.run.count ≡ true → HasBlockRoom l.self l.freezes b;
+  room : (b : ℕ) → b / 64 < l.word → meets b l.run.first l.run.count ≡ true
+      → HasBlockRoom l.self l.freezes b;
 }

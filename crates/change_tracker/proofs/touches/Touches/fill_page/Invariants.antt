@@ -10,11 +10,13 @@ abbrev pub invariant-loop-seen : goal.invariant-loop-seen
 invariant-loop-seen l = record {
   begins : l.page.start ≡ l.start;
   seen : IsSeen l.self l.window l.seen.word l.seen.bits;
-  joined : areas_from l.start (areas_in l.capacity l.self l.window) ≡ l.page.areas ++ areas_from l.at (areas_in l.capacity l.self l.window);
+  joined : areas_from l.start (areas_in l.capacity l.self l.window)
+      ≡ l.page.areas ++ areas_from l.at (areas_in l.capacity l.self l.window);
   from : l.start ≤ l.at;
   within : l.at ≤ l.capacity;
   few : length l.page.areas ≤ 1024;
-  ended : (d : Run) → 0 < length l.page.areas → end_of (get_or l.page.areas (length l.page.areas - 1) d) ≡ l.at;
+  ended : (d : Run) → 0 < length l.page.areas
+      → end_of (get_or l.page.areas (length l.page.areas - 1) d) ≡ l.at;
 }
 
 abbrev pub decreases-loop-seen : goal.decreases-loop-seen

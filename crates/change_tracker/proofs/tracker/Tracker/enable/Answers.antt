@@ -20,7 +20,9 @@ returns-then-is_none-clause-stands c = λ steps stands.
     let none : is_none was.counted ≡ true = search rules in
     let P : TrackerState → Type 0 = λ s. StandsFor s (steps ++ Enabled ∷ []) in
     subst P (ap after_enabling (sym c.self.view_is)
-    ∙ ap (λ (o : Option ℕ). state_of was.machine was.disk was.capacity was.resets o was.maps was.snapshots.items was.free_from was.mark_room was.freeze_room) (made was.counted none)) (stands_enabled c.args.self.now steps stands)
+    ∙ ap (λ (o : Option ℕ). state_of was.machine was.disk was.capacity was.resets o was.maps
+    was.snapshots.items was.free_from was.mark_room was.freeze_room) (made was.counted none))
+    (stands_enabled c.args.self.now steps stands)
 
 pub returns-else-is_none-clause-stands : goal.returns-else-is_none-clause-stands
 returns-else-is_none-clause-stands c = λ steps stands.
@@ -28,4 +30,6 @@ returns-else-is_none-clause-stands c = λ steps stands.
     let some : is_none was.counted ≡ false = search rules in
     let P : TrackerState → Type 0 = λ s. StandsFor s (steps ++ Enabled ∷ []) in
     subst P (ap after_enabling (sym c.self.view_is)
-    ∙ ap (λ (o : Option ℕ). state_of was.machine was.disk was.capacity was.resets o was.maps was.snapshots.items was.free_from was.mark_room was.freeze_room) (kept was.counted some) ∙ c.self.view_is) (stands_enabled c.args.self.now steps stands)
+    ∙ ap (λ (o : Option ℕ). state_of was.machine was.disk was.capacity was.resets o was.maps
+    was.snapshots.items was.free_from was.mark_room was.freeze_room) (kept was.counted some)
+    ∙ c.self.view_is) (stands_enabled c.args.self.now steps stands)

@@ -11,7 +11,9 @@ returns-clause-ok c =
     let was = c.self.inside in
     let now : c.len-freezes.result ≡ length was.snapshots.items = search rules in
     let P : ℕ → Type 0 = λ n. IsTouchedWhere (is_met_by c.args.run) n was.maps c.mark.new.self in
-    marked_state was.machine was.disk was.capacity was.resets was.counted was.maps c.mark.new.self was.snapshots.items was.free_from was.mark_room was.freeze_room c.args.run (subst P now c.mark.ensures.touched)
+    marked_state was.machine was.disk was.capacity was.resets was.counted was.maps c.mark.new.self
+    was.snapshots.items was.free_from was.mark_room was.freeze_room c.args.run
+    (subst P now c.mark.ensures.touched)
     ∙ ap (after_marking c.args.run) (c.self.view_is ∙ c.in_ok-reserve_mark.ensures.ok)
 
 pub returns-clause-stands : goal.returns-clause-stands

@@ -8,17 +8,22 @@ use Rattle.change_tracker.proofs.tracker.Tracker.reserve_mark.Goals as goal
 
 pub returns-in_err-reserve-clause-refused : goal.returns-in_err-reserve-clause-refused
 returns-in_err-reserve-clause-refused c =
-    let inside : is_within c.args.self.now.capacity c.args.run.first c.args.run.count ≡ true = search rules in
-    refuse_within (is_within c.args.self.now.capacity c.args.run.first c.args.run.count) c.from_residual.result inside (if_err _ c.from_residual.result c.from_residual.ensures.1)
+    let inside : is_within c.args.self.now.capacity c.args.run.first c.args.run.count ≡ true =
+    search rules in
+    refuse_within (is_within c.args.self.now.capacity c.args.run.first c.args.run.count)
+    c.from_residual.result inside (if_err _ c.from_residual.result c.from_residual.ensures.1)
 
 pub returns-in_err-reserve-clause-err : goal.returns-in_err-reserve-clause-err
 returns-in_err-reserve-clause-err c =
     let was = c.self.inside in
     on_err c.from_residual.result
-    (same_state was.machine was.disk was.capacity was.resets was.counted was.maps c.reserve.new.self was.snapshots.items was.free_from was.mark_room was.freeze_room c.reserve.ensures.same ∙ c.self.view_is)
+    (same_state was.machine was.disk was.capacity was.resets was.counted was.maps c.reserve.new.self
+    was.snapshots.items was.free_from was.mark_room was.freeze_room c.reserve.ensures.same
+    ∙ c.self.view_is)
 
 pub returns-clause-ok : goal.returns-clause-ok
 returns-clause-ok c =
     let was = c.self.inside in
-    same_state was.machine was.disk was.capacity was.resets was.counted was.maps c.reserve.new.self was.snapshots.items was.free_from (Some c.args.run) was.freeze_room c.reserve.ensures.same
+    same_state was.machine was.disk was.capacity was.resets was.counted was.maps c.reserve.new.self
+    was.snapshots.items was.free_from (Some c.args.run) was.freeze_room c.reserve.ensures.same
     ∙ ap (λ (s : TrackerState). record s { mark_room = Some c.args.run }) c.self.view_is

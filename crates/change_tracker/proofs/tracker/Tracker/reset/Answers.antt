@@ -12,8 +12,10 @@ returns-clause-reset c =
     let was = c.self.inside in
     let counted : c.map-self-inside.result ≡ option_map (λ n. 0) was.counted = search rules in
     let new : Maps = record { first = was.maps.first; changes = c.clear.new.self } in
-    ap (λ (o : Option ℕ). state_of was.machine was.disk was.capacity (was.resets + 1) o new was.snapshots.items was.free_from None was.freeze_room) counted
-    ∙ reset_state was.machine was.disk was.capacity was.resets was.counted was.maps new was.snapshots.items was.free_from was.mark_room was.freeze_room refl c.clear.ensures
+    ap (λ (o : Option ℕ). state_of was.machine was.disk was.capacity (was.resets + 1) o new
+    was.snapshots.items was.free_from None was.freeze_room) counted
+    ∙ reset_state was.machine was.disk was.capacity was.resets was.counted was.maps new
+    was.snapshots.items was.free_from was.mark_room was.freeze_room refl c.clear.ensures
     ∙ ap after_reset c.self.view_is
 
 pub returns-clause-stands : goal.returns-clause-stands

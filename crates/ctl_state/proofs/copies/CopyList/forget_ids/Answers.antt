@@ -11,6 +11,7 @@ invariant_of-self c =
     let now = c.forget_each.new.copies in
     let whole : kept.len ≡ length now = omega arith in
     let e = all_written kept.len now kept.items (map unnamed_copy kept.items) whole
-    (c.forget_each.ensures ∙ ap (λ (old : List DiskCopy). map unnamed_copy old) c.deref_mut.ensures.value) in
+    (c.forget_each.ensures
+    ∙ ap (λ (old : List DiskCopy). map unnamed_copy old) c.deref_mut.ensures.value) in
     let P : List DiskCopy → Type 0 = Holds in
     subst P (sym e) (unnamed_holds kept.items c.self.invariant)

@@ -11,6 +11,7 @@ invariant_of-self c =
     let now = c.renew_each.new.copies in
     let whole : kept.len ≡ length now = omega arith in
     let e = all_written kept.len now kept.items (map fresh_copy kept.items) whole
-    (c.renew_each.ensures ∙ ap (λ (old : List DiskCopy). map fresh_copy old) c.deref_mut.ensures.value) in
+    (c.renew_each.ensures
+    ∙ ap (λ (old : List DiskCopy). map fresh_copy old) c.deref_mut.ensures.value) in
     let P : List DiskCopy → Type 0 = Holds in
     subst P (sym e) (renewed_holds kept.items c.self.invariant)

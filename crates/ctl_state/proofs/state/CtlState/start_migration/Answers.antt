@@ -33,7 +33,8 @@ invariant_of-self-2 c =
       migrations = kept.migrations.items;
     } in
     let M : CtlValue → Type 0 = λ now. may_start now mig plan vm c.args.disks ≡ true in
-    let may = subst M (sym c.self.view_is) (sym c.may_start.ensures.value ∙ c.if-not-may_start.false) in
+    let may = subst M (sym c.self.view_is) (sym c.may_start.ensures.value
+    ∙ c.if-not-may_start.false) in
     let next = next_of_start v mig plan vm c.args.disks may in
     let m = new_migration mig plan vm c.args.disks in
     let now = kept_start kept.plans.items kept.courses.items kept.migrations.items kept.names

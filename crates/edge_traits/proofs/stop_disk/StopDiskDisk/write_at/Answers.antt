@@ -10,5 +10,6 @@ returns-then-has_stopped-clause-broken g c =
     let new : c.fail-then-has_stopped.new.self.inner ≡ c.write_at.new.self =
     ap (λ s. s.inner) c.fail-then-has_stopped.ensures in
     let begins = rw old at c.requires in
-    rw (new, old) (part_asked _ _ _ c.args.at c.args.bytes.now (length c.args.bytes.now / 2) (omega arith) begins
+    rw (new, old) (part_asked _ _ _ c.args.at c.args.bytes.now (length c.args.bytes.now / 2)
+    (omega arith) begins
     half.written half.broken)

@@ -44,7 +44,8 @@ returns-clause-link c =
     let answer = rw taken at c.map.ensures.cases in
     is_some_and c.map.result (link_of MIGRATION_CALLER c.in_ok-as_ref.field-0.now) answer
     ∙ sym (lifts c.self.inside.hosts c.self.inside.vms c.args.self.now c.self.view_is
-    c.in_ok-place.field-0 e.0 c.in_ok-vm.vm.now e.1 c.args.number number c.in_ok-as_ref.field-0.now has
+    c.in_ok-place.field-0 e.0 c.in_ok-vm.vm.now e.1 c.args.number number c.in_ok-as_ref.field-0.now
+    has
     c.self.invariant)
 
 pub returns-clause-after : goal.returns-clause-after

@@ -5,5 +5,7 @@ use Rattle.guest_gen.proofs.script.GuestScript.new.Goals as goal
 
 pub returns-clause-lie : goal.returns-clause-lie
 returns-clause-lie c =
-    subst (λ xs. All (Lies c.args.capacities.now) (offered c.args.seed c.args.count xs)) (sym c.in_ok-capacities.ensures.items)
-    (all_lie c.args.seed c.args.count c.args.capacities.now c.requires.disks.0 (λ k d lt. (c.requires.sizes k d lt).0))
+    subst (λ xs. All (Lies c.args.capacities.now) (offered c.args.seed c.args.count xs))
+    (sym c.in_ok-capacities.ensures.items)
+    (all_lie c.args.seed c.args.count c.args.capacities.now c.requires.disks.0
+    (λ k d lt. (c.requires.sizes k d lt).0))

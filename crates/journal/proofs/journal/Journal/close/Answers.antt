@@ -8,5 +8,6 @@ returns-clause-kept g c = subst (λ (j : JournalState). IsKept j) c.self.view_is
 
 pub returns-clause-leaves : goal.returns-clause-leaves
 returns-clause-leaves g c =
-    subst (λ (j : JournalState). LeavesOneOf (outcomes j) (g.D.Disk.state c.self.inside.disk)) c.self.view_is
+    subst (λ (j : JournalState). LeavesOneOf (outcomes j) (g.D.Disk.state c.self.inside.disk))
+    c.self.view_is
     (kept_leaves _ c.self.invariant)

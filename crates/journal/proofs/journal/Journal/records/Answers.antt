@@ -8,4 +8,5 @@ returns-clause-kept g c = subst (λ (j : JournalState). IsKept j) c.self.view_is
 
 pub returns-clause-leaves : goal.returns-clause-leaves
 returns-clause-leaves g c =
-    kept_leaves c.args.self.now (subst (λ (j : JournalState). IsKept j) c.self.view_is c.self.invariant)
+    kept_leaves c.args.self.now
+    (subst (λ (j : JournalState). IsKept j) c.self.view_is c.self.invariant)

@@ -5,4 +5,5 @@ use Rattle.log_model.specs.Marks.{id_at}
 use Rattle.log_facts.proofs.log_facts.LogFacts.are_ids_at.Given as goal
 
 abbrev pub invariant-loop-disk : goal.invariant-loop-disk
-invariant-loop-disk l = (disk : ℕ) → disk < l.disk → slice_get l.ids disk ≡ id_at l.self.number disk l.snap l.self.log
+invariant-loop-disk l = (disk : ℕ) → disk < l.disk
+    → slice_get l.ids disk ≡ id_at l.self.number disk l.snap l.self.log

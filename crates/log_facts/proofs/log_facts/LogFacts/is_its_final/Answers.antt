@@ -14,22 +14,40 @@ use Rattle.log_facts.proofs.log_facts.LogFacts.is_its_final.Goals as goal
 pub returns-in-Some : goal.returns-in-Some
 returns-in-Some c =
     let at = facts_of c.self.inside.machine.value in
-    let its : IsItsSnapshot c.args.mig c.args.snap c.args.mark at.log = subst (λ (a : MachineFacts). IsItsSnapshot c.args.mig c.args.snap c.args.mark a.log) (sym c.self.view_is) (c.is_its_snapshot.ensures.0 c.if-is_its_snapshot.true) in
-    let within : c.args.mark < length at.log = taken_within c.args.mig c.args.snap c.args.mark at.log its in
-    let read : slice_get c.deref.result.now c.args.mark ≡ Some c.in-Some.before.now = slice_get_read c.deref.result.now (length c.deref.result.now) c.args.mark c.in-Some.before.now refl c.in-Some.ensures.lookup.3.0 c.in-Some.ensures.lookup.1 in
+    let its : IsItsSnapshot c.args.mig c.args.snap c.args.mark at.log =
+    subst (λ (a : MachineFacts). IsItsSnapshot c.args.mig c.args.snap c.args.mark a.log)
+    (sym c.self.view_is) (c.is_its_snapshot.ensures.0 c.if-is_its_snapshot.true) in
+    let within : c.args.mark < length at.log =
+    taken_within c.args.mig c.args.snap c.args.mark at.log its in
+    let read : slice_get c.deref.result.now c.args.mark ≡ Some c.in-Some.before.now =
+    slice_get_read c.deref.result.now (length c.deref.result.now) c.args.mark
+    c.in-Some.before.now refl c.in-Some.ensures.lookup.3.0 c.in-Some.ensures.lookup.1 in
     let there : c.in-Some.before.now ≡ place_facts (take c.args.mark at.log) =
-    same_Some c.in-Some.before.now (place_facts (take c.args.mark at.log)) (sym read ∙ ap (λ (l : List PlaceFacts). slice_get l c.args.mark) c.deref.ensures.value ∙ c.self.invariant.by_place c.args.mark within) in
+    same_Some c.in-Some.before.now (place_facts (take c.args.mark at.log))
+    (sym read ∙ ap (λ (l : List PlaceFacts). slice_get l c.args.mark) c.deref.ensures.value
+    ∙ c.self.invariant.by_place c.args.mark within) in
     let off : off_place c.args.snap c.args.self.now.log ≡ c.in-Some.before.now.last_off =
-    ap (λ (a : MachineFacts). off_place c.args.snap a.log) (sym c.self.view_is) ∙ off_place_is (all_of at.capacities) c.args.mig c.args.snap c.args.mark at.log c.self.invariant.legal its
+    ap (λ (a : MachineFacts). off_place c.args.snap a.log) (sym c.self.view_is)
+    ∙ off_place_is (all_of at.capacities) c.args.mig c.args.snap c.args.mark at.log
+    c.self.invariant.legal its
     ∙ sym (ap (λ (p : PlaceFacts). p.last_off) there) in (
-      λ is. (c.is_its_snapshot.ensures.0 c.if-is_its_snapshot.true, off ∙ is_that c.in-Some.before.now.last_off c.args.place (sym c.eq.ensures ∙ is)),
+      λ is. (
+        c.is_its_snapshot.ensures.0 c.if-is_its_snapshot.true,
+        off
+            ∙ is_that c.in-Some.before.now.last_off c.args.place (sym c.eq.ensures ∙ is),
+      ),
       λ both. c.eq.ensures ∙ are_same c.in-Some.before.now.last_off c.args.place (sym off ∙ both.1),
     )
 
 pub returns-in-None : goal.returns-in-None
 returns-in-None c =
     let at = facts_of c.self.inside.machine.value in
-    let its : IsItsSnapshot c.args.mig c.args.snap c.args.mark at.log = subst (λ (a : MachineFacts). IsItsSnapshot c.args.mig c.args.snap c.args.mark a.log) (sym c.self.view_is) (c.is_its_snapshot.ensures.0 c.if-is_its_snapshot.true) in
-    let within : c.args.mark < length at.log = taken_within c.args.mig c.args.snap c.args.mark at.log its in
-    let inside : c.args.mark < length c.self.inside.places.items = slice_get_within c.self.inside.places.items c.args.mark (place_facts (take c.args.mark at.log)) (c.self.invariant.by_place c.args.mark within) in
+    let its : IsItsSnapshot c.args.mig c.args.snap c.args.mark at.log =
+    subst (λ (a : MachineFacts). IsItsSnapshot c.args.mig c.args.snap c.args.mark a.log)
+    (sym c.self.view_is) (c.is_its_snapshot.ensures.0 c.if-is_its_snapshot.true) in
+    let within : c.args.mark < length at.log =
+    taken_within c.args.mig c.args.snap c.args.mark at.log its in
+    let inside : c.args.mark < length c.self.inside.places.items =
+    slice_get_within c.self.inside.places.items c.args.mark
+    (place_facts (take c.args.mark at.log)) (c.self.invariant.by_place c.args.mark within) in
     absurd (omega (arith, inside, c.in-None.ensures.lookup.3, ap length c.deref.ensures.value))

@@ -11,8 +11,16 @@ use Rattle.log_facts.proofs.log_facts.LogFacts.is_owned.Goals as goal
 pub returns-in-None : goal.returns-in-None
 returns-in-None c =
     let at = facts_of c.self.inside.machine.value in
-    let past : taken at.log < c.args.snap = omega (arith, c.in-None.ensures.lookup.3, c.self.invariant.by_number.up_to_last, ap length c.deref.ensures.value) in (
+    let past : taken at.log < c.args.snap =
+    omega (
+      arith,
+      c.in-None.ensures.lookup.3,
+      c.self.invariant.by_number.up_to_last,
+      ap length
+          c.deref.ensures.value,
+    ) in (
       λ is. absurd (false≢true is),
-      λ owns. absurd (no_owner (all_of at.capacities) c.args.snap (OfMigration c.args.mig) at.log c.self.invariant.legal past
+      λ owns. absurd (no_owner (all_of at.capacities) c.args.snap (OfMigration c.args.mig) at.log
+          c.self.invariant.legal past
           (ap (λ (a : MachineFacts). owner_of c.args.snap a.log) c.self.view_is ∙ owns)),
     )

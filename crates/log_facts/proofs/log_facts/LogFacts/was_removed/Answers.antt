@@ -9,5 +9,13 @@ use Rattle.log_facts.proofs.log_facts.LogFacts.was_removed.Goals as goal
 pub returns-in-None : goal.returns-in-None
 returns-in-None c =
     let at = facts_of c.self.inside.machine.value in
-    let past : taken at.log < c.args.snap = omega (arith, c.in-None.ensures.lookup.3, c.self.invariant.by_number.up_to_last, ap length c.deref.ensures.value) in
-    sym (ap (λ (a : MachineFacts). is_removed c.args.snap a.log) (sym c.self.view_is) ∙ never_removed (all_of at.capacities) c.args.snap at.log c.self.invariant.legal past)
+    let past : taken at.log < c.args.snap =
+    omega (
+      arith,
+      c.in-None.ensures.lookup.3,
+      c.self.invariant.by_number.up_to_last,
+      ap length
+          c.deref.ensures.value,
+    ) in
+    sym (ap (λ (a : MachineFacts). is_removed c.args.snap a.log) (sym c.self.view_is)
+    ∙ never_removed (all_of at.capacities) c.args.snap at.log c.self.invariant.legal past)

@@ -10,12 +10,20 @@ use Rattle.log_model.proofs.plain_machine.PlainMachineLink.power_off.Goals as go
 pub invariant_of-self : goal.invariant_of-self
 invariant_of-self c =
     let inside = c.self.inside in
-    plain_legal inside.capacities.items inside.caller c.power_off.result (power_off_refusal c.self.inside.entries.items) NoMemory (Off) inside.entries.items c.power_off.new.log.items c.self.invariant c.power_off.ensures.entries
-    c.power_off.ensures.refused (off_stands inside.capacities.items inside.entries.items inside.caller)
+    plain_legal inside.capacities.items inside.caller c.power_off.result
+    (power_off_refusal c.self.inside.entries.items) NoMemory (Off) inside.entries.items
+    c.power_off.new.log.items c.self.invariant c.power_off.ensures.entries
+    c.power_off.ensures.refused
+    (off_stands inside.capacities.items inside.entries.items inside.caller)
 
 pub returns-clause-adds : goal.returns-clause-adds
 returns-clause-adds c =
     let inside = c.self.inside in
-    subst (λ (s : LinkState). AddsAct c.power_off.result (Off) s (plain_state inside.machine inside.capacities.items inside.caller c.power_off.new.log.items)) c.self.view_is
-    (plain_adds inside.machine inside.capacities.items inside.caller c.power_off.result (power_off_refusal c.self.inside.entries.items) (Off) inside.entries.items c.power_off.new.log.items c.self.invariant c.power_off.ensures.entries
-    c.power_off.ensures.refused (off_stands inside.capacities.items inside.entries.items inside.caller))
+    subst (λ (s : LinkState). AddsAct c.power_off.result (Off) s
+    (plain_state inside.machine inside.capacities.items inside.caller
+    c.power_off.new.log.items)) c.self.view_is
+    (plain_adds inside.machine inside.capacities.items inside.caller c.power_off.result
+    (power_off_refusal c.self.inside.entries.items) (Off) inside.entries.items
+    c.power_off.new.log.items c.self.invariant c.power_off.ensures.entries
+    c.power_off.ensures.refused
+    (off_stands inside.capacities.items inside.entries.items inside.caller))

@@ -10,12 +10,20 @@ use Rattle.log_model.proofs.plain_machine.PlainMachineLink.power_on.Goals as goa
 pub invariant_of-self : goal.invariant_of-self
 invariant_of-self c =
     let inside = c.self.inside in
-    plain_legal inside.capacities.items inside.caller c.power_on.result (power_on_refusal c.self.inside.entries.items) NoMemory (On) inside.entries.items c.power_on.new.log.items c.self.invariant c.power_on.ensures.entries
-    c.power_on.ensures.refused (on_stands inside.capacities.items inside.entries.items inside.caller)
+    plain_legal inside.capacities.items inside.caller c.power_on.result
+    (power_on_refusal c.self.inside.entries.items) NoMemory (On) inside.entries.items
+    c.power_on.new.log.items c.self.invariant c.power_on.ensures.entries
+    c.power_on.ensures.refused
+    (on_stands inside.capacities.items inside.entries.items inside.caller)
 
 pub returns-clause-adds : goal.returns-clause-adds
 returns-clause-adds c =
     let inside = c.self.inside in
-    subst (λ (s : LinkState). AddsAct c.power_on.result (On) s (plain_state inside.machine inside.capacities.items inside.caller c.power_on.new.log.items)) c.self.view_is
-    (plain_adds inside.machine inside.capacities.items inside.caller c.power_on.result (power_on_refusal c.self.inside.entries.items) (On) inside.entries.items c.power_on.new.log.items c.self.invariant c.power_on.ensures.entries
-    c.power_on.ensures.refused (on_stands inside.capacities.items inside.entries.items inside.caller))
+    subst (λ (s : LinkState). AddsAct c.power_on.result (On) s
+    (plain_state inside.machine inside.capacities.items inside.caller c.power_on.new.log.items))
+    c.self.view_is
+    (plain_adds inside.machine inside.capacities.items inside.caller c.power_on.result
+    (power_on_refusal c.self.inside.entries.items) (On) inside.entries.items
+    c.power_on.new.log.items c.self.invariant c.power_on.ensures.entries
+    c.power_on.ensures.refused
+    (on_stands inside.capacities.items inside.entries.items inside.caller))

@@ -10,9 +10,13 @@ returns-then-self-gt-INPUT_LIMIT-clause-none g c =
     let S = g.S.Source.state in
     let count = c.in-Ok.count in
     let given = take count c.read_front.new.chunk in
-    let same : c.self.inside.total ≡ c.args.self.now.total = ap (λ (r : ReaderState). r.total) c.self.view_is in
+    let same : c.self.inside.total ≡ c.args.self.now.total =
+    ap (λ (r : ReaderState). r.total) c.self.view_is in
     let few = c.in-Ok.ensures.count in
     let some : count ≡ 1 = omega (arith, same, few) in
     let full : c.args.self.now.total ≡ INPUT_LIMIT = omega (arith, same, few) in
-    let long : length given ≡ count = length-take-le count c.read_front.new.chunk (omega (arith, few)) in
-    read_past (S c.args.source.now) (S c.read_front.new.source) c.args.self.now _ given c.requires.empty c.requires.running c.in-Ok.ensures.given (omega (arith, long, some)) full (omega (arith, same, long)) c.in-Ok.ensures.cause.stays
+    let long : length given ≡ count =
+    length-take-le count c.read_front.new.chunk (omega (arith, few)) in
+    read_past (S c.args.source.now) (S c.read_front.new.source) c.args.self.now _ given
+    c.requires.empty c.requires.running c.in-Ok.ensures.given (omega (arith, long, some)) full
+    (omega (arith, same, long)) c.in-Ok.ensures.cause.stays

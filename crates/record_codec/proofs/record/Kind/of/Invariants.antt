@@ -7,4 +7,5 @@ use Rattle.record_codec.proofs.record.Kind.of.Given as goal
 
 -- none of the kinds so far has the byte
 abbrev pub invariant-loop-kind : goal.invariant-loop-kind
-invariant-loop-kind l = (k : ℕ) → k < l.kind-index → kind_byte (slice_index_or KINDS k PlanMade) ≢ l.byte
+invariant-loop-kind l = (k : ℕ) → k < l.kind-index
+    → kind_byte (slice_index_or KINDS k PlanMade) ≢ l.byte

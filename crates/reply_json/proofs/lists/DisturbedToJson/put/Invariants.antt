@@ -9,6 +9,8 @@ use Rattle.reply_json.proofs.lists.DisturbedToJson.put.Given as goal
 abbrev pub invariant-loop-refusal : goal.invariant-loop-refusal
 invariant-loop-refusal l = record {
   kept : l.writer.before ≡ l.fn.writer.before;
-  written : l.writer.tokens ++ rest_of disturbed_data (drop l.refusal-index l.refusal-items) ≡ l.fn.writer.tokens ++ tokens_of (array_of disturbed_data l.refusal-items);
-  fits : All (λ refusal. NumbersFit (disturbed_data refusal)) (take l.refusal-index l.refusal-items);
+  written : l.writer.tokens ++ rest_of disturbed_data (drop l.refusal-index l.refusal-items)
+      ≡ l.fn.writer.tokens ++ tokens_of (array_of disturbed_data l.refusal-items);
+  fits : All (λ refusal. NumbersFit (disturbed_data refusal))
+      (take l.refusal-index l.refusal-items);
 }

@@ -7,4 +7,5 @@ use Rattle.reply_json.proofs.lists.SequenceToJson.put.Goals as goal
 pub returns-clause-fits : goal.returns-clause-fits
 returns-clause-fits g c =
     subst (λ values. NumbersFit (array_of g.T.ToJson.json values)) c.as_slice-item-items.ensures
-    (array_fits g.T.ToJson.json c.as_slice-item-items.result.now c.loop-item.item-index (omega arith) c.loop-item.invariant.fits)
+    (array_fits g.T.ToJson.json c.as_slice-item-items.result.now c.loop-item.item-index
+    (omega arith) c.loop-item.invariant.fits)

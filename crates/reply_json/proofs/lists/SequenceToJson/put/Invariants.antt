@@ -9,6 +9,7 @@ use Rattle.reply_json.proofs.lists.SequenceToJson.put.Given as goal
 abbrev pub invariant-loop-item : goal.invariant-loop-item
 invariant-loop-item g l = record {
   kept : l.writer.before ≡ l.fn.writer.before;
-  written : l.writer.tokens ++ rest_of g.T.ToJson.json (drop l.item-index l.item-items) ≡ l.fn.writer.tokens ++ tokens_of (array_of g.T.ToJson.json l.item-items);
+  written : l.writer.tokens ++ rest_of g.T.ToJson.json (drop l.item-index l.item-items)
+      ≡ l.fn.writer.tokens ++ tokens_of (array_of g.T.ToJson.json l.item-items);
   fits : All (λ value. NumbersFit (g.T.ToJson.json value)) (take l.item-index l.item-items);
 }

@@ -2,4 +2,5 @@ use Rattle.std.proofs.lemmas.Str.{IsUtf8-from_ascii}
 use Rattle.reply_json.proofs.values.ChangeIdToJson.put.Goals as goal
 
 pub unreachable-requires : goal.unreachable-requires
-unreachable-requires c = c.in_default.ensures.cases.0 (IsUtf8-from_ascii _ c.write_to-len.ensures.ascii)
+unreachable-requires c =
+    c.in_default.ensures.cases.0 (IsUtf8-from_ascii _ c.write_to-len.ensures.ascii)

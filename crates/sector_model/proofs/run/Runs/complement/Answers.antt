@@ -20,11 +20,16 @@ loop-run-preserved c =
     let i = c.loop-run.run-index in
     let zero_run : Run = record { first = 0; count = 0 } in
     let r = get_or all i zero_run in
-    let within : All (λ run. end_of run ≤ c.args.capacity) all = subst (λ (rs : List Run). All (λ run. end_of run ≤ c.args.capacity) rs) (sym c.as_slice-runs.ensures.same) c.requires in
+    let within : All (λ run. end_of run ≤ c.args.capacity) all =
+    subst (λ (rs : List Run). All (λ run. end_of run ≤ c.args.capacity) rs)
+    (sym c.as_slice-runs.ensures.same) c.requires in
     let next : drop i all ≡ r ∷ drop (i + 1) all = drop_more all i zero_run (omega arith) in
-    let left : Left all (r ∷ drop (i + 1) all) c.loop-run.at = subst (λ (rest : List Run). Left all rest c.loop-run.at) next c.loop-run.invariant.left in
+    let left : Left all (r ∷ drop (i + 1) all) c.loop-run.at =
+    subst (λ (rest : List Run). Left all rest c.loop-run.at) next c.loop-run.invariant.left in
     record {
-      gaps = c.in_ok-append.ensures.ok ∙ ap (λ rs. with_run rs c.loop-run.at (r.first - c.loop-run.at)) c.loop-run.invariant.gaps ∙ gap-before all r (drop (i + 1) all) c.loop-run.at left;
+      gaps = c.in_ok-append.ensures.ok
+          ∙ ap (λ rs. with_run rs c.loop-run.at (r.first - c.loop-run.at)) c.loop-run.invariant.gaps
+          ∙ gap-before all r (drop (i + 1) all) c.loop-run.at left;
       left = left-after all r (drop (i + 1) all) c.loop-run.at left;
       within = within i zero_run (omega arith);
     }
@@ -32,14 +37,24 @@ loop-run-preserved c =
 pub returns : goal.returns
 returns c =
     let all = c.as_slice-runs.result.now in
-    let none_left : Left all [] c.loop-run.at = subst (λ (rest : List Run). Left all rest c.loop-run.at) (drop_all c.loop-run.run-index all (omega arith)) c.loop-run.invariant.left in
-    c.in_ok-append-2.ensures.ok ∙ ap (λ rs. with_run rs c.loop-run.at (c.args.capacity - c.loop-run.at)) c.loop-run.invariant.gaps
-    ∙ gap-behind all c.loop-run.at c.args.capacity none_left c.loop-run.invariant.within ∙ ap (complement_of c.args.capacity) c.as_slice-runs.ensures.same
+    let none_left : Left all [] c.loop-run.at =
+    subst (λ (rest : List Run). Left all rest c.loop-run.at)
+    (drop_all c.loop-run.run-index all (omega arith)) c.loop-run.invariant.left in
+    c.in_ok-append-2.ensures.ok
+    ∙ ap (λ rs. with_run rs c.loop-run.at (c.args.capacity - c.loop-run.at))
+    c.loop-run.invariant.gaps
+    ∙ gap-behind all c.loop-run.at c.args.capacity none_left c.loop-run.invariant.within
+    ∙ ap (complement_of c.args.capacity) c.as_slice-runs.ensures.same
 
 pub invariant_of-result : goal.invariant_of-result
 invariant_of-result c =
     let all = c.as_slice-runs.result.now in
-    let none_left : Left all [] c.loop-run.at = subst (λ (rest : List Run). Left all rest c.loop-run.at) (drop_all c.loop-run.run-index all (omega arith)) c.loop-run.invariant.left in
-    let is_complement = c.in_ok-append-2.ensures.ok ∙ ap (λ rs. with_run rs c.loop-run.at (c.args.capacity - c.loop-run.at)) c.loop-run.invariant.gaps
+    let none_left : Left all [] c.loop-run.at =
+    subst (λ (rest : List Run). Left all rest c.loop-run.at)
+    (drop_all c.loop-run.run-index all (omega arith)) c.loop-run.invariant.left in
+    let is_complement = c.in_ok-append-2.ensures.ok
+    ∙ ap (λ rs. with_run rs c.loop-run.at (c.args.capacity - c.loop-run.at))
+    c.loop-run.invariant.gaps
     ∙ gap-behind all c.loop-run.at c.args.capacity none_left c.loop-run.invariant.within in
-    subst AreSpaced (sym is_complement) (runs_of-spaced (λ s. not (in_runs all s)) c.args.capacity (omega arith)).spaced
+    subst AreSpaced (sym is_complement)
+    (runs_of-spaced (λ s. not (in_runs all s)) c.args.capacity (omega arith)).spaced

@@ -20,4 +20,6 @@ loop-block-preserved c =
 
 pub invariant_of-result : goal.invariant_of-result
 invariant_of-result c =
-    subst AreSpaced (sym c.loop-block.invariant) (runs_of-spaced (in_blocks (take c.loop-block.block-index c.args.blocks.now)) c.args.capacity (omega arith)).spaced
+    subst AreSpaced (sym c.loop-block.invariant)
+    (runs_of-spaced (in_blocks (take c.loop-block.block-index c.args.blocks.now))
+    c.args.capacity (omega arith)).spaced

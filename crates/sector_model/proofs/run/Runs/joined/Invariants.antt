@@ -6,6 +6,7 @@ use Rattle.sector_model.proofs.run.Runs.joined.Given as goal
 abbrev pub invariant-loop-run : goal.invariant-loop-run
 invariant-loop-run l =
     record {
-      told : l.joined.items ++ left_over l.left (drop l.run-index l.run-items) ≡ joined l.fn.more l.run-items;
+      told : l.joined.items ++ left_over l.left (drop l.run-index l.run-items)
+          ≡ joined l.fn.more l.run-items;
       fits : Fits64 l.left;
     }

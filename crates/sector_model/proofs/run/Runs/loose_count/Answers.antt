@@ -14,4 +14,5 @@ returns c =
     let is = c.as_slice.ensures.same in
     let runs = c.args.self.now in
     c.sectors_of.ensures ∙ ap (λ (rs : List Run). sum_by (λ (r : Run). r.count) rs) is
-    ∙ sym (loose_runs_count c.args.sectors.now runs (subst AreSpaced is c.as_slice.ensures.spaced) c.requires)
+    ∙ sym (loose_runs_count c.args.sectors.now runs (subst AreSpaced is c.as_slice.ensures.spaced)
+    c.requires)

@@ -12,10 +12,14 @@ returns-in_err-run c =
     let runs = c.args.runs.now in
     let i = c.partition_point-index.result in
     let point : EndsBefore c.args.at runs i =
-    IsPartitionPoint-from_clause (λ r. leb (end_of r) c.args.at) runs i c.partition_point-index.ensures.partitioned
-    (IsPartitionedBy-leb end_of runs c.args.at (ends_rise 0 runs c.requires)) (λ a r f k. search rules) in
+    IsPartitionPoint-from_clause (λ r. leb (end_of r) c.args.at) runs i
+    c.partition_point-index.ensures.partitioned
+    (IsPartitionedBy-leb end_of runs c.args.at (ends_rise 0 runs c.requires))
+    (λ a r f k. search rules) in
     c.from_residual.ensures
-    ∙ sym (next_at c.args.at runs i point ∙ ap (option_map (from_sector c.args.at)) (slice_get_past runs i c.in_err-run.ensures.lookup.3))
+    ∙ sym (next_at c.args.at runs i point
+    ∙ ap (option_map (from_sector c.args.at))
+    (slice_get_past runs i c.in_err-run.ensures.lookup.3))
 
 pub from_sector-requires : goal.from_sector-requires
 from_sector-requires c =
@@ -23,10 +27,13 @@ from_sector-requires c =
     let i = c.partition_point-index.result in
     let r = c.in_ok-run.run'.now in
     let point : EndsBefore c.args.at runs i =
-    IsPartitionPoint-from_clause (λ r. leb (end_of r) c.args.at) runs i c.partition_point-index.ensures.partitioned
-    (IsPartitionedBy-leb end_of runs c.args.at (ends_rise 0 runs c.requires)) (λ a r f k. search rules) in
+    IsPartitionPoint-from_clause (λ r. leb (end_of r) c.args.at) runs i
+    c.partition_point-index.ensures.partitioned
+    (IsPartitionedBy-leb end_of runs c.args.at (ends_rise 0 runs c.requires))
+    (λ a r f k. search rules) in
     let read = c.in_ok-run.ensures.lookup.1 in
-    let past = leb-false (end_of (get_or runs i r)) c.args.at (point.1 i r (omega arith) c.in_ok-run.ensures.lookup.3.0) in
+    let past = leb-false (end_of (get_or runs i r)) c.args.at
+    (point.1 i r (omega arith) c.in_ok-run.ensures.lookup.3.0) in
     let same = ap end_of read in
     omega (arith, past, same)
 
@@ -36,8 +43,12 @@ returns c =
     let i = c.partition_point-index.result in
     let r = c.in_ok-run.run'.now in
     let point : EndsBefore c.args.at runs i =
-    IsPartitionPoint-from_clause (λ r. leb (end_of r) c.args.at) runs i c.partition_point-index.ensures.partitioned
-    (IsPartitionedBy-leb end_of runs c.args.at (ends_rise 0 runs c.requires)) (λ a r f k. search rules) in
+    IsPartitionPoint-from_clause (λ r. leb (end_of r) c.args.at) runs i
+    c.partition_point-index.ensures.partitioned
+    (IsPartitionedBy-leb end_of runs c.args.at (ends_rise 0 runs c.requires))
+    (λ a r f k. search rules) in
     ap Some c.from_sector.ensures
     ∙ sym (next_at c.args.at runs i point
-    ∙ ap (option_map (from_sector c.args.at)) (slice_get_read runs (length runs) i r refl c.in_ok-run.ensures.lookup.3.0 c.in_ok-run.ensures.lookup.1))
+    ∙ ap (option_map (from_sector c.args.at))
+    (slice_get_read runs (length runs) i r refl c.in_ok-run.ensures.lookup.3.0
+    c.in_ok-run.ensures.lookup.1))

@@ -7,7 +7,8 @@ use Rattle.sector_model.proofs.sector.SectorList.take_found.Given as goal
 abbrev pub invariant-loop-run : goal.invariant-loop-run
 invariant-loop-run l =
     record {
-      told : fill_runs (drop l.run-index l.run-items) l.self (drop l.at l.filling) ≡ fill_runs l.run-items l.initial.self l.filling;
+      told : fill_runs (drop l.run-index l.run-items) l.self (drop l.at l.filling)
+          ≡ fill_runs l.run-items l.initial.self l.filling;
       left : l.at + sum_by (λ run. run.count) (drop l.run-index l.run-items) ≡ length l.filling;
       long : length l.self ≡ length l.initial.self;
     }

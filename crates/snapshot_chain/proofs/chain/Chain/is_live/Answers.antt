@@ -6,5 +6,8 @@ use Rattle.snapshot_chain.proofs.chain.Chain.is_live.Goals as goal
 
 pub returns : goal.returns
 returns c =
-    c.is_some.ensures ∙ ap is_some c.position_of.ensures ∙ ap (λ (ids : List ℕ). is_some (position (nat_eq c.args.id) ids)) c.as_slice.ensures.value
-    ∙ rw (← c.self.view_is) (sym (live_in c.self.inside.capacity c.args.id c.self.inside.ids.items c.self.inside.layers.items c.self.invariant.long))
+    c.is_some.ensures ∙ ap is_some c.position_of.ensures
+    ∙ ap (λ (ids : List ℕ). is_some (position (nat_eq c.args.id) ids)) c.as_slice.ensures.value
+    ∙ rw (← c.self.view_is)
+    (sym (live_in c.self.inside.capacity c.args.id c.self.inside.ids.items
+    c.self.inside.layers.items c.self.invariant.long))

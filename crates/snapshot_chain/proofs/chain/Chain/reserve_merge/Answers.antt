@@ -9,25 +9,37 @@ use Rattle.snapshot_chain.proofs.chain.Chain.reserve_merge.Goals as goal
 
 pub returns-in_default-clause-refused : goal.returns-in_default-clause-refused
 returns-in_default-clause-refused c =
-    let none : position (nat_eq c.args.id) c.self.inside.ids.items ≡ None = rw c.as_slice.ensures.value at (sym c.position_of.ensures ∙ c.in_default.is) in
+    let none : position (nat_eq c.args.id) c.self.inside.ids.items ≡ None =
+    rw c.as_slice.ensures.value at (sym c.position_of.ensures ∙ c.in_default.is) in
     refuse_unknown (Unit {0}) (is_some (snapshot_of c.args.id c.args.self.now))
-    (rw (← c.self.view_is) (live_in c.self.inside.capacity c.args.id c.self.inside.ids.items c.self.inside.layers.items c.self.invariant.long ∙ ap is_some none))
+    (rw (← c.self.view_is)
+    (live_in c.self.inside.capacity c.args.id c.self.inside.ids.items c.self.inside.layers.items
+    c.self.invariant.long ∙ ap is_some none))
 
 pub returns-clause-refused : goal.returns-clause-refused
 returns-clause-refused c =
-    let at : position (nat_eq c.args.id) c.self.inside.ids.items ≡ Some c.in-Some.index = rw c.as_slice.ensures.value at (sym c.position_of.ensures ∙ c.in-Some.is) in
+    let at : position (nat_eq c.args.id) c.self.inside.ids.items ≡ Some c.in-Some.index =
+    rw c.as_slice.ensures.value at (sym c.position_of.ensures ∙ c.in-Some.is) in
     refuse_live (is_some (snapshot_of c.args.id c.args.self.now)) (Ok tt)
-    (rw (← c.self.view_is) (live_in c.self.inside.capacity c.args.id c.self.inside.ids.items c.self.inside.layers.items c.self.invariant.long ∙ ap is_some at)) tt
+    (rw (← c.self.view_is)
+    (live_in c.self.inside.capacity c.args.id c.self.inside.ids.items c.self.inside.layers.items
+    c.self.invariant.long ∙ ap is_some at)) tt
 
 pub returns-then-has_merge_room-clause-refused : goal.returns-then-has_merge_room-clause-refused
 returns-then-has_merge_room-clause-refused c =
-    let at : position (nat_eq c.args.id) c.self.inside.ids.items ≡ Some c.in-Some.index = rw c.as_slice.ensures.value at (sym c.position_of.ensures ∙ c.in-Some.is) in
+    let at : position (nat_eq c.args.id) c.self.inside.ids.items ≡ Some c.in-Some.index =
+    rw c.as_slice.ensures.value at (sym c.position_of.ensures ∙ c.in-Some.is) in
     refuse_live (is_some (snapshot_of c.args.id c.args.self.now)) (Ok tt)
-    (rw (← c.self.view_is) (live_in c.self.inside.capacity c.args.id c.self.inside.ids.items c.self.inside.layers.items c.self.invariant.long ∙ ap is_some at)) tt
+    (rw (← c.self.view_is)
+    (live_in c.self.inside.capacity c.args.id c.self.inside.ids.items c.self.inside.layers.items
+    c.self.invariant.long ∙ ap is_some at)) tt
 
 pub returns-in_err-pages-clause-refused : goal.returns-in_err-pages-clause-refused
 returns-in_err-pages-clause-refused c =
-    let at : position (nat_eq c.args.id) c.self.inside.ids.items ≡ Some c.in-Some.index = rw c.as_slice.ensures.value at (sym c.position_of.ensures ∙ c.in-Some.is) in
+    let at : position (nat_eq c.args.id) c.self.inside.ids.items ≡ Some c.in-Some.index =
+    rw c.as_slice.ensures.value at (sym c.position_of.ensures ∙ c.in-Some.is) in
     refuse_live (is_some (snapshot_of c.args.id c.args.self.now)) c.from_residual.result
-    (rw (← c.self.view_is) (live_in c.self.inside.capacity c.args.id c.self.inside.ids.items c.self.inside.layers.items c.self.invariant.long ∙ ap is_some at))
+    (rw (← c.self.view_is)
+    (live_in c.self.inside.capacity c.args.id c.self.inside.ids.items c.self.inside.layers.items
+    c.self.invariant.long ∙ ap is_some at))
     (if_err _ c.from_residual.result c.from_residual.ensures.1)

@@ -6,4 +6,7 @@ use Rattle.snapshot_chain.specs.Layer.{has_sector}
 use Rattle.snapshot_chain.proofs.layer.Layer.add_blocks.Given as goal
 
 abbrev pub invariant-loop-block : goal.invariant-loop-block
-invariant-loop-block l = (b : ℕ) → contains nat_cmp l.blocks b ≡ (contains nat_cmp l.initial.blocks b || list_any (λ e. nat_eq b e.0.now && has_sector l.self b) l.yielded)
+invariant-loop-block l = (b : ℕ)
+    → contains nat_cmp l.blocks b
+    ≡ (contains nat_cmp l.initial.blocks b || list_any
+    (λ e. nat_eq b e.0.now && has_sector l.self b) l.yielded)

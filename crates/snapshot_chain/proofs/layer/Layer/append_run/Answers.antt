@@ -5,8 +5,13 @@ use Rattle.snapshot_chain.proofs.InPlace.{written_if, same_if}
 use Rattle.snapshot_chain.proofs.layer.Layer.append_run.Goals as goal
 
 pub returns-clause-ok : goal.returns-clause-ok
-returns-clause-ok c = IfOk-weaker c.append_at.result _ _ (λ added. written_if added c.args.self.now c.append_at.new.self _ c.args.first _ c.args.sectors.now
+returns-clause-ok c =
+    IfOk-weaker c.append_at.result _ _
+    (λ added. written_if added c.args.self.now c.append_at.new.self _ c.args.first _
+    c.args.sectors.now
     (omega (arith)) (omega (arith)) c.append_at.ensures.others) c.append_at.ensures.here
 
 pub returns-clause-err : goal.returns-clause-err
-returns-clause-err c = same_if c.append_at.result c.args.self.now c.append_at.new.self _ c.append_at.ensures.others c.append_at.ensures.err
+returns-clause-err c =
+    same_if c.append_at.result c.args.self.now c.append_at.new.self _ c.append_at.ensures.others
+    c.append_at.ensures.err

@@ -8,7 +8,9 @@ use Rattle.snapshot_chain.proofs.layer.Layer.overwrite.Given as goal
 abbrev pub invariant-loop-block : goal.invariant-loop-block
 invariant-loop-block l = record {
   done : (block offset : ℕ) → offset < 128 → block < l.block
-      → sector_in l.self block offset ≡ option_map (unwrap_or (run_at l.first l.sectors (128 * block + offset))) (sector_in l.initial.self block offset);
+      → sector_in l.self block offset
+      ≡ option_map (unwrap_or (run_at l.first l.sectors (128 * block + offset)))
+      (sector_in l.initial.self block offset);
   behind : (block : ℕ) → l.block ≤ block → slot_of l.self block ≡ slot_of l.initial.self block;
   slots : KeepsSlots l.self l.initial.self;
 }

@@ -7,7 +7,8 @@ use Rattle.snapshot_chain.proofs.layer.Layer.put_pages.Given as goal
 abbrev pub invariant-loop-block : goal.invariant-loop-block
 invariant-loop-block l = record {
   slots : KeepsSlots l.pages-inside.pages.entries l.self;
-  each : (block : ℕ) → option_or (slot_of l.pages-inside.pages.entries block) (slot_of l.self block) ≡ option_or (slot_of l.fn.pages block) (slot_of l.initial.self block);
+  each : (block : ℕ) → option_or (slot_of l.pages-inside.pages.entries block) (slot_of l.self block)
+      ≡ option_or (slot_of l.fn.pages block) (slot_of l.initial.self block);
 }
 
 abbrev pub decreases-loop-block : goal.decreases-loop-block

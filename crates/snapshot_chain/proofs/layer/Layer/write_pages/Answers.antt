@@ -5,17 +5,25 @@ use Rattle.snapshot_chain.proofs.layer.Layer.write_pages.Goals as goal
 
 pub returns-in_err-make_slots-clause-err : goal.returns-in_err-make_slots-clause-err
 returns-in_err-make_slots-clause-err c =
-    on_err c.from_residual-in_err-make_slots.result (slots_same c.in_ok-grown.grown c.args.self.now c.make_slots.new.self c.make_slots.ensures.added)
+    on_err c.from_residual-in_err-make_slots.result
+    (slots_same c.in_ok-grown.grown c.args.self.now c.make_slots.new.self
+    c.make_slots.ensures.added)
 
 pub returns-in_err-make_slots-clause-within : goal.returns-in_err-make_slots-clause-within
-returns-in_err-make_slots-clause-within c = λ most le was. slots_within most c.in_ok-grown.grown c.args.self.now c.make_slots.new.self c.make_slots.ensures.added (c.in_ok-grown.ensures.within most le) was
+returns-in_err-make_slots-clause-within c =
+    λ most le was. slots_within most c.in_ok-grown.grown c.args.self.now c.make_slots.new.self
+    c.make_slots.ensures.added (c.in_ok-grown.ensures.within most le) was
 
 pub returns-clause-ok : goal.returns-clause-ok
 returns-clause-ok c =
-    written c.args.first c.args.sectors.now c.args.self.now c.make_slots.new.self c.put_pages.new.self c.overwrite.new.self c.in_ok-grown.grown
-    c.in_ok-grown.ensures.grown c.make_slots.ensures.added c.put_pages.ensures c.overwrite.ensures.sectors
+    written c.args.first c.args.sectors.now c.args.self.now c.make_slots.new.self
+    c.put_pages.new.self c.overwrite.new.self c.in_ok-grown.grown
+    c.in_ok-grown.ensures.grown c.make_slots.ensures.added c.put_pages.ensures
+    c.overwrite.ensures.sectors
 
 pub returns-clause-within : goal.returns-clause-within
 returns-clause-within c = λ most le was.
-    written_within most c.args.self.now c.make_slots.new.self c.put_pages.new.self c.overwrite.new.self c.in_ok-grown.grown
-    c.make_slots.ensures.added c.put_pages.ensures c.overwrite.ensures.slots (c.in_ok-grown.ensures.within most le) was
+    written_within most c.args.self.now c.make_slots.new.self c.put_pages.new.self
+    c.overwrite.new.self c.in_ok-grown.grown
+    c.make_slots.ensures.added c.put_pages.ensures c.overwrite.ensures.slots
+    (c.in_ok-grown.ensures.within most le) was

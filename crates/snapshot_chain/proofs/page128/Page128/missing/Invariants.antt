@@ -6,5 +6,6 @@ use Rattle.snapshot_chain.proofs.page128.Page128.missing.Given as goal
 abbrev pub invariant-loop-offset : goal.invariant-loop-offset
 invariant-loop-offset l = record {
   few : l.missing ≤ l.offset;
-  none : l.missing ≡ 0 → (k : ℕ) → k < l.offset → IsSome (run_at l.first l.sectors (128 * l.block + k)) → IsSome (sector_at l.self k);
+  none : l.missing ≡ 0 → (k : ℕ) → k < l.offset
+      → IsSome (run_at l.first l.sectors (128 * l.block + k)) → IsSome (sector_at l.self k);
 }

@@ -12,11 +12,19 @@ loop-offset-init c = rw c.empty-page.ensures (built_empty _)
 
 pub loop-offset-preserved : goal.loop-offset-preserved
 loop-offset-preserved c =
-    let f : ℕ → Option Sector = λ k. option_or (run_at c.args.first c.args.sectors.now (128 * c.args.block + k)) (sector_at c.args.self.now k) in
-    let here : option_copied c.or.result ≡ f c.loop-offset.offset = ap option_copied c.or.ensures ∙ copied_or c.run_get-written.result c.get.result ∙ rw (c.run_get-written.ensures, c.get.ensures) refl in
+    let f : ℕ → Option Sector =
+    λ k. option_or (run_at c.args.first c.args.sectors.now (128 * c.args.block + k))
+    (sector_at c.args.self.now k) in
+    let here : option_copied c.or.result ≡ f c.loop-offset.offset =
+    ap option_copied c.or.ensures ∙ copied_or c.run_get-written.result c.get.result
+    ∙ rw (c.run_get-written.ensures, c.get.ensures) refl in
     elim c.match-or.branch [
       | in-Some+in_ok-page w ↦
           rw (w.page-is, w.in_ok-page.ensures)
-          (built_some c.loop-offset.page c.loop-offset.offset w.in-Some.sector.now f c.loop-offset-test.true c.loop-offset.invariant (sym here ∙ ap option_copied w.in-Some.is))
-      | in_default w ↦ rw w.page-is (built_none c.loop-offset.page c.loop-offset.offset f c.loop-offset.invariant (sym here ∙ ap option_copied w.in_default.is))
+          (built_some c.loop-offset.page c.loop-offset.offset w.in-Some.sector.now f
+          c.loop-offset-test.true c.loop-offset.invariant
+          (sym here ∙ ap option_copied w.in-Some.is))
+      | in_default w ↦ rw w.page-is
+          (built_none c.loop-offset.page c.loop-offset.offset f c.loop-offset.invariant
+          (sym here ∙ ap option_copied w.in_default.is))
     ]

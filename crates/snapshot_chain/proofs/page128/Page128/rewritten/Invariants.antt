@@ -6,4 +6,6 @@ use Rattle.snapshot_chain.proofs.Masks.{IsBuilt}
 use Rattle.snapshot_chain.proofs.page128.Page128.rewritten.Given as goal
 
 abbrev pub invariant-loop-offset : goal.invariant-loop-offset
-invariant-loop-offset l = IsBuilt l.page l.offset (λ k. option_or (run_at l.first l.sectors (128 * l.block + k)) (sector_at l.self k))
+invariant-loop-offset l =
+    IsBuilt l.page l.offset
+    (λ k. option_or (run_at l.first l.sectors (128 * l.block + k)) (sector_at l.self k))

@@ -9,5 +9,6 @@ returns-clause-stands c =
     on_ok_weaker c.merge.result
     (λ (merged : c.merge.new.self ≡ chain.after_merging c.args.id c.self.inside.chain).
     rw (← c.self.view_is, merged)
-    (takes_remove c.args.id (record { chain = c.self.inside.chain; tracker = c.self.inside.tracker })))
+    (takes_remove c.args.id
+    (record { chain = c.self.inside.chain; tracker = c.self.inside.tracker })))
     c.merge.ensures.ok

@@ -6,6 +6,9 @@ use Rattle.source_disk.proofs.source_disk.SourceDisk.write.Goals as goal
 
 pub returns-clause-stands : goal.returns-clause-stands
 returns-clause-stands c =
-    let marked : c.mark.new.self ≡ after_marking (record { first = c.args.first; count = length c.args.sectors.now }) c.reserve_mark.new.self = rw c.unwrap.ensures at c.mark.ensures.ok in
+    let marked : c.mark.new.self
+    ≡ after_marking (record { first = c.args.first; count = length c.args.sectors.now })
+    c.reserve_mark.new.self = rw c.unwrap.ensures at c.mark.ensures.ok in
     rw (← c.self.view_is, c.in_ok-write.ensures.ok, marked, c.in-Ok.ensures.ok)
-    (takes_write c.args.first c.args.sectors.now (record { chain = c.self.inside.chain; tracker = c.self.inside.tracker }))
+    (takes_write c.args.first c.args.sectors.now
+    (record { chain = c.self.inside.chain; tracker = c.self.inside.tracker }))

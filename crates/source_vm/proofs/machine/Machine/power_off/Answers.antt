@@ -15,9 +15,15 @@ pub invariant_of-self-2 : goal.invariant_of-self-2
 invariant_of-self-2 c =
     let log : LogState = c.self.inside.log in
     let disks : List SourceDiskState = c.self.inside.disks.items in
-    let fits : FitsBehind (all_of log.capacities) log.entries c.args.who Off = off_stands log.capacities log.entries c.args.who (sym c.power_off_refusal.ensures ∙ c.in_default.is) in
-    let roomy : c.reserve.new.self ≡ record log { room = true } = where_ok c.reserve.result (sym c.is_err.ensures.value ∙ c.if-is_err.false) c.reserve.ensures.ok in
-    sound_after c.self.inside.number log c.reserve.new.self c.push.new.self c.args.who Off disks disks roomy c.push.ensures fits c.self.invariant (none_took others_pass Off disks (λ k. refl))
+    let fits : FitsBehind (all_of log.capacities) log.entries c.args.who Off =
+    off_stands log.capacities log.entries c.args.who (sym c.power_off_refusal.ensures
+    ∙ c.in_default.is) in
+    let roomy : c.reserve.new.self ≡ record log { room = true } =
+    where_ok c.reserve.result (sym c.is_err.ensures.value ∙ c.if-is_err.false)
+    c.reserve.ensures.ok in
+    sound_after c.self.inside.number log c.reserve.new.self c.push.new.self c.args.who Off disks
+    disks roomy c.push.ensures fits c.self.invariant
+    (none_took others_pass Off disks (λ k. refl))
 
 pub returns-clause-legal : goal.returns-clause-legal
 returns-clause-legal c = (invariant_of-self-2 c).legal

@@ -18,7 +18,8 @@ use Rattle.source_vm.proofs.MachineLemmas.{sound_after, sound_still, all_back}
 use Rattle.source_vm.proofs.machine.Machine.remove.Goals as goal
 
 -- a snapshot whose removal isn't refused is live
-live_there : (who : ℕ) (owner : Owner) (o : Option Owner) (log : List Entry) → owner_refusal who owner o log ≡ None → is_some o ≡ true
+live_there : (who : ℕ) (owner : Owner) (o : Option Owner) (log : List Entry)
+    → owner_refusal who owner o log ≡ None → is_some o ≡ true
 live_there who owner None log h = absurd (none-some _ (sym h))
 live_there who owner (Some has) log h = refl
 
@@ -26,31 +27,46 @@ pub reserve_merges-requires : goal.reserve_merges-requires
 reserve_merges-requires c =
     let log : LogState = c.self.inside.log in
     let disks : List SourceDiskState = c.self.inside.disks.items in
-    let live : is_live c.args.id log.entries ≡ true = live_there c.args.who c.args.owner (owner_of c.args.id log.entries) log.entries (sym c.remove_refusal.ensures ∙ c.in_default.is) in
-    subst (λ (xs : List SourceDiskState). All (HasSnap c.args.id) xs) (sym c.deref_mut.ensures.value)
-    (all_have holds_the_log c.args.id c.self.inside.number log.capacities log.entries disks live c.self.invariant.stand)
+    let live : is_live c.args.id log.entries ≡ true =
+    live_there c.args.who c.args.owner (owner_of c.args.id log.entries) log.entries
+    (sym c.remove_refusal.ensures ∙ c.in_default.is) in
+    subst (λ (xs : List SourceDiskState). All (HasSnap c.args.id) xs)
+    (sym c.deref_mut.ensures.value)
+    (all_have holds_the_log c.args.id c.self.inside.number log.capacities log.entries disks live
+    c.self.invariant.stand)
 
 pub invariant_of-self-then-is_err-2 : goal.invariant_of-self-then-is_err-2
 invariant_of-self-then-is_err-2 c =
     let log : LogState = c.self.inside.log in
     let disks : List SourceDiskState = c.self.inside.disks.items in
     let new : List SourceDiskState = c.reserve_merges.new.disks in
-    let roomy : c.reserve.new.self ≡ record log { room = true } = where_ok c.reserve.result (sym c.is_err.ensures.value ∙ c.if-is_err.false) c.reserve.ensures.ok in
-    let still : StillDisks disks new = subst (λ (xs : List SourceDiskState). StillDisks xs new) c.deref_mut.ensures.value c.reserve_merges.ensures.still in
+    let roomy : c.reserve.new.self ≡ record log { room = true } =
+    where_ok c.reserve.result (sym c.is_err.ensures.value ∙ c.if-is_err.false)
+    c.reserve.ensures.ok in
+    let still : StillDisks disks new =
+    subst (λ (xs : List SourceDiskState). StillDisks xs new) c.deref_mut.ensures.value
+    c.reserve_merges.ensures.still in
     let back : take c.self.inside.disks.len (new ++ drop (length new) disks) ≡ new =
-    all_back c.self.inside.disks.len disks new (c.reserve_merges.auto.disks ∙ ap length c.deref_mut.ensures.value) (sym (ap length c.deref_mut.ensures.value) ∙ c.deref_mut.ensures.len) in
-    subst (λ (xs : List SourceDiskState). IsSound c.self.inside.number c.reserve.new.self.capacities c.reserve.new.self.entries xs) (sym back)
+    all_back c.self.inside.disks.len disks new (c.reserve_merges.auto.disks
+    ∙ ap length c.deref_mut.ensures.value) (sym (ap length c.deref_mut.ensures.value)
+    ∙ c.deref_mut.ensures.len) in
+    subst (λ (xs : List SourceDiskState). IsSound c.self.inside.number c.reserve.new.self.capacities
+    c.reserve.new.self.entries xs) (sym back)
     (sound_still c.self.inside.number log c.reserve.new.self disks new roomy c.self.invariant still)
 
 pub merge_all-requires : goal.merge_all-requires
 merge_all-requires c =
     let disks : List SourceDiskState = c.self.inside.disks.items in
     let roomed : List SourceDiskState = c.reserve_merges.new.disks in
-    let len_is : length disks ≡ c.self.inside.disks.len = sym (ap length c.deref_mut.ensures.value) ∙ c.deref_mut.ensures.len in
-    let same : length roomed ≡ length disks = c.reserve_merges.auto.disks ∙ ap length c.deref_mut.ensures.value in
-    let met : c.deref_mut-2.result.now ≡ roomed = c.deref_mut-2.ensures.value ∙ all_back c.self.inside.disks.len disks roomed same len_is in
+    let len_is : length disks ≡ c.self.inside.disks.len =
+    sym (ap length c.deref_mut.ensures.value) ∙ c.deref_mut.ensures.len in
+    let same : length roomed ≡ length disks =
+    c.reserve_merges.auto.disks ∙ ap length c.deref_mut.ensures.value in
+    let met : c.deref_mut-2.result.now ≡ roomed =
+    c.deref_mut-2.ensures.value ∙ all_back c.self.inside.disks.len disks roomed same len_is in
     subst (λ (xs : List SourceDiskState). All (HasMergeRoom c.args.id) xs) (sym met)
-    (where_ok c.reserve_merges.result (sym c.is_err-else-is_err.ensures.value ∙ c.if-is_err-2.false) c.reserve_merges.ensures.room)
+    (where_ok c.reserve_merges.result (sym c.is_err-else-is_err.ensures.value ∙ c.if-is_err-2.false)
+    c.reserve_merges.ensures.room)
 
 pub invariant_of-self-2 : goal.invariant_of-self-2
 invariant_of-self-2 c =
@@ -58,20 +74,42 @@ invariant_of-self-2 c =
     let disks : List SourceDiskState = c.self.inside.disks.items in
     let roomed : List SourceDiskState = c.reserve_merges.new.disks in
     let new : List SourceDiskState = c.merge_all.new.disks in
-    let fits : FitsBehind (all_of log.capacities) log.entries c.args.who (Remove c.args.id) = remove_stands log.capacities log.entries c.args.who c.args.owner c.args.id (sym c.remove_refusal.ensures ∙ c.in_default.is) in
-    let roomy : c.reserve.new.self ≡ record log { room = true } = where_ok c.reserve.result (sym c.is_err.ensures.value ∙ c.if-is_err.false) c.reserve.ensures.ok in
-    let len_is : length disks ≡ c.self.inside.disks.len = sym (ap length c.deref_mut.ensures.value) ∙ c.deref_mut.ensures.len in
-    let still : StillDisks disks roomed = subst (λ (xs : List SourceDiskState). StillDisks xs roomed) c.deref_mut.ensures.value c.reserve_merges.ensures.still in
-    let same : length roomed ≡ length disks = c.reserve_merges.auto.disks ∙ ap length c.deref_mut.ensures.value in
-    let back : take c.self.inside.disks.len (roomed ++ drop (length roomed) disks) ≡ roomed = all_back c.self.inside.disks.len disks roomed same len_is in
+    let fits : FitsBehind (all_of log.capacities) log.entries c.args.who (Remove c.args.id) =
+    remove_stands log.capacities log.entries c.args.who c.args.owner c.args.id
+    (sym c.remove_refusal.ensures ∙ c.in_default.is) in
+    let roomy : c.reserve.new.self ≡ record log { room = true } =
+    where_ok c.reserve.result (sym c.is_err.ensures.value ∙ c.if-is_err.false)
+    c.reserve.ensures.ok in
+    let len_is : length disks ≡ c.self.inside.disks.len =
+    sym (ap length c.deref_mut.ensures.value) ∙ c.deref_mut.ensures.len in
+    let still : StillDisks disks roomed =
+    subst (λ (xs : List SourceDiskState). StillDisks xs roomed) c.deref_mut.ensures.value
+    c.reserve_merges.ensures.still in
+    let same : length roomed ≡ length disks =
+    c.reserve_merges.auto.disks ∙ ap length c.deref_mut.ensures.value in
+    let back : take c.self.inside.disks.len (roomed ++ drop (length roomed) disks) ≡ roomed =
+    all_back c.self.inside.disks.len disks roomed same len_is in
     let met : c.deref_mut-2.result.now ≡ roomed = c.deref_mut-2.ensures.value ∙ back in
-    let takes : DisksTake (Remove c.args.id) roomed new = subst (λ (xs : List SourceDiskState). DisksTake (Remove c.args.id) xs new) met c.merge_all.ensures in
-    let whole : take c.self.inside.disks.len (new ++ drop (length new) (take c.self.inside.disks.len (roomed ++ drop (length roomed) disks))) ≡ new =
-    ap (λ (xs : List SourceDiskState). take c.self.inside.disks.len (new ++ drop (length new) xs)) back
-    ∙ all_back c.self.inside.disks.len roomed new (c.merge_all.auto.disks ∙ ap length met) (same ∙ len_is) in
-    subst (λ (xs : List SourceDiskState). IsSound c.self.inside.number c.push.new.self.capacities c.push.new.self.entries xs) (sym whole)
-    (sound_after c.self.inside.number log c.reserve.new.self c.push.new.self c.args.who (Remove c.args.id) roomed new roomy c.push.ensures fits
-    (record { sizes = c.self.invariant.sizes; legal = c.self.invariant.legal; stand = still c.self.inside.number log.capacities log.entries c.self.invariant.stand }) takes)
+    let takes : DisksTake (Remove c.args.id) roomed new =
+    subst (λ (xs : List SourceDiskState). DisksTake (Remove c.args.id) xs new) met
+    c.merge_all.ensures in
+    let whole : take c.self.inside.disks.len
+    (new ++ drop (length new)
+    (take c.self.inside.disks.len (roomed ++ drop (length roomed) disks))) ≡ new =
+    ap (λ (xs : List SourceDiskState). take c.self.inside.disks.len (new ++ drop (length new) xs))
+    back
+    ∙ all_back c.self.inside.disks.len roomed new (c.merge_all.auto.disks ∙ ap length met)
+    (same ∙ len_is) in
+    subst (λ (xs : List SourceDiskState). IsSound c.self.inside.number c.push.new.self.capacities
+    c.push.new.self.entries xs) (sym whole)
+    (sound_after c.self.inside.number log c.reserve.new.self c.push.new.self c.args.who
+    (Remove c.args.id) roomed new roomy c.push.ensures fits
+    (record {
+      sizes = c.self.invariant.sizes;
+      legal = c.self.invariant.legal;
+      stand = still
+          c.self.inside.number log.capacities log.entries c.self.invariant.stand;
+    }) takes)
 
 pub returns-clause-legal : goal.returns-clause-legal
 returns-clause-legal c = (invariant_of-self-2 c).legal

@@ -18,17 +18,23 @@ use Rattle.source_vm.proofs.MachineLemmas.{sound_after}
 use Rattle.source_vm.proofs.machine.Machine.reset.Goals as goal
 
 others : (disk k : ℕ) → k ≢ disk → concerns k (Reset disk) ≡ false
-others disk k other = ap (λ b. is_some (cond b (Some Restarted) None)) (ne_eqb disk k (λ e. other (sym e)))
+others disk k other =
+    ap (λ b. is_some (cond b (Some Restarted) None)) (ne_eqb disk k (λ e. other (sym e)))
 
 pub reset-requires : goal.reset-requires
 reset-requires c =
     let log : LogState = c.self.inside.log in
     let disks : List SourceDiskState = c.self.inside.disks.items in
     let item : SourceDiskState = c.index_mut-tracked.result.now in
-    let fits : FitsBehind (all_of log.capacities) log.entries c.args.who (Reset c.args.disk) = reset_stands log.capacities log.entries c.args.who c.args.disk (sym c.reset_refusal.ensures ∙ c.in_default.is) in
+    let fits : FitsBehind (all_of log.capacities) log.entries c.args.who (Reset c.args.disk) =
+    reset_stands log.capacities log.entries c.args.who c.args.disk (sym c.reset_refusal.ensures
+    ∙ c.in_default.is) in
     let inside : c.args.disk < length disks = omega (arith, fits.0, c.self.invariant.stand.count) in
-    let at : slice_get disks c.args.disk ≡ Some item = slice_get-get_or disks c.args.disk item inside ∙ ap Some (sym c.index_mut-tracked.ensures.value) in
-    let few = (holds_the_log item log.entries (c.self.invariant.stand.each c.args.disk item at).stands).few_resets in
+    let at : slice_get disks c.args.disk ≡ Some item =
+    slice_get-get_or disks c.args.disk item inside
+    ∙ ap Some (sym c.index_mut-tracked.ensures.value) in
+    let few = (holds_the_log item log.entries
+    (c.self.invariant.stand.each c.args.disk item at).stands).few_resets in
     omega (arith, few, fits.1)
 
 pub invariant_of-self-2 : goal.invariant_of-self-2
@@ -38,10 +44,15 @@ invariant_of-self-2 c =
     let disk : ℕ = c.args.disk in
     let item : SourceDiskState = c.index_mut-tracked.result.now in
     let now : SourceDiskState = c.reset.new.self in
-    let fits : FitsBehind (all_of log.capacities) log.entries c.args.who (Reset disk) = reset_stands log.capacities log.entries c.args.who disk (sym c.reset_refusal.ensures ∙ c.in_default.is) in
-    let roomy : c.reserve.new.self ≡ record log { room = true } = where_ok c.reserve.result (sym c.is_err.ensures.value ∙ c.if-is_err.false) c.reserve.ensures.ok in
+    let fits : FitsBehind (all_of log.capacities) log.entries c.args.who (Reset disk) =
+    reset_stands log.capacities log.entries c.args.who disk (sym c.reset_refusal.ensures
+    ∙ c.in_default.is) in
+    let roomy : c.reserve.new.self ≡ record log { room = true } =
+    where_ok c.reserve.result (sym c.is_err.ensures.value ∙ c.if-is_err.false)
+    c.reserve.ensures.ok in
     let inside : disk < length disks = omega (arith, fits.0, c.self.invariant.stand.count) in
-    let at : slice_get disks disk ≡ Some item = slice_get-get_or disks disk item inside ∙ ap Some (sym c.index_mut-tracked.ensures.value) in
+    let at : slice_get disks disk ≡ Some item =
+    slice_get-get_or disks disk item inside ∙ ap Some (sym c.index_mut-tracked.ensures.value) in
     let number : number_of item ≡ disk = (c.self.invariant.stand.each disk item at).numbered in
     let took : Took (Reset disk) item now = record {
       place = record {
@@ -51,8 +62,11 @@ invariant_of-self-2 c =
       };
       takes = subst (λ (n : ℕ). Takes (Reset n) item now) number c.reset.ensures.stands;
     } in
-    sound_after c.self.inside.number log c.reserve.new.self c.push.new.self c.args.who (Reset disk) disks (set disks disk now) roomy c.push.ensures fits c.self.invariant
-    (one_took others_pass (Reset disk) disk disks item now inside (subst (λ (d : SourceDiskState). Took (Reset disk) d now) c.index_mut-tracked.ensures.value took) (others disk))
+    sound_after c.self.inside.number log c.reserve.new.self c.push.new.self c.args.who (Reset disk)
+    disks (set disks disk now) roomy c.push.ensures fits c.self.invariant
+    (one_took others_pass (Reset disk) disk disks item now inside
+    (subst (λ (d : SourceDiskState). Took (Reset disk) d now) c.index_mut-tracked.ensures.value
+    took) (others disk))
 
 pub returns-clause-legal : goal.returns-clause-legal
 returns-clause-legal c = (invariant_of-self-2 c).legal

@@ -15,12 +15,18 @@ chosen log b = cond b (Some AlreadyEnabled) (spent_refusal log)
 pub returns-then-is_enabled : goal.returns-then-is_enabled
 returns-then-is_enabled c =
     let log : List Entry = c.self.inside.entries.items in
-    let enabled : is_enabled log ≡ true = sym (was_enabled_is log) ∙ sym (ap was_enabled c.self.invariant.stand.tracked) ∙ sym c.is_enabled.ensures ∙ c.if-is_enabled.true in
-    subst (λ (s : LogState). Some AlreadyEnabled ≡ enable_refusal s.entries) c.self.view_is (sym (ap (chosen log) enabled))
+    let enabled : is_enabled log ≡ true =
+    sym (was_enabled_is log) ∙ sym (ap was_enabled c.self.invariant.stand.tracked)
+    ∙ sym c.is_enabled.ensures ∙ c.if-is_enabled.true in
+    subst (λ (s : LogState). Some AlreadyEnabled ≡ enable_refusal s.entries) c.self.view_is
+    (sym (ap (chosen log) enabled))
 
 pub returns-else-is_enabled : goal.returns-else-is_enabled
 returns-else-is_enabled c =
     let log : List Entry = c.self.inside.entries.items in
-    let enabled : is_enabled log ≡ false = sym (was_enabled_is log) ∙ sym (ap was_enabled c.self.invariant.stand.tracked) ∙ sym c.is_enabled.ensures ∙ c.if-is_enabled.false in
+    let enabled : is_enabled log ≡ false =
+    sym (was_enabled_is log) ∙ sym (ap was_enabled c.self.invariant.stand.tracked)
+    ∙ sym c.is_enabled.ensures ∙ c.if-is_enabled.false in
     c.spent_refusal.ensures
-    ∙ subst (λ (s : LogState). spent_refusal s.entries ≡ enable_refusal s.entries) c.self.view_is (sym (ap (chosen log) enabled))
+    ∙ subst (λ (s : LogState). spent_refusal s.entries ≡ enable_refusal s.entries) c.self.view_is
+    (sym (ap (chosen log) enabled))

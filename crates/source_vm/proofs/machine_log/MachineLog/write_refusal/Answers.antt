@@ -5,4 +5,9 @@ use Rattle.source_vm.proofs.machine_log.MachineLog.write_refusal.Goals as goal
 
 pub overflow_add-is_full : goal.overflow_add-is_full
 overflow_add-is_full c =
-    omega (arith, c.self.invariant.stand.sectors, written_bounded (all_of c.self.inside.capacities.items) c.self.inside.entries.items c.self.invariant.legal)
+    omega (
+      arith,
+      c.self.invariant.stand.sectors,
+      written_bounded
+          (all_of c.self.inside.capacities.items) c.self.inside.entries.items c.self.invariant.legal,
+    )

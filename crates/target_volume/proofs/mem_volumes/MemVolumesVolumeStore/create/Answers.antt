@@ -37,7 +37,8 @@ pub returns-clause-lent : goal.returns-clause-lent
 returns-clause-lent c =
     lends_created _ _ _ _ _ _ _ c.self.view_is
     (slots_ordered _ c.self.invariant.ordered)
-    (slot_missing c.args.name.now c.self.inside.slots.entries (sym c.contains_key.ensures ∙ c.if-contains_key.false))
+    (slot_missing c.args.name.now c.self.inside.slots.entries (sym c.contains_key.ensures
+    ∙ c.if-contains_key.false))
     c.self.invariant.given c.in_ok-next.ensures.log c.in_ok-make.ensures.made
     c.in_ok-make.ensures.lent
 

@@ -50,8 +50,10 @@ both c =
 pub invariant_of-self : goal.invariant_of-self
 invariant_of-self c =
     let set = rw c.unwrap.ensures at c.set_slot.ensures.set in
-    let lent = lent_counted c.self.inside.sound c.self.inside.calls.faults c.faults_as_lent-lent.result
-    c.vol.inside.name c.self.inside.slots.entries c.self.invariant.kept c.faults_as_lent-lent.ensures in
+    let lent = lent_counted c.self.inside.sound c.self.inside.calls.faults
+    c.faults_as_lent-lent.result
+    c.vol.inside.name c.self.inside.slots.entries c.self.invariant.kept
+    c.faults_as_lent-lent.ensures in
     let after = ap (λ (l : CallLog). l.faults) c.add_faults.ensures.log in
     let counted : c.vol.inside.held.calls.faults ≤ c.add_faults.new.self.faults = omega arith in
     whole_kept c.self.inside.sound c.if-self.self c.self.inside.failing.items c.self.inside.calls
@@ -65,11 +67,13 @@ returns-clause-left c = λ loan lent.
     let set = rw c.unwrap.ensures at c.set_slot.ensures.set in
     kept_state _ _ _ _ _ _ _ c.faults_as_lent-lent.result loan _ c.self.view_is c.vol.view_is
     (c.add_faults.ensures.log
-    ∙ ap (λ (n : ℕ). record c.self.inside.calls { faults = counted_by n c.self.inside.calls.faults })
+    ∙ ap (λ (n : ℕ). record c.self.inside.calls
+    { faults = counted_by n c.self.inside.calls.faults })
     (c.saturating_sub.ensures
     ∙ ap (λ (f : ℕ). f - c.faults_as_lent-lent.result) c.faults.ensures))
     (both c)
-    (ap slots_of set ∙ slots_put c.vol.inside.name (SlotHome c.vol.inside.held) c.self.inside.slots.entries)
+    (ap slots_of set ∙ slots_put c.vol.inside.name (SlotHome c.vol.inside.held)
+    c.self.inside.slots.entries)
     (slots_found c.vol.inside.name c.self.inside.slots.entries) c.faults_as_lent-lent.ensures lent
 
 pub returns-clause-kept : goal.returns-clause-kept

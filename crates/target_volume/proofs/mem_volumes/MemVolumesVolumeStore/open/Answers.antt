@@ -23,7 +23,8 @@ no_memory (Ok vol) is failed = is
 no_memory (Err why) is failed = cc
 
 -- what stands under the name, once it was taken
-found : (c : goal.In-Some-Home) → lookup (is_at (volume_cmp c.args.name.now)) c.self.inside.slots.entries
+found : (c : goal.In-Some-Home)
+    → lookup (is_at (volume_cmp c.args.name.now)) c.self.inside.slots.entries
     ≡ Some (SlotHome c.in-Some-Home.held)
 found c =
     ap (λ (n : VolumeName). lookup (is_at (volume_cmp n)) c.self.inside.slots.entries)
@@ -33,12 +34,15 @@ found c =
 -- it has the capacity and the count of faults that were read
 home : (c : goal.In-Some-Home) → IsHomeWith c.args.capacity c.in-Some.faults
     (Some (Home (held_state c.in-Some-Home.held)))
-home c = subst (λ o. IsHomeWith c.args.capacity c.in-Some.faults (option_map slot_state o)) (found c)
+home c = subst (λ o. IsHomeWith c.args.capacity c.in-Some.faults (option_map slot_state o))
+    (found c)
     c.in-Some.ensures
 
 kept : (c : goal.In-Some-Home)
-    → IsCountedIn c.self.inside.sound c.self.inside.calls.faults (Home (held_state c.in-Some-Home.held))
-kept c = kept_found c.self.inside.sound c.self.inside.calls.faults (is_at (volume_cmp c.args.name.now))
+    → IsCountedIn c.self.inside.sound c.self.inside.calls.faults
+    (Home (held_state c.in-Some-Home.held))
+kept c = kept_found c.self.inside.sound c.self.inside.calls.faults
+    (is_at (volume_cmp c.args.name.now))
     c.self.inside.slots.entries (SlotHome c.in-Some-Home.held) c.self.invariant.kept (found c)
 
 put : (c : goal.In-Some-Home) → slots_of c.set_slot.new.slots.entries
@@ -47,14 +51,17 @@ put : (c : goal.In-Some-Home) → slots_of c.set_slot.new.slots.entries
     (slots_of c.self.inside.slots.entries)
 put c =
     ap slots_of c.in_ok-held.ensures.set
-    ∙ slots_put c.in_ok-copy.field-0 (SlotLent c.args.capacity c.in-Some.faults) c.self.inside.slots.entries
+    ∙ slots_put c.in_ok-copy.field-0 (SlotLent c.args.capacity c.in-Some.faults)
+    c.self.inside.slots.entries
     ∙ ap (λ (n : VolumeName). with_volume n
     (Lent (record { capacity = c.args.capacity; faults = c.in-Some.faults }))
     (slots_of c.self.inside.slots.entries)) c.in_ok-copy.ensures
 
-at_name : (c : goal.In-Some-Home) → find_volume c.args.name.now (slots_of c.self.inside.slots.entries)
+at_name : (c : goal.In-Some-Home)
+    → find_volume c.args.name.now (slots_of c.self.inside.slots.entries)
     ≡ Some (Home (held_state c.in-Some-Home.held))
-at_name c = slots_found c.args.name.now c.self.inside.slots.entries ∙ ap (option_map slot_state) (found c)
+at_name c = slots_found c.args.name.now c.self.inside.slots.entries
+    ∙ ap (option_map slot_state) (found c)
 
 pub invariant_of-self : goal.invariant_of-self
 invariant_of-self c =
@@ -106,12 +113,14 @@ returns-clause-opened c =
 
 pub returns-clause-left : goal.returns-clause-left
 returns-clause-left c =
-    opened_state _ _ _ _ _ _ _ _ (held_state c.in-Some-Home.held) c.self.view_is c.in_ok-volume_name.ensures (home c).0 (home c).1
+    opened_state _ _ _ _ _ _ _ _ (held_state c.in-Some-Home.held) c.self.view_is
+    c.in_ok-volume_name.ensures (home c).0 (home c).1
     c.in_ok-next.ensures.log (put c)
 
 pub returns-in_default-clause-fails : goal.returns-in_default-clause-fails
 returns-in_default-clause-fails c = (
-  λ _. inl (subst (λ (s : MemVolumesState). ¬ IsHome c.args.capacity (find_volume c.args.name.now s.slots))
+  λ _. inl (subst (λ (s : MemVolumesState). ¬ IsHome c.args.capacity
+      (find_volume c.args.name.now s.slots))
       c.self.view_is
       (away_at c.args.name.now c.args.capacity c.self.inside.slots.entries c.in_default.ensures)),
   λ _. ap Err c.from.ensures,
@@ -124,7 +133,8 @@ returns-in_err-volume_name-clause-fails c = (
   ⊎_elim
       (λ away. absurd (away (subst (λ (s : MemVolumesState).
       IsHome c.args.capacity (find_volume c.args.name.now s.slots)) c.self.view_is
-      (home_at c.args.name.now c.args.capacity c.in-Some.faults c.self.inside.slots.entries c.in-Some.ensures))))
+      (home_at c.args.name.now c.args.capacity c.in-Some.faults c.self.inside.slots.entries
+      c.in-Some.ensures))))
       (λ fails. absurd (false≢true (c.in_ok-next.ensures.fails.1
       (subst (λ (s : MemVolumesState). FailsNext s.calls) (sym c.self.view_is) fails)))),
 )
@@ -136,7 +146,8 @@ returns-in_err-copy-clause-fails c = (
   ⊎_elim
       (λ away. absurd (away (subst (λ (s : MemVolumesState).
       IsHome c.args.capacity (find_volume c.args.name.now s.slots)) c.self.view_is
-      (home_at c.args.name.now c.args.capacity c.in-Some.faults c.self.inside.slots.entries c.in-Some.ensures))))
+      (home_at c.args.name.now c.args.capacity c.in-Some.faults c.self.inside.slots.entries
+      c.in-Some.ensures))))
       (λ fails. absurd (false≢true (c.in_ok-next.ensures.fails.1
       (subst (λ (s : MemVolumesState). FailsNext s.calls) (sym c.self.view_is) fails)))),
 )
@@ -147,7 +158,8 @@ returns-clause-fails c = (
   ⊎_elim
       (λ away. absurd (away (subst (λ (s : MemVolumesState).
       IsHome c.args.capacity (find_volume c.args.name.now s.slots)) c.self.view_is
-      (home_at c.args.name.now c.args.capacity c.in-Some.faults c.self.inside.slots.entries c.in-Some.ensures))))
+      (home_at c.args.name.now c.args.capacity c.in-Some.faults c.self.inside.slots.entries
+      c.in-Some.ensures))))
       (λ fails. absurd (false≢true (c.in_ok-next.ensures.fails.1
       (subst (λ (s : MemVolumesState). FailsNext s.calls) (sym c.self.view_is) fails)))),
 )

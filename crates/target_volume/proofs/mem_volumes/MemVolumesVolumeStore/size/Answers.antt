@@ -27,19 +27,22 @@ returns-clause-found c =
     ≡ option_map (λ (v : StoredVolume). v.capacity) (find_volume c.args.name.now (told_of s.slots)))
     c.self.view_is
     (ap Some c.capacity.ensures
-    ∙ capacity_at c.args.name.now c.self.inside.slots.entries (Some c.in-Some.slot.now) c.in-Some.ensures.value)
+    ∙ capacity_at c.args.name.now c.self.inside.slots.entries (Some c.in-Some.slot.now)
+    c.in-Some.ensures.value)
 
 pub returns-in_default-clause-found_lent : goal.returns-in_default-clause-found_lent
 returns-in_default-clause-found_lent c =
     let none : Option ℕ = None in
-    subst (λ (s : MemVolumesState). IfSome (find_volume c.args.name.now (filter_map named_loan s.slots))
+    subst (λ (s : MemVolumesState). IfSome
+    (find_volume c.args.name.now (filter_map named_loan s.slots))
     (λ loan. none ≡ Some loan.capacity)) c.self.view_is
     (lent_capacity_at c.args.name.now c.self.inside.slots.entries None c.self.invariant.ordered
     c.in_default.ensures.value)
 
 pub returns-clause-found_lent : goal.returns-clause-found_lent
 returns-clause-found_lent c =
-    subst (λ (s : MemVolumesState). IfSome (find_volume c.args.name.now (filter_map named_loan s.slots))
+    subst (λ (s : MemVolumesState). IfSome
+    (find_volume c.args.name.now (filter_map named_loan s.slots))
     (λ loan. Some c.capacity.result ≡ Some loan.capacity)) c.self.view_is
     (subst (λ (n : ℕ). IfSome (find_volume c.args.name.now
     (filter_map named_loan (slots_of c.self.inside.slots.entries)))

@@ -9,5 +9,6 @@ new-requires g c =
     let s = g.V.Storied in
     let x = c.of-beginning.result.value in
     let slots = c.in-Ok.ensures.slot ∙ ap (λ y. Some y ∷ []) (sym c.of-beginning.ensures) in
-    subst (λ xs. Kept s.frame s.story s.who (beginning_of s.frame s.story x) (opening (1 ∷ 0 ∷ 0 ∷ []) xs (first_view s.frame s.story x))) (sym slots)
+    subst (λ xs. Kept s.frame s.story s.who (beginning_of s.frame s.story x)
+    (opening (1 ∷ 0 ∷ 0 ∷ []) xs (first_view s.frame s.story x))) (sym slots)
     (opens s.frame s.story s.who x)
