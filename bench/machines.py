@@ -2,9 +2,10 @@
 """Measures the built program on commands of machines: lines a second, each with its reply, and bytes of memory for
 each sector that is written, from the process's peak.
 
-Usage: bench/machines.py [LINES]. It needs Linux and the built program (./warm_migrate </dev/null).
-The least of five runs counts. The program is pinned to core 0, and started in a folder of its own, without a journal.
-Its lines come from a file and its replies go to one; its peak is that which the system tells when it has ended."""
+Usage: bench/machines.py [LINES]. It needs Linux and the built program (./warm_migrate </dev/null), and at least 100 lines.
+The program is pinned to core 0, and started in a folder of its own, without a journal. The least of five runs counts. The
+first number of a row is with lines from a file and replies to a file; the second with a pipe at either end, whose other
+ends are a `cat` each on other cores, so that each reply wakes its reader."""
 import itertools
 import os
 import pathlib
@@ -15,13 +16,17 @@ import time
 
 PROGRAM = pathlib.Path(__file__).resolve().parent.parent / "crates/migrate_main/out/migrate_main"
 LINES = int(sys.argv[1]) if len(sys.argv) > 1 else 200_000
-MACHINES = 60
 TURNS = 5
+LOGGED = 1 << 16
 HOST = '{"cmd":"host","name":"h"}\n'
 
 
 def vm(number, sectors):
     return f'{{"cmd":"vm","name":"a{number}","host":"h","disks":[{sectors}]}}\n'
+
+
+def enable(number):
+    return f'{{"cmd":"enable","vm":"a{number}"}}\n'
 
 
 def write(number, first, count):
@@ -36,7 +41,25 @@ def pinned():
     os.sched_setaffinity(0, {0})
 
 
-def run(lines):
+def elsewhere():
+    os.sched_setaffinity(0, set(range(1, os.cpu_count())) or {0})
+
+
+def start(stdin, stdout, folder):
+    """The program, and what else has to end."""
+    return subprocess.Popen([PROGRAM], stdin=stdin, stdout=stdout, cwd=folder, preexec_fn=pinned), []
+
+
+def start_piped(stdin, stdout, folder):
+    feeder = subprocess.Popen(["cat"], stdin=stdin, stdout=subprocess.PIPE, preexec_fn=elsewhere)
+    drain = subprocess.Popen(["cat"], stdin=subprocess.PIPE, stdout=stdout, preexec_fn=elsewhere)
+    process = subprocess.Popen([PROGRAM], stdin=feeder.stdout, stdout=drain.stdin, cwd=folder, preexec_fn=pinned)
+    feeder.stdout.close()
+    drain.stdin.close()
+    return process, [feeder, drain]
+
+
+def run(lines, begin=start):
     """Seconds from the first line to the end, and the peak of resident memory in bytes."""
     with (
         tempfile.TemporaryFile() as stdin,
@@ -48,36 +71,46 @@ def run(lines):
             stdin.write(line.encode())
             count += 1
         stdin.seek(0)
-        begin = time.perf_counter()
-        process = subprocess.Popen([PROGRAM], stdin=stdin, stdout=stdout, cwd=folder, preexec_fn=pinned)
+        first = time.perf_counter()
+        process, others = begin(stdin, stdout, folder)
         _, status, usage = os.wait4(process.pid, 0)
-        seconds = time.perf_counter() - begin
+        seconds = time.perf_counter() - first
+        for other in others:
+            other.wait()
         stdout.seek(0)
         replies = stdout.read().splitlines()
-    refused = sum(reply.startswith(b'{"error"') for reply in replies)
+    refused = sum(b'"ok":false' in reply for reply in replies)
     if status != 0 or refused or len(replies) != count:
         sys.exit(f"bench: status {status}, {len(replies)} replies to {count} lines, {refused} refused")
     return seconds, usage.ru_maxrss * 1024
 
 
-def least(lines):
+def least(lines, begin):
     """The least seconds of some runs, since others on the machine can only add to them."""
-    return min(run(lines)[0] for _ in range(TURNS))
+    return min(run(lines, begin)[0] for _ in range(TURNS))
+
+
+def rate(first_lines, lines, begin):
+    return len(lines) / (least(first_lines + lines, begin) - least(first_lines, begin))
 
 
 def measure(name, first_lines, lines):
     """Lines a second, without the time of what has to be there first."""
-    before = least(first_lines)
-    seconds = least(first_lines + lines)
-    print(f"{name}: {len(lines) / (seconds - before):,.0f} a second ({len(lines)} lines)")
+    filed, piped = (rate(first_lines, lines, begin) for begin in (start, start_piped))
+    print(f"{name}: {filed:,.0f} a second, by pipes {piped:,.0f} ({len(lines)} lines)", flush=True)
 
 
-def measure_writes(name, count):
-    """Each machine takes as many sectors as its log may have, 2^16, in disks of 2^20 sectors."""
-    most = min(LINES, MACHINES * (1 << 16) // count)
-    fleet = [HOST] + [vm(number, 1 << 20) for number in range(MACHINES)]
-    each = -(-most // MACHINES)
-    lines = [write(i // each, (i * count * 3) % ((1 << 20) - count), count) for i in range(most)]
+def measure_writes(name, count, scattered=False):
+    """One machine after another takes as many sectors as its log may have, in a disk of 2^20 sectors. Scattered writes go
+    over all blocks of the disk, in no order, with tracking enabled and a live snapshot."""
+    each = LOGGED // count
+    machines = -(-LINES // each) if count == 1 else 64
+    most = min(LINES, machines * each)
+    fleet = [HOST] + [vm(number, 1 << 20) for number in range(machines)]
+    if scattered:
+        fleet += [line for number in range(machines) for line in (enable(number), snapshot(number))]
+    step = 7919 * 16 if scattered else count * 3
+    lines = [write(i // each, (i % each * step) % ((1 << 20) - count), count) for i in range(most)]
     measure(name, fleet, lines)
 
 
@@ -91,18 +124,25 @@ def measure_showing():
     measure("read of 1 sector", one, [read] * LINES)
 
 
+def peak(machines, step):
+    """The peak where so many machines have full logs."""
+    fleet = [HOST] + [vm(number, 1 << 23) for number in range(machines)]
+    lines = (write(number, at * step, 1) for number in range(machines) for at in range(LOGGED))
+    return run(itertools.chain(fleet, lines))[1]
+
+
 def measure_memory():
-    """Full logs: sectors written one after another, some apart, and each in a block of its own. It comes first, since
-    the peak of a process begins with that of the one that started it, which has to be small."""
+    """Full logs: sectors written one after another, some apart, and each in a block of its own. What the program takes
+    besides, and what this one had when it started it, stands in the peak with fewer machines too."""
     for name, step in (("in a row", 1), ("every third", 3), ("seven a block", 17), ("one a block", 128)):
-        fleet = [HOST] + [vm(number, 1 << 23) for number in range(4)]
-        _, before = run(fleet)
-        lines = (write(number, at * step, 1) for number in range(4) for at in range(1 << 16))
-        _, peak = run(itertools.chain(fleet, lines))
-        print(f"memory, sectors {name}: {(peak - before) / (4 << 16):,.0f} bytes a written sector")
+        each = (peak(4, step) - peak(2, step)) / (2 * LOGGED)
+        print(f"memory, sectors {name}: {each:,.0f} bytes a written sector", flush=True)
 
 
+if LINES < 100:
+    sys.exit("bench: at least 100 lines")
 measure_memory()
 measure_writes("write of 1 sector", 1)
+measure_writes("write of 1 sector, scattered and tracked", 1, scattered=True)
 measure_writes("write of 128 sectors", 128)
 measure_showing()
