@@ -104,12 +104,6 @@ merged_holds c bound ids free freeze_room merge_room id i old new merged long ar
 
 -- ---- refusals
 
-pub refuse_live : {T : Type 0} (live : Bool) (result : Result T ChainRefused) → live ≡ true
-    → IfErr result (λ why. why ≡ NoMemory)
-    → IsRefusedOr (cond live None (Some UnknownSnap)) NoMemory result
-refuse_live true result is free = free
-refuse_live false result is free = absurd (false≢true is)
-
 pub refuse_unknown : (T : Type 0) (live : Bool) → live ≡ false
     → IsRefusedOr {T = T} (cond live None (Some UnknownSnap)) NoMemory (Err UnknownSnap)
 refuse_unknown T true is = absurd (false≢true (sym is))
