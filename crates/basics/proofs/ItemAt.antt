@@ -1,6 +1,6 @@
 -- One item of a list that was cut, joined, set or made of equal ones; lists with equal items; a
 -- list up to one of its places and from there on.
-use Rattle.std.proofs.Common.{◌≡◌, ◌≢◌, ℕ, zero, suc, ◌+◌, ◌-◌, ◌<◌, ◌≤◌, Bool, true, false, not, cond, List, [], ◌∷◌, ◌++◌, length, get_or, take, drop, set, replicate, Option, Some, ap, refl, sym, unwrap_or, ◌∙◌, arith, append_assoc, length-drop}
+use Rattle.std.proofs.Common.{◌≡◌, ◌≢◌, ℕ, zero, suc, ◌+◌, ◌-◌, ◌<◌, ◌≤◌, Bool, true, false, not, cond, List, [], ◌∷◌, ◌++◌, length, get_or, take, drop, set, replicate, Some, ap, refl, sym, unwrap_or, ◌∙◌, arith, append_assoc, length-drop}
 use Rattle.std.specs.List.{slice_get, position_or_len}
 use Rattle.std.proofs.lemmas.List.{same_lists, take_more, take_all, take-append-drop}
 use Rattle.std.proofs.lemmas.Option.{unwrap_or-slice_get, slice_get_within, get_or_from_slice_get}

@@ -1,5 +1,5 @@
 -- Lists that are made from the numbers of a range.
-use Rattle.std.proofs.Common.{◌≡◌, ℕ, zero, suc, ◌+◌, ◌<◌, ◌≤◌, List, ◌∷◌, map, replicate, refl, ap, ◌∙◌, arith}
+use Rattle.std.proofs.Common.{◌≡◌, ℕ, zero, suc, ◌+◌, ◌<◌, ◌≤◌, ◌∷◌, map, replicate, refl, ap, ◌∙◌, arith}
 use Rattle.std.specs.List.{range_with_len}
 
 -- functions that agree on the numbers of a range make the same list of them

@@ -11,7 +11,7 @@ use Rattle.basics.proofs.ItemAt.{take-next_read}
 use Rattle.std.specs.Option.{option_or}
 use Rattle.sector_model.specs.declared.sector.Sector.{Sector}
 use Rattle.snapshot_chain.specs.Layers.{found, has_found, blocks_in}
-use Rattle.sector_model.specs.Run.{runs_of, areas_of, in_blocks, block_count}
+use Rattle.sector_model.specs.Run.{areas_of, in_blocks, block_count}
 use Rattle.sector_model.proofs.Among.{at_is, among_range as in_range}
 use Rattle.sector_model.proofs.RunsOf.{runs_of-same}
 use Rattle.snapshot_chain.proofs.Touching.{any-or, either_found}

@@ -1,5 +1,5 @@
 -- The mask of a page: what one more bit above the others changes, and where a sector stands.
-use Rattle.std.proofs.Common.{Bor, set, not, eqb, is_some, ◌||◌, ◌≡◌, ℕ, zero, suc, ◌+◌, ◌-◌, ◌*◌, ◌/◌, ◌%◌, ◌<◌, ◌≤◌, ◌^◌, Bool, true, false, cond, List, [], ◌∷◌, ◌++◌, length, ◌≢◌, Option, Some, None, pow_pos, length-append, sym, ap, subst, refl, ◌∙◌, arith, inl, inr}
+use Rattle.std.proofs.Common.{Bor, set, not, eqb, is_some, ◌≡◌, ℕ, zero, suc, ◌+◌, ◌-◌, ◌*◌, ◌/◌, ◌%◌, ◌<◌, ◌≤◌, ◌^◌, Bool, true, false, cond, List, [], ◌∷◌, ◌++◌, length, ◌≢◌, Option, Some, None, pow_pos, length-append, sym, ap, subst, refl, ◌∙◌, arith, inl, inr}
 use Rattle.std.specs.Int.{bit_at, w128, trailing_zeros}
 use Rattle.std.specs.Int.RustNames.{bit_and, bit_or, count_ones}
 use Rattle.std.specs.List.{slice_get, list_any, range_with_len}
@@ -7,7 +7,7 @@ use Rattle.std.specs.Option.{option_copied, option_map, option_or}
 use Rattle.std.specs.Int.Count.{ones}
 use Rattle.std.proofs.Math.Pow.{pow_mono}
 use lib.Pow.{mod-mod-pow}
-use Rattle.std.proofs.lemmas.Nat.{ones_cat, one_shl, mod-pow-add, mod-mul-add, mod_below, and_mask, zero_from_ones, pow-add, div-add-mod'}
+use Rattle.std.proofs.lemmas.Nat.{ones_cat, one_shl, mod-mul-add, mod_below, and_mask, zero_from_ones, pow-add, div-add-mod'}
 use Rattle.std.proofs.lemmas.Nat.Bits.{bit_at_cat_low, bit_at_cat_high, bit_at_above, bit_at-lt, and_pow, bit_at-trailing_zeros}
 use Rattle.std.specs.Int.Bits.{or_shifted_r}
 use Rattle.std.proofs.lemmas.Bool.{cases_eq, cases_lt, eqb-true, eq-eqb, ne_eqb, or_right}

@@ -1,5 +1,5 @@
 -- What a chain holds after a call, in terms of what it held.
-use Rattle.std.proofs.Common.{◌≡◌, ℕ, zero, suc, ◌+◌, ◌-◌, ◌*◌, ◌/◌, ◌%◌, ◌<◌, ◌≤◌, List, [], ◌∷◌, ◌++◌, length, take, drop, set, get_or, map, Bool, true, false, Option, Some, None, is_some, sym, ap, subst, refl, ◌∙◌, arith, inl, inr, ◌⊎◌, replicate, append_assoc, length-take, length-drop, cond, eqb, ltb, nat_eq, ◌==◌, ◌||◌}
+use Rattle.std.proofs.Common.{◌≡◌, ℕ, zero, suc, ◌+◌, ◌-◌, ◌*◌, ◌/◌, ◌%◌, ◌<◌, ◌≤◌, List, [], ◌∷◌, ◌++◌, length, take, drop, set, get_or, map, Bool, true, false, Option, Some, None, is_some, sym, ap, subst, refl, ◌∙◌, arith, inl, inr, ◌⊎◌, append_assoc, length-take, length-drop, cond, eqb, ltb, nat_eq, ◌==◌, ◌||◌}
 use Rattle.std.specs.Option.{option_or, unwrap_or, option_map}
 use Rattle.std.specs.List.{list_any, range_with_len, filter, remove, position, position_or_len, find, slice_get}
 use Rattle.std.proofs.lemmas.Bool.{eq-eqb, cases_eq, cases_lt, ne_eqb, lt-ltb, le-ltb, false≢true}
