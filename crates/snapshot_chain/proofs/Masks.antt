@@ -129,7 +129,8 @@ rank_apart m j k less set =
     let low : bit_at (m % 2 ^ k) j ≡ 1 = sym (bit_at_cat_low (m / 2 ^ k) k (m % 2 ^ k) j less)
     ∙ ap (λ n. bit_at n j) (div-add-mod' m (2 ^ k)) ∙ set in
     let at : k ≡ (k - j) + j = omega (arith, less) in
-    let cut : m % 2 ^ k % 2 ^ j ≡ m % 2 ^ j = ap (λ n. m % 2 ^ n % 2 ^ j) at ∙ mod-mod-pow m (k - j) j in
+    let cut : m % 2 ^ k % 2 ^ j ≡ m % 2 ^ j =
+    ap (λ n. m % 2 ^ n % 2 ^ j) at ∙ mod-mod-pow m (k - j) j in
     omega (arith, rank_less (m % 2 ^ k) j low, ap count_ones cut)
 
 here_some : {X : Type 0} (xs : List X) (i : ℕ) (x : X) → i < length xs

@@ -334,7 +334,11 @@ no_blocks [] = refl
 no_blocks (x ∷ xs) = no_blocks xs
 
 pub fresh_state : (c : ℕ) → state_of c ([] ∷ []) [] 0 false None ≡ fresh c
-fresh_state c = rw (map-range_alike (λ s. zero_sector) zero_sector 0 c (λ k. refl), no_blocks (range_with_len 0 (block_count c))) refl
+fresh_state c =
+    rw (
+      map-range_alike (λ s. zero_sector) zero_sector 0 c (λ k. refl),
+      no_blocks (range_with_len 0 (block_count c)),
+    ) refl
 
 -- what a snapshot sees, or what all layers hold
 pub contents_seen : (c : ℕ) (layers : List LayerState) (ids : List ℕ) (free : ℕ)

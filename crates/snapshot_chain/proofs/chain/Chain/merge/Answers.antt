@@ -16,7 +16,8 @@ returns-clause-refused c =
           (w.self-is, w.in_ok-reserve_merge.ensures.ok) at c.join_layer.ensures.live
       | else-not-has_merge_room w ↦ rw w.self-is at c.join_layer.ensures.live
     ] in
-    free_alone UnknownSnap NoMemory (is_some (snapshot_of c.args.id c.args.self.now)) (Ok tt) live tt
+    free_alone UnknownSnap NoMemory (is_some (snapshot_of c.args.id c.args.self.now)) (Ok tt)
+    live tt
 
 pub returns-clause-stands : goal.returns-clause-stands
 returns-clause-stands c =
