@@ -6,7 +6,6 @@ pub mod Marking
 pub mod Steps
 pub mod Histories
 pub mod States
-pub mod Results
 pub mod Lookups
 pub mod Queries
 pub mod AnswerPages

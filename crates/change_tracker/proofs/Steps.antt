@@ -14,14 +14,6 @@ use Rattle.change_tracker.specs.History.{TrackStep, Marked, Frozen, Enabled, Res
 
 -- ---- places
 
-pub place-le : (s : ℕ) (h : List TrackStep) → mark s h ≤ length h
-place-le s [] = omega arith
-place-le s (x ∷ h) = bounded (freezes s x) (mark s h) (place-le s h)
-  where
-    bounded : (b : Bool) (n : ℕ) → n ≤ length h → cond (not b) (1 + n) 0 ≤ suc (length h)
-    bounded true n le = omega arith
-    bounded false n le = omega (arith, le)
-
 pub place_known : (s : ℕ) (h : List TrackStep) → list_any (freezes s) h ≡ true → mark s h < length h
 place_known s [] some = absurd (false≢true some)
 place_known s (x ∷ h) some = by (freezes s x) refl (λ later. place_known s h later)

@@ -4,7 +4,7 @@ use Rattle.std.specs.List.{list_any}
 use Rattle.std.specs.List.Sorted.{IsPartitionPoint, IsNonDecreasingBy}
 use Rattle.std.proofs.Math.Bool.{or-false}
 use Rattle.std.proofs.lemmas.Bool.{ltb-true, lt-leb}
-use Rattle.std.proofs.lemmas.List.{take-append-drop}
+use Rattle.std.proofs.lemmas.List.{take-append-drop, get_or-drop}
 use Rattle.std.proofs.lemmas.List.Folds.{list_any-append}
 use Rattle.change_tracker.specs.declared.word.Touch.{Touch}
 use Rattle.change_tracker.specs.declared.word.Window.{Window}
@@ -29,14 +29,6 @@ rise from bound (x ∷ xs) are (suc i) zero d le less = absurd (omega arith)
 rise from bound (x ∷ xs) are (suc i) (suc j) d le less =
     rise (x.freezes + 1) bound xs are.1 i j d (omega (arith, le)) (omega (arith, less))
 
-get_or-drop_at : (xs : List Touch) (n i : ℕ) (d : Touch)
-    → get_or (drop n xs) i d ≡ get_or xs (n + i) d
-get_or-drop_at xs zero i d = (let e : i ≡ 0 + i = omega arith in ap (λ k. get_or xs k d) e)
-get_or-drop_at [] (suc n) i d = refl
-get_or-drop_at (x ∷ xs) (suc n) i d =
-    get_or-drop_at xs n i d
-    ∙ (let e : suc (n + i) ≡ suc n + i = omega arith in ap (λ k. get_or (x ∷ xs) k d) e)
-
 pub rise_drop : (xs : List Touch) (n : ℕ) → IsNonDecreasingBy (λ x. x.freezes) xs
     → IsNonDecreasingBy (λ x. x.freezes) (drop n xs)
 rise_drop xs n up i j d le less =
@@ -44,9 +36,9 @@ rise_drop xs n up i j d le less =
     omega (
       arith,
       there,
-      ap (λ (x : Touch). x.freezes) (get_or-drop_at xs n i d),
+      ap (λ (x : Touch). x.freezes) (get_or-drop n xs i d),
       ap
-          (λ (x : Touch). x.freezes) (get_or-drop_at xs n j d),
+          (λ (x : Touch). x.freezes) (get_or-drop n xs j d),
     )
 
 none_before : (p : Touch → Bool) (xs : List Touch) (n : ℕ)

@@ -22,23 +22,33 @@ pub data TrackStep : Type 0 where
 
 abbrev pub run_in : TrackStep → Option Run
 run_in (Marked run) = Some run
-run_in _ = None
+run_in (Frozen id) = None
+run_in Enabled = None
+run_in Reset = None
 
 abbrev pub is_frozen : TrackStep → Bool
 is_frozen (Frozen id) = true
-is_frozen _ = false
+is_frozen (Marked run) = false
+is_frozen Enabled = false
+is_frozen Reset = false
 
 abbrev pub freezes : (snapshot : ℕ) → TrackStep → Bool
 freezes snapshot (Frozen id) = id == snapshot
-freezes snapshot _ = false
+freezes snapshot (Marked run) = false
+freezes snapshot Enabled = false
+freezes snapshot Reset = false
 
 abbrev pub is_enabled : TrackStep → Bool
 is_enabled Enabled = true
-is_enabled _ = false
+is_enabled (Marked run) = false
+is_enabled (Frozen id) = false
+is_enabled Reset = false
 
 abbrev pub is_reset : TrackStep → Bool
 is_reset Reset = true
-is_reset _ = false
+is_reset (Marked run) = false
+is_reset (Frozen id) = false
+is_reset Enabled = false
 
 -- what a step is to the tracking of the disk
 abbrev pub reading : Reading TrackStep

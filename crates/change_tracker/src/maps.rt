@@ -1,7 +1,9 @@
 //! The two maps of a tracker.
 ghost use Rattle.std.specs.Prelude.{◌≡◌, ◌+◌, ◌-◌, ◌*◌, ◌/◌, ◌<◌, ◌≤◌, ◌^◌, ◌||◌, ◌&&◌, [], ℕ, OnOk, nat_le, nat_lt, ◌==◌};
 ghost use Rattle.sector_model.specs.Run.{meets};
+ghost use Rattle.sector_model.specs.declared.run.TheConstants.{BLOCK_SECTORS};
 ghost use Rattle.basics.specs.Bits.{has_bit};
+ghost use Rattle.change_tracker.specs.declared.word.TheConstants.{WORD_BLOCKS};
 ghost use Rattle.change_tracker.specs.Touches.{touched_in, word_of};
 ghost use Rattle.change_tracker.specs.Maps.{window, HasSameTouches, KeepsPlaces, NoneTouchedLater, IsTouchedWhere, is_met_by, is_met_in, HasRoomWhere};
 
@@ -49,8 +51,8 @@ impl Maps {
         requires some { 0 < run.count }
         requires fits { run.first + run.count < 2 ^ 64 }
         requires few { freezes + 1 < 2 ^ 64 }
-        requires from { run.first / 128 / 64 ≤ word }
-        requires upto { word ≤ (run.first + run.count - 1) / 128 / 64 }
+        requires from { run.first / BLOCK_SECTORS / WORD_BLOCKS ≤ word }
+        requires upto { word ≤ (run.first + run.count - 1) / BLOCK_SECTORS / WORD_BLOCKS }
         requires later { NoneTouchedLater self.old freezes }
         ensures room { OnOk result (HasRoomWhere (is_met_in word run) self.new freezes) }
         ensures later { NoneTouchedLater self.new freezes }
@@ -83,8 +85,8 @@ impl Maps {
         requires some { 0 < run.count }
         requires fits { run.first + run.count < 2 ^ 64 }
         requires few { freezes + 1 < 2 ^ 64 }
-        requires from { run.first / 128 / 64 ≤ word }
-        requires upto { word ≤ (run.first + run.count - 1) / 128 / 64 }
+        requires from { run.first / BLOCK_SECTORS / WORD_BLOCKS ≤ word }
+        requires upto { word ≤ (run.first + run.count - 1) / BLOCK_SECTORS / WORD_BLOCKS }
         requires room { HasRoomWhere (is_met_in word run) self.old freezes }
         ensures later { NoneTouchedLater self.old freezes → NoneTouchedLater self.new freezes }
         ensures touched { IsTouchedWhere (is_met_in word run) freezes self.old self.new }
@@ -116,7 +118,7 @@ impl Maps {
 
 /// The word of a run's first block, and of its last one.
 fn first_word(run: Run) -> u64
-    ensures { result ≡ run.first / 128 / 64 }
+    ensures { result ≡ run.first / BLOCK_SECTORS / WORD_BLOCKS }
 {
     run.first / BLOCK_SECTORS / WORD_BLOCKS
 }
@@ -124,7 +126,7 @@ fn first_word(run: Run) -> u64
 fn last_word(run: Run) -> u64
     requires some { 0 < run.count }
     requires fits { run.first + run.count < 2 ^ 64 }
-    ensures { result ≡ (run.first + run.count - 1) / 128 / 64 }
+    ensures { result ≡ (run.first + run.count - 1) / BLOCK_SECTORS / WORD_BLOCKS }
 {
     (run.first + run.count - 1) / BLOCK_SECTORS / WORD_BLOCKS
 }
@@ -133,10 +135,10 @@ fn last_word(run: Run) -> u64
 fn bits_of(run: Run, word: u64) -> u64
     requires some { 0 < run.count }
     requires fits { run.first + run.count < 2 ^ 64 }
-    requires from { run.first / 128 / 64 ≤ word }
-    requires upto { word ≤ (run.first + run.count - 1) / 128 / 64 }
-    ensures { (place : ℕ) → place < 64
-        → has_bit result place ≡ meets (64 * word + place) run.first run.count }
+    requires from { run.first / BLOCK_SECTORS / WORD_BLOCKS ≤ word }
+    requires upto { word ≤ (run.first + run.count - 1) / BLOCK_SECTORS / WORD_BLOCKS }
+    ensures { (place : ℕ) → place < WORD_BLOCKS
+        → has_bit result place ≡ meets (WORD_BLOCKS * word + place) run.first run.count }
 {
     let base = WORD_BLOCKS * word;
     let low = (run.first / BLOCK_SECTORS).max(base) - base;

@@ -1,3 +1,4 @@
+pub mod Ranges
 pub mod Stamps
 pub mod WritesKept
 pub mod Spacing

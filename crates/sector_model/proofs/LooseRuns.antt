@@ -1,5 +1,5 @@
 -- Runs are told by their sectors, and flags beside the sectors tell the same as runs.
-use Rattle.std.proofs.Common.{◌≡◌, ℕ, zero, suc, ◌+◌, ◌-◌, ◌<◌, ◌≤◌, List, [], ◌∷◌, ◌++◌, length, take, drop, replicate, map, Bool, true, false, cond, ltb, leb, ◌||◌, ◌&&◌, Some, None, refl, sym, ap, subst, ◌∙◌, arith, ◌⊎◌, inl, inr, append_assoc, append-nil, length-append, length-take, length-drop}
+use Rattle.std.proofs.Common.{◌≡◌, ℕ, zero, suc, ◌+◌, ◌-◌, ◌<◌, ◌≤◌, List, [], ◌∷◌, ◌++◌, length, take, drop, replicate, map, Bool, true, false, cond, ltb, leb, ◌||◌, ◌&&◌, Some, refl, sym, ap, subst, ◌∙◌, arith, inl, inr, append_assoc, append-nil, length-append, length-take, length-drop}
 use Rattle.std.specs.List.{slice_get, range_with_len, count_by, sum_by, All, AllByRecursion}
 use Rattle.std.specs.Option.{option_map}
 use Rattle.std.proofs.Math.Bool.{or-true, or-false}
@@ -17,6 +17,7 @@ use Rattle.sector_model.specs.LooseRuns.{flags_of, RunsAreUnique, LooseRunsCount
 use Rattle.sector_model.specs.declared.run.Run.{Run}
 use Rattle.sector_model.specs.declared.sector.Sector.{Sector}
 use Rattle.basics.proofs.ItemAt.{slice_get-replicate, same_items}
+use Rattle.sector_model.proofs.Ranges.{map-range_same, map-range_alike}
 use Rattle.basics.proofs.Replaced.{length-replaced, replaced-before, replaced-within, replaced-behind}
 use Rattle.sector_model.proofs.Spacing.{none_before, none_in_gap, in_first, past_first, from_earlier}
 use Rattle.sector_model.proofs.NextRun.{run_is, true_false}
@@ -133,15 +134,6 @@ fill-run test (x ∷ mid) zs (f ∷ new) filling a (suc m) b n same long ends al
     (fill-run test mid zs new filling (a + 1) m b n (omega (arith, same)) (omega (arith, long))
     (omega (arith, ends)) (λ s low less. all s (omega (arith, low)) less))
 
-flags-same : (test other : ℕ → Bool) (a n : ℕ) → ((s : ℕ) → a ≤ s → s < a + n → test s ≡ other s)
-    → map test (range_with_len a n) ≡ map other (range_with_len a n)
-flags-same test other a zero same = refl
-flags-same test other a (suc n) same =
-    ap (λ (b : Bool). b ∷ map test (range_with_len (a + 1) n)) (same a (omega arith) (omega arith))
-    ∙ ap (λ (bs : List Bool). other a ∷ bs)
-    (flags-same test other (a + 1) n
-    (λ s low less. same s (omega (arith, low)) (omega (arith, less))))
-
 -- ---- a filling, run by run
 
 abbrev pub fill_runs : List Run → (sectors filling : List Sector) → List Sector
@@ -229,7 +221,7 @@ fill_runs-at (r ∷ rs) m pre suf filling spaced at ends long =
     (omega (arith, length-drop r.count filling, long, sum)) in
     let later : map (in_runs rs) (range_with_len (end_of r) (length rest))
     ≡ map (in_runs (r ∷ rs)) (range_with_len (end_of r) (length rest)) =
-    flags-same (in_runs rs) (in_runs (r ∷ rs)) (end_of r) (length rest)
+    map-range_same (in_runs rs) (in_runs (r ∷ rs)) (end_of r) (length rest)
     (λ s low less. sym (past_first r rs s low)) in
     let told : with_found (map (in_runs (r ∷ rs)) (range_with_len m (length suf))) suf filling
     ≡ gap ++ (new ++ with_found (map (in_runs (r ∷ rs)) (range_with_len (end_of r) (length rest)))
@@ -340,7 +332,7 @@ counted-at (r ∷ rs) m n spaced ends =
     (subst (λ x. AllByRecursion (λ q. end_of q ≤ x) rs)
     (let same : m + n ≡ end_of r + k = omega (arith, ends.0) in same) ends.1) in
     let later = ap (λ (l : List Bool). count_by (λ (b : Bool). b) l)
-    (flags-same (in_runs (r ∷ rs)) (in_runs rs) (end_of r) k
+    (map-range_same (in_runs (r ∷ rs)) (in_runs rs) (end_of r) k
     (λ s low less. past_first r rs s low)) in
     let run = count-run (in_runs (r ∷ rs)) r.first r.count k
     (λ s low less. in_first r rs s low less) in
@@ -423,12 +415,8 @@ loose_runs_grow sectors loose new first written fits grown =
     ap (λ (l : List Bool). record { sectors = replaced sectors first written; loose = l })
     (ap (λ k. flags_of k new) kept ∙ same)
 
-none-flagged : (a n : ℕ) → map (in_runs []) (range_with_len a n) ≡ replicate n false
-none-flagged a zero = refl
-none-flagged a (suc n) = ap (λ (l : List Bool). false ∷ l) (none-flagged (a + 1) n)
-
 pub no_loose_runs : NoLooseRuns
 no_loose_runs sectors loose =
     ap (λ (l : List Bool). record { sectors = sectors; loose = l })
-    (none-flagged 0 (length sectors)
+    (map-range_alike (in_runs []) false 0 (length sectors) (λ k. refl)
     ∙ ap (λ k. replicate k false) (sym (length-flags (length sectors) loose)))

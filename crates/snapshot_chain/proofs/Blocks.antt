@@ -7,11 +7,11 @@ use Rattle.std.proofs.Math.Bool.{or-false, and-false}
 use Rattle.std.proofs.lemmas.Bool.{cases_eq, eq-eqb, ne_eqb, false≢true, or_right}
 use Rattle.std.proofs.lemmas.List.Folds.{list_any-append}
 use Rattle.snapshot_chain.specs.Page128.{PageState}
-use Rattle.std.proofs.lemmas.List.{take_more}
+use Rattle.basics.proofs.ItemAt.{take-next_read}
 use Rattle.std.specs.Option.{option_or}
 use Rattle.sector_model.specs.declared.sector.Sector.{Sector}
 use Rattle.snapshot_chain.specs.Layers.{found, has_found, blocks_in}
-use Rattle.sector_model.specs.Run.{runs_of, areas_of, in_blocks, block_count}
+use Rattle.sector_model.specs.Run.{areas_of, in_blocks, block_count}
 use Rattle.sector_model.proofs.Among.{at_is, among_range as in_range}
 use Rattle.sector_model.proofs.RunsOf.{runs_of-same}
 use Rattle.snapshot_chain.proofs.Touching.{any-or, either_found}
@@ -124,8 +124,8 @@ pub has_more : (layers : List LayerState) (i : ℕ) (layer : LayerState) (b : �
     → layer ≡ get_or layers i layer
     → has_found (take (i + 1) layers) b ≡ (has_found (take i layers) b || has_sector layer b)
 has_more layers i layer b less is =
-    ap (λ (ls : List LayerState). has_found ls b) (take_more layers i layer less
-    ∙ ap (λ (l : LayerState). take i layers ++ l ∷ []) (sym is)) ∙ has_push (take i layers) layer b
+    ap (λ (ls : List LayerState). has_found ls b) (take-next_read layers i layer less is)
+    ∙ has_push (take i layers) layer b
 
 -- a block that was found begins below the capacity
 has_page : (page : Option PageState)

@@ -10,6 +10,7 @@ use Rattle.std.proofs.lemmas.List.Quantifiers.{all_pairs_push}
 use Rattle.std.proofs.lemmas.List.Sums.{fold-append}
 use Rattle.std.proofs.lemmas.List.Elements.{filter_map-append, All-push}
 use Rattle.std.proofs.lemmas.List.Folds.{list_any-append, find-append}
+use Rattle.basics.proofs.ItemAt.{position_or_len-le}
 use Rattle.sector_model.specs.Disk.{Write, after_write, fold_writes, fresh_disk}
 use Rattle.sector_model.specs.Run.{touched_blocks, block_count, range_of, with_met}
 use Rattle.sector_model.proofs.Among.{none_pass}
@@ -126,19 +127,11 @@ place_stays p (x ∷ xs) ys some = met p x xs ys (p x) refl (λ later. place_sta
     met p x xs ys true is rest some = rw is refl
     met p x xs ys false is rest some = rw is (ap (λ (n : ℕ). 1 + n) (rest (rw is at some)))
 
-offset-le : (p : DiskEvent → Bool) (xs : List DiskEvent) → position_or_len p xs ≤ length xs
-offset-le p [] = omega arith
-offset-le p (x ∷ xs) = bounded (p x) (position_or_len p xs) (offset-le p xs)
-  where
-    bounded : (b : Bool) (n : ℕ) → n ≤ length xs → cond (not b) (1 + n) 0 ≤ suc (length xs)
-    bounded true n le = omega arith
-    bounded false n le = omega (arith, le)
-
 pub before_stays : (s : ℕ) (xs ys : List DiskEvent) → list_any (freezes s) xs ≡ true
     → before_freeze s (xs ++ ys) ≡ before_freeze s xs
 before_stays s xs ys some =
     ap (λ (n : ℕ). take n (xs ++ ys)) (place_stays (freezes s) xs ys some)
-    ∙ take-append-le (position_or_len (freezes s) xs) xs ys (offset-le (freezes s) xs)
+    ∙ take-append-le (position_or_len (freezes s) xs) xs ys (position_or_len-le (freezes s) xs)
 
 pub before_new : (s : ℕ) (xs : List DiskEvent) → list_any (freezes s) xs ≡ false
     → before_freeze s (xs ++ Frozen s ∷ []) ≡ xs

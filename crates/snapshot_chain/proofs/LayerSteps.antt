@@ -1,10 +1,8 @@
 -- Steps on a list of layers.
-use Rattle.std.proofs.Common.{◌≡◌, ℕ, zero, suc, ◌+◌, ◌<◌, ◌≤◌, List, [], ◌∷◌, length, set, get_or, Bool, true, false, cond, ◌&&◌, leb, nat_eq, Option, Some, None, Result, Ok, Err, length-set, sym, ap, subst, refl, ◌∙◌, arith}
+use Rattle.std.proofs.Common.{◌≡◌, ℕ, zero, suc, ◌+◌, ◌<◌, ◌≤◌, List, [], ◌∷◌, length, set, get_or, Bool, true, false, cond, ◌&&◌, leb, nat_eq, Option, Some, None, Ok, Err, length-set, sym, ap, subst, refl, ◌∙◌, arith}
 use Rattle.std.specs.List.{remove, position, AllByRecursion}
-use Rattle.std.specs.Result.{IfErr}
 use Rattle.basics.specs.Refusal.{IsRefusedBy, IsRefusedOr}
 use Rattle.sector_model.specs.declared.sector.Sector.{Sector}
-use Rattle.snapshot_chain.specs.declared.chain.ChainRefused.{ChainRefused}
 use Rattle.snapshot_chain.specs.declared.chain.ChainRefused.TheVariants.{UnknownSnap, Range, NoMemory}
 use Rattle.snapshot_chain.specs.Chain.{ChainState, after_merging, contents_of, read_refusal}
 use Rattle.sector_model.specs.Run.{is_within}
@@ -103,12 +101,6 @@ merged_holds c bound ids free freeze_room merge_room id i old new merged long ar
     merged.merged
 
 -- ---- refusals
-
-pub refuse_live : {T : Type 0} (live : Bool) (result : Result T ChainRefused) → live ≡ true
-    → IfErr result (λ why. why ≡ NoMemory)
-    → IsRefusedOr (cond live None (Some UnknownSnap)) NoMemory result
-refuse_live true result is free = free
-refuse_live false result is free = absurd (false≢true is)
 
 pub refuse_unknown : (T : Type 0) (live : Bool) → live ≡ false
     → IsRefusedOr {T = T} (cond live None (Some UnknownSnap)) NoMemory (Err UnknownSnap)

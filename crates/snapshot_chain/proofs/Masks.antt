@@ -1,12 +1,13 @@
 -- The mask of a page: what one more bit above the others changes, and where a sector stands.
-use Rattle.std.proofs.Common.{Bor, set, not, eqb, is_some, ◌||◌, ◌≡◌, ℕ, zero, suc, ◌+◌, ◌-◌, ◌*◌, ◌/◌, ◌%◌, ◌<◌, ◌≤◌, ◌^◌, Bool, true, false, cond, List, [], ◌∷◌, ◌++◌, length, ◌≢◌, Option, Some, None, pow_pos, length-append, sym, ap, subst, refl, ◌∙◌, arith, inl, inr}
+use Rattle.std.proofs.Common.{Bor, set, not, eqb, is_some, ◌≡◌, ℕ, zero, suc, ◌+◌, ◌-◌, ◌*◌, ◌/◌, ◌%◌, ◌<◌, ◌≤◌, ◌^◌, Bool, true, false, cond, List, [], ◌∷◌, ◌++◌, length, ◌≢◌, Option, Some, None, pow_pos, length-append, sym, ap, subst, refl, ◌∙◌, arith, inl, inr}
 use Rattle.std.specs.Int.{bit_at, w128, trailing_zeros}
 use Rattle.std.specs.Int.RustNames.{bit_and, bit_or, count_ones}
 use Rattle.std.specs.List.{slice_get, list_any, range_with_len}
 use Rattle.std.specs.Option.{option_copied, option_map, option_or}
 use Rattle.std.specs.Int.Count.{ones}
 use Rattle.std.proofs.Math.Pow.{pow_mono}
-use Rattle.std.proofs.lemmas.Nat.{ones_cat, one_shl, mod-pow-add, mod-mul-add, mod_below, and_mask, zero_from_ones, pow-add, div-add-mod'}
+use lib.Pow.{mod-mod-pow}
+use Rattle.std.proofs.lemmas.Nat.{ones_cat, one_shl, mod-mul-add, mod_below, and_mask, zero_from_ones, pow-add, div-add-mod'}
 use Rattle.std.proofs.lemmas.Nat.Bits.{bit_at_cat_low, bit_at_cat_high, bit_at_above, bit_at-lt, and_pow, bit_at-trailing_zeros}
 use Rattle.std.specs.Int.Bits.{or_shifted_r}
 use Rattle.std.proofs.lemmas.Bool.{cases_eq, cases_lt, eqb-true, eq-eqb, ne_eqb, or_right}
@@ -40,13 +41,9 @@ bit_here : (m p : ℕ) → m < 2 ^ p → bit_at (m + 2 ^ p) p ≡ 1
 bit_here m p above = ap (λ n. bit_at n p) (turned m p) ∙ bit_at_cat_high 1 p m p above (omega arith)
     ∙ (let none : p - p ≡ 0 = omega arith in ap (bit_at 1) none)
 
-nested : (n j k : ℕ) → n % 2 ^ (j + k) % 2 ^ k ≡ n % 2 ^ k
-nested n j k = ap (λ x. x % 2 ^ k) (mod-pow-add n j k)
-    ∙ mod-mul-add (n / 2 ^ k % 2 ^ j) (2 ^ k) (n % 2 ^ k) (mod_below n (2 ^ k) (pow_pos k))
-
 low_same : (m j k : ℕ) → m < 2 ^ (j + k) → (m + 2 ^ (j + k)) % 2 ^ k ≡ m % 2 ^ k
 low_same m j k above =
-    sym (nested (m + 2 ^ (j + k)) j k)
+    sym (mod-mod-pow (m + 2 ^ (j + k)) j k)
     ∙ ap (λ x. x % 2 ^ k) (ap (λ x. x % 2 ^ (j + k)) (turned m (j + k))
     ∙ mod-mul-add 1 (2 ^ (j + k)) m above)
 
@@ -132,7 +129,8 @@ rank_apart m j k less set =
     let low : bit_at (m % 2 ^ k) j ≡ 1 = sym (bit_at_cat_low (m / 2 ^ k) k (m % 2 ^ k) j less)
     ∙ ap (λ n. bit_at n j) (div-add-mod' m (2 ^ k)) ∙ set in
     let at : k ≡ (k - j) + j = omega (arith, less) in
-    let cut : m % 2 ^ k % 2 ^ j ≡ m % 2 ^ j = ap (λ n. m % 2 ^ n % 2 ^ j) at ∙ nested m (k - j) j in
+    let cut : m % 2 ^ k % 2 ^ j ≡ m % 2 ^ j =
+    ap (λ n. m % 2 ^ n % 2 ^ j) at ∙ mod-mod-pow m (k - j) j in
     omega (arith, rank_less (m % 2 ^ k) j low, ap count_ones cut)
 
 here_some : {X : Type 0} (xs : List X) (i : ℕ) (x : X) → i < length xs

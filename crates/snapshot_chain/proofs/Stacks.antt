@@ -1,8 +1,10 @@
 -- What lists of layers hold when one of them changes.
-use Rattle.std.proofs.Common.{◌≡◌, ℕ, zero, suc, ◌+◌, ◌/◌, ◌%◌, ◌<◌, ◌≤◌, List, [], ◌∷◌, ◌++◌, length, set, map, Bool, false, Option, Some, is_some, sym, ap, refl, ◌∙◌, arith, append_assoc, eqb, nat_eq, ◌==◌, not}
+use Rattle.std.proofs.Common.{◌≡◌, ℕ, zero, suc, ◌+◌, ◌/◌, ◌%◌, ◌<◌, ◌≤◌, List, [], ◌∷◌, ◌++◌, length, set, Bool, false, Option, Some, is_some, sym, ap, refl, ◌∙◌, arith, append_assoc, eqb, nat_eq, ◌==◌, not}
 use Rattle.std.specs.Option.{option_or, unwrap_or}
 use Rattle.std.proofs.lemmas.Bool.{eq-eqb, or_parts}
 use Rattle.std.proofs.lemmas.Bool.Decides.{nat_tests}
+use Rattle.std.proofs.lemmas.List.Elements.{filter_agree}
+use Rattle.sector_model.proofs.Ranges.{map-range_same}
 use Rattle.snapshot_chain.specs.Kept.{AreIds}
 use Rattle.std.specs.List.{list_any, range_with_len, filter, remove, slice_get}
 use Rattle.sector_model.specs.Sector.{zero_sector}
@@ -34,19 +36,6 @@ holds_append xs ys zs same = record {
       ∙ sym (found-append xs zs block offset);
 }
 
--- lists made from functions that agree are one
-pub map-same : {X : Type 0} (f g : ℕ → X) (a n : ℕ) → ((k : ℕ) → f k ≡ g k)
-    → map f (range_with_len a n) ≡ map g (range_with_len a n)
-map-same f g a zero same = refl
-map-same f g a (suc n) same = cong_cons (same a) (map-same f g (a + 1) n same)
-  where
-    cong_cons : {X : Type 0} {x y : X} {xs ys : List X} → x ≡ y → xs ≡ ys → x ∷ xs ≡ y ∷ ys
-    cong_cons e h = cc
-
-pub filter-same : (p q : ℕ → Bool) (xs : List ℕ) → ((k : ℕ) → p k ≡ q k) → filter p xs ≡ filter q xs
-filter-same p q [] same = refl
-filter-same p q (x ∷ xs) same = rw (same x, filter-same p q xs same) refl
-
 pub any-same : (p q : ℕ → Bool) (a n : ℕ) → ((k : ℕ) → a ≤ k → k < a + n → p k ≡ q k)
     → list_any p (range_with_len a n) ≡ list_any q (range_with_len a n)
 any-same p q a zero same = refl
@@ -60,8 +49,8 @@ any-same p q a (suc n) same =
 pub contents-same : (c : ℕ) (xs ys : List LayerState) → HoldsSame xs ys
     → contents_in c ys ≡ contents_in c xs
 contents-same c xs ys same =
-    map-same (sector_found ys) (sector_found xs) 0 c
-    (λ s. ap (λ (o : Option Sector). unwrap_or o zero_sector)
+    map-range_same (sector_found ys) (sector_found xs) 0 c
+    (λ s _ _. ap (λ (o : Option Sector). unwrap_or o zero_sector)
     (same.at (s / 128) (s % 128) (omega arith)))
 
 pub has-same : (xs ys : List LayerState) (block : ℕ) → HoldsSame xs ys
@@ -73,8 +62,8 @@ has-same xs ys block same =
 pub blocks-same : (c : ℕ) (xs ys : List LayerState) → HoldsSame xs ys
     → blocks_in c ys ≡ blocks_in c xs
 blocks-same c xs ys same =
-    filter-same (has_found ys) (has_found xs) (range_with_len 0 (block_count c))
-    (λ b. has-same xs ys b same)
+    filter_agree (has_found ys) (has_found xs) (λ b. has-same xs ys b same)
+    (range_with_len 0 (block_count c))
 
 snapshot-same : (c id : ℕ) (xs ys : List LayerState) → HoldsSame xs ys
     → snapshot_in c id ys ≡ snapshot_in c id xs

@@ -1,5 +1,5 @@
 -- What a chain holds after a call, in terms of what it held.
-use Rattle.std.proofs.Common.{◌≡◌, ℕ, zero, suc, ◌+◌, ◌-◌, ◌*◌, ◌/◌, ◌%◌, ◌<◌, ◌≤◌, List, [], ◌∷◌, ◌++◌, length, take, drop, set, get_or, map, Bool, true, false, Option, Some, None, is_some, sym, ap, subst, refl, ◌∙◌, arith, inl, inr, ◌⊎◌, replicate, append_assoc, length-take, length-drop, cond, eqb, ltb, nat_eq, ◌==◌, ◌||◌}
+use Rattle.std.proofs.Common.{◌≡◌, ℕ, zero, suc, ◌+◌, ◌-◌, ◌*◌, ◌/◌, ◌%◌, ◌<◌, ◌≤◌, List, [], ◌∷◌, ◌++◌, length, take, drop, set, get_or, map, Bool, true, false, Option, Some, None, is_some, sym, ap, subst, refl, ◌∙◌, arith, inl, inr, ◌⊎◌, append_assoc, length-take, length-drop, cond, eqb, ltb, nat_eq, ◌==◌, ◌||◌}
 use Rattle.std.specs.Option.{option_or, unwrap_or, option_map}
 use Rattle.std.specs.List.{list_any, range_with_len, filter, remove, position, position_or_len, find, slice_get}
 use Rattle.std.proofs.lemmas.Bool.{eq-eqb, cases_eq, cases_lt, ne_eqb, lt-ltb, le-ltb, false≢true}
@@ -9,6 +9,7 @@ use Rattle.std.proofs.lemmas.Option.{slice_get_past, slice_get-get_or, get_or_fr
 use Rattle.basics.proofs.Replaced.{length-replaced, replaced-before, replaced-within, replaced-behind}
 use Rattle.sector_model.proofs.Touched.{filter-range_same}
 use Rattle.snapshot_chain.proofs.Writes.{run_before, run_from}
+use Rattle.sector_model.proofs.Ranges.{map-range_same, map-range_alike}
 use Rattle.sector_model.proofs.Among.{among_range}
 use Rattle.snapshot_chain.proofs.Touching.{has_more}
 use Rattle.sector_model.specs.Sector.{zero_sector}
@@ -22,7 +23,7 @@ use Rattle.snapshot_chain.specs.Layers.{found, sector_found, contents_in, has_fo
 use Rattle.snapshot_chain.specs.Kept.{state_of, AreIds}
 use Rattle.snapshot_chain.specs.Reading.{layers_seen}
 use Rattle.snapshot_chain.proofs.Options.{or_assoc}
-use Rattle.snapshot_chain.proofs.Stacks.{HoldsSame, found-append, map-same, any-same, contents-same, blocks-same, snapshots-newest, snapshots-push, snapshots-merged, holds-merged}
+use Rattle.snapshot_chain.proofs.Stacks.{HoldsSame, found-append, any-same, contents-same, blocks-same, snapshots-newest, snapshots-push, snapshots-merged, holds-merged}
 
 -- ---- where an id stands
 
@@ -243,8 +244,8 @@ written_state c layers ids free freeze_room merge_room first sectors new long fi
 
     contents : contents_in c (set layers (length ids) new)
         ≡ replaced (contents_in c layers) first sectors
-    contents = map-same (sector_found (set layers (length ids) new))
-        (λ s. unwrap_or (run_at first sectors s) (sector_found layers s)) 0 c each
+    contents = map-range_same (sector_found (set layers (length ids) new))
+        (λ s. unwrap_or (run_at first sectors s) (sector_found layers s)) 0 c (λ s _ _. each s)
         ∙ sym (replaced-made (sector_found layers) first sectors c fits)
 
     blocks : blocks_in c (set layers (length ids) new)
@@ -332,12 +333,12 @@ no_blocks : (xs : List ℕ) → filter (λ b. list_any (λ offset. false) (range
 no_blocks [] = refl
 no_blocks (x ∷ xs) = no_blocks xs
 
-all_zero : (a n : ℕ) → map (λ s. zero_sector) (range_with_len a n) ≡ replicate n zero_sector
-all_zero a zero = refl
-all_zero a (suc n) = ap (λ (xs : List Sector). zero_sector ∷ xs) (all_zero (a + 1) n)
-
 pub fresh_state : (c : ℕ) → state_of c ([] ∷ []) [] 0 false None ≡ fresh c
-fresh_state c = rw (all_zero 0 c, no_blocks (range_with_len 0 (block_count c))) refl
+fresh_state c =
+    rw (
+      map-range_alike (λ s. zero_sector) zero_sector 0 c (λ k. refl),
+      no_blocks (range_with_len 0 (block_count c)),
+    ) refl
 
 -- what a snapshot sees, or what all layers hold
 pub contents_seen : (c : ℕ) (layers : List LayerState) (ids : List ℕ) (free : ℕ)

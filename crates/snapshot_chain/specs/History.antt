@@ -14,15 +14,18 @@ pub data DiskEvent : Type 0 where
 
 abbrev pub write_in : DiskEvent → Option Write
 write_in (Written write) = Some write
-write_in _ = None
+write_in (Frozen id) = None
+write_in (Merged id) = None
 
 abbrev pub frozen_in : DiskEvent → Option ℕ
 frozen_in (Frozen id) = Some id
-frozen_in _ = None
+frozen_in (Written write) = None
+frozen_in (Merged id) = None
 
 abbrev pub freezes : ℕ → DiskEvent → Bool
 freezes s (Frozen id) = id == s
-freezes s _ = false
+freezes s (Written write) = false
+freezes s (Merged id) = false
 
 -- the writes, in order
 abbrev pub writes_in : List DiskEvent → List Write

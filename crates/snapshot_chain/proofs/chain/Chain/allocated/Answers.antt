@@ -1,15 +1,16 @@
 -- The blocks of the layers that the snapshot sees.
 use Rattle.std.proofs.Common.{◌≡◌, ◌+◌, List, take, nat_eq, Some, None, is_some, sym, ap, ◌∙◌}
 use Rattle.std.specs.List.{position}
-use Rattle.basics.proofs.Results.{if_err}
+use Rattle.basics.proofs.Results.{if_err, free_alone}
 use Rattle.sector_model.specs.declared.run.Runs.{Runs}
 use Rattle.sector_model.specs.Run.{areas_of}
 use Rattle.snapshot_chain.specs.Layer.{LayerState}
 use Rattle.snapshot_chain.specs.Layers.{blocks_in}
 use Rattle.snapshot_chain.specs.Chain.{snapshot_of}
+use Rattle.snapshot_chain.specs.declared.chain.ChainRefused.TheVariants.{UnknownSnap, NoMemory}
 use Rattle.snapshot_chain.proofs.States.{live_in, snapshot_seen}
 use Rattle.snapshot_chain.proofs.Blocks.{begin_below, take_within, areas_same}
-use Rattle.snapshot_chain.proofs.LayerSteps.{refuse_live, refuse_unknown}
+use Rattle.snapshot_chain.proofs.LayerSteps.{refuse_unknown}
 use Rattle.snapshot_chain.proofs.chain.Chain.allocated.Goals as goal
 
 pub from_blocks-requires-clause-begin_below : goal.from_blocks-requires-clause-begin_below
@@ -34,7 +35,7 @@ pub returns-in_err-blocks-clause-refused : goal.returns-in_err-blocks-clause-ref
 returns-in_err-blocks-clause-refused c =
     let at : position (nat_eq c.args.id) c.self.inside.ids.items ≡ Some c.in-Some.index =
     rw c.as_slice.ensures.value at (sym c.position_of.ensures ∙ c.in-Some.is) in
-    refuse_live (is_some (snapshot_of c.args.id c.args.self.now)) _
+    free_alone UnknownSnap NoMemory (is_some (snapshot_of c.args.id c.args.self.now)) _
     (rw (← c.self.view_is)
     (live_in c.self.inside.capacity c.args.id c.self.inside.ids.items c.self.inside.layers.items
     c.self.invariant.long ∙ ap is_some at))
@@ -44,7 +45,7 @@ pub returns-in_err-from_blocks-clause-refused : goal.returns-in_err-from_blocks-
 returns-in_err-from_blocks-clause-refused c =
     let at : position (nat_eq c.args.id) c.self.inside.ids.items ≡ Some c.in-Some.index =
     rw c.as_slice.ensures.value at (sym c.position_of.ensures ∙ c.in-Some.is) in
-    refuse_live (is_some (snapshot_of c.args.id c.args.self.now)) _
+    free_alone UnknownSnap NoMemory (is_some (snapshot_of c.args.id c.args.self.now)) _
     (rw (← c.self.view_is)
     (live_in c.self.inside.capacity c.args.id c.self.inside.ids.items c.self.inside.layers.items
     c.self.invariant.long ∙ ap is_some at))
@@ -55,7 +56,7 @@ pub returns-clause-refused : goal.returns-clause-refused
 returns-clause-refused c =
     let at : position (nat_eq c.args.id) c.self.inside.ids.items ≡ Some c.in-Some.index =
     rw c.as_slice.ensures.value at (sym c.position_of.ensures ∙ c.in-Some.is) in
-    refuse_live (is_some (snapshot_of c.args.id c.args.self.now)) _
+    free_alone UnknownSnap NoMemory (is_some (snapshot_of c.args.id c.args.self.now)) _
     (rw (← c.self.view_is)
     (live_in c.self.inside.capacity c.args.id c.self.inside.ids.items c.self.inside.layers.items
     c.self.invariant.long ∙ ap is_some at)) tt

@@ -1,9 +1,10 @@
 -- With the room or without, the same snapshots.
 use Rattle.std.proofs.Common.{◌≡◌, Ok, is_some, true, sym, subst}
+use Rattle.basics.proofs.Results.{free_alone}
 use Rattle.snapshot_chain.specs.Chain.{ChainState, snapshot_of, after_merging}
 use Rattle.snapshot_chain.specs.History.{Takes, Merged}
+use Rattle.snapshot_chain.specs.declared.chain.ChainRefused.TheVariants.{UnknownSnap, NoMemory}
 use Rattle.snapshot_chain.proofs.Histories.{stands_merged}
-use Rattle.snapshot_chain.proofs.LayerSteps.{refuse_live}
 use Rattle.snapshot_chain.proofs.chain.Chain.merge.Goals as goal
 use Rattle.snapshot_chain.proofs.chain.Chain.merge.Goals.{then-not-has_merge_room+in_ok-reserve_merge, else-not-has_merge_room}
 
@@ -15,7 +16,8 @@ returns-clause-refused c =
           (w.self-is, w.in_ok-reserve_merge.ensures.ok) at c.join_layer.ensures.live
       | else-not-has_merge_room w ↦ rw w.self-is at c.join_layer.ensures.live
     ] in
-    refuse_live (is_some (snapshot_of c.args.id c.args.self.now)) (Ok tt) live tt
+    free_alone UnknownSnap NoMemory (is_some (snapshot_of c.args.id c.args.self.now)) (Ok tt)
+    live tt
 
 pub returns-clause-stands : goal.returns-clause-stands
 returns-clause-stands c =

@@ -1,10 +1,11 @@
 -- The room is made beside the layers; what the chain holds stays.
 use Rattle.std.proofs.Common.{◌≡◌, nat_eq, Some, None, Ok, is_some, sym, ap, ◌∙◌}
 use Rattle.std.specs.List.{position}
-use Rattle.basics.proofs.Results.{if_err}
+use Rattle.basics.proofs.Results.{if_err, free_alone}
 use Rattle.snapshot_chain.specs.Chain.{snapshot_of}
+use Rattle.snapshot_chain.specs.declared.chain.ChainRefused.TheVariants.{UnknownSnap, NoMemory}
 use Rattle.snapshot_chain.proofs.States.{live_in}
-use Rattle.snapshot_chain.proofs.LayerSteps.{refuse_live, refuse_unknown}
+use Rattle.snapshot_chain.proofs.LayerSteps.{refuse_unknown}
 use Rattle.snapshot_chain.proofs.chain.Chain.reserve_merge.Goals as goal
 
 pub returns-in_default-clause-refused : goal.returns-in_default-clause-refused
@@ -20,7 +21,7 @@ pub returns-clause-refused : goal.returns-clause-refused
 returns-clause-refused c =
     let at : position (nat_eq c.args.id) c.self.inside.ids.items ≡ Some c.in-Some.index =
     rw c.as_slice.ensures.value at (sym c.position_of.ensures ∙ c.in-Some.is) in
-    refuse_live (is_some (snapshot_of c.args.id c.args.self.now)) (Ok tt)
+    free_alone UnknownSnap NoMemory (is_some (snapshot_of c.args.id c.args.self.now)) (Ok tt)
     (rw (← c.self.view_is)
     (live_in c.self.inside.capacity c.args.id c.self.inside.ids.items c.self.inside.layers.items
     c.self.invariant.long ∙ ap is_some at)) tt
@@ -29,7 +30,7 @@ pub returns-then-has_merge_room-clause-refused : goal.returns-then-has_merge_roo
 returns-then-has_merge_room-clause-refused c =
     let at : position (nat_eq c.args.id) c.self.inside.ids.items ≡ Some c.in-Some.index =
     rw c.as_slice.ensures.value at (sym c.position_of.ensures ∙ c.in-Some.is) in
-    refuse_live (is_some (snapshot_of c.args.id c.args.self.now)) (Ok tt)
+    free_alone UnknownSnap NoMemory (is_some (snapshot_of c.args.id c.args.self.now)) (Ok tt)
     (rw (← c.self.view_is)
     (live_in c.self.inside.capacity c.args.id c.self.inside.ids.items c.self.inside.layers.items
     c.self.invariant.long ∙ ap is_some at)) tt
@@ -38,7 +39,8 @@ pub returns-in_err-pages-clause-refused : goal.returns-in_err-pages-clause-refus
 returns-in_err-pages-clause-refused c =
     let at : position (nat_eq c.args.id) c.self.inside.ids.items ≡ Some c.in-Some.index =
     rw c.as_slice.ensures.value at (sym c.position_of.ensures ∙ c.in-Some.is) in
-    refuse_live (is_some (snapshot_of c.args.id c.args.self.now)) c.from_residual.result
+    free_alone UnknownSnap NoMemory (is_some (snapshot_of c.args.id c.args.self.now))
+    c.from_residual.result
     (rw (← c.self.view_is)
     (live_in c.self.inside.capacity c.args.id c.self.inside.ids.items c.self.inside.layers.items
     c.self.invariant.long ∙ ap is_some at))
