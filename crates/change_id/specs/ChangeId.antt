@@ -1,6 +1,6 @@
 -- The spelling of a change identifier, what a text may lack, and the number that its UUID packs.
 -- Each identifier has one spelling, so that texts are equal exactly where they mean the same.
-use Rattle.std.specs.Prelude.{◌≡◌, ℕ, ◌+◌, ◌*◌, ◌^◌, ◌≤◌, ◌<◌, ◌==◌, List, ◌∷◌, ◌++◌, Contains, Result, Ok, Err, decimal}
+use Rattle.std.specs.Prelude.{◌≡◌, ℕ, ◌+◌, ◌*◌, ◌^◌, ◌≤◌, ◌<◌, ◌==◌, List, ◌∷◌, ◌++◌, Contains, Option, Some, None, Result, Ok, Err, decimal, if◌then◌else◌}
 use Rattle.std.specs.Int.{w128, to_be_bytes}
 use Rattle.std.specs.List.{before_first, after_first}
 use Rattle.uuid.specs.Text.{hyphenated_text, lower}
@@ -19,6 +19,10 @@ slash = 47
 -- the identifier with this UUID and number
 abbrev pub id_of : (uuid seq : ℕ) → ChangeId
 id_of uuid seq = record { uuid = uuid; seq = seq }
+
+-- the identifier where so many snapshots were counted: none where none was
+abbrev pub counted_id : (uuid seq : ℕ) → Option ChangeId
+counted_id uuid seq = if seq == 0 then None else Some (id_of uuid seq)
 
 -- a UUID as text: its sixteen bytes, the highest first, hyphenated and in lower case
 unfoldable pub uuid_text : ℕ → List ℕ

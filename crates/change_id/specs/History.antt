@@ -3,7 +3,7 @@
 -- of one disk was told. So the words stand once, for any list, over what each of its entries is.
 use Rattle.std.specs.Prelude.{◌≡◌, ℕ, ◌+◌, ◌<◌, ◌==◌, nat_le, List, length, take, slice_get, Bool, true, false, ◌&&◌, Option, Some, None, unwrap_or, Result, Ok, Err, if◌then◌else◌}
 use Rattle.std.specs.List.{fold, count_by, find, position_or_len, range_with_len}
-use Rattle.change_id.specs.ChangeId.{packed}
+use Rattle.change_id.specs.ChangeId.{packed, counted_id}
 use Rattle.change_id.specs.declared.ChangeId.{ChangeId}
 use Rattle.change_id.specs.declared.Since.{Since}
 use Rattle.change_id.specs.declared.Since.TheVariants.{All, From}
@@ -56,9 +56,7 @@ number reading log = unwrap_or (counted reading log) 0
 -- the identifier that is in force: of the epoch and the sequence number, or none where that is 0
 abbrev pub in_force : {E : Type 0} → Reading E → (machine disk : ℕ) → List E → Option ChangeId
 in_force reading machine disk log =
-    if number reading log == 0
-    then None
-    else Some (record { uuid = packed machine disk (epoch reading log); seq = number reading log })
+    counted_id (packed machine disk (epoch reading log)) (number reading log)
 
 -- the identifier at a snapshot, which counts with it: none where tracking wasn't enabled before it.
 -- Of a snapshot that wasn't taken it is the one in force, so ask for those that were taken.

@@ -11,7 +11,7 @@
 ghost use Rattle.std.specs.Prelude.{◌≡◌, ◌≤◌, ◌<◌, ◌↔◌, ◌==◌, Contains, IfNone, IfSome, IsTrue, MatchOption, position, slice_index, decimal, drop, length, take};
 ghost use Rattle.std.specs.Str.{IsAscii};
 ghost use Rattle.change_id.specs.declared.ChangeId.{ChangeId};
-ghost use Rattle.change_id.specs.ChangeId.{refusal_number, packed, spelling, uuid_text, uuid_part, number_part, IsUuidText, IsNumberText, IsAnswer, Spells, LacksSlash, LacksUuid, LacksNumber, slash};
+ghost use Rattle.change_id.specs.ChangeId.{refusal_number, packed, counted_id, spelling, uuid_text, uuid_part, number_part, IsUuidText, IsNumberText, IsAnswer, Spells, LacksSlash, LacksUuid, LacksNumber, slash};
 ghost use Rattle.change_id.specs.Filtered.{TellingsAreRead, FilteredListsReadTheSame, FilteredListsAnswerTheSame};
 ghost use Rattle.change_id.specs.HistoryLaws.{NumbersHaveNoGap, NumbersDiffer, IdsHaveOneMark, LaterEntriesKeep, SnapshotsKeepTheEpoch};
 ghost use Rattle.change_id.specs.Laws.{OneAnswer, WrittenParses, SpellingsDiffer, PackingsFit, PackingsDiffer};
@@ -90,6 +90,16 @@ pub fn pack(machine: u32, disk: u32, resets: u64) -> u128
     ensures { result ≡ packed machine disk resets }
 {
     (u128::from(machine) << 96) + (u128::from(disk) << 64) + u128::from(resets)
+}
+
+/// The identifier of this UUID where so many snapshots were counted. None where none was.
+pub fn counted_id(uuid: u128, seq: u64) -> Option<ChangeId>
+    ensures { result ≡ counted_id uuid seq }
+{
+    if seq == 0 {
+        return None;
+    }
+    Some(ChangeId { uuid, seq })
 }
 
 /// Reads the one spelling that [`write_to`] writes. A refusal names the first part that is wrong,

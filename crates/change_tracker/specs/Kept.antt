@@ -6,6 +6,7 @@ use Rattle.std.specs.List.{enumerate_from}
 use Rattle.std.specs.Vec.{vec_len, vec_capacity}
 use Rattle.std.specs.declared.vec.Vec.{Vec}
 use Rattle.std.specs.declared.alloc.Global.{Global}
+use Rattle.change_id.specs.ChangeId.{counted_id}
 use Rattle.change_id.specs.declared.ChangeId.{ChangeId}
 use Rattle.sector_model.specs.declared.run.Run.{Run}
 use Rattle.change_tracker.specs.declared.kept.Kept.{Kept}
@@ -97,7 +98,4 @@ window_from place (Some at) seq = window (place + 1 - (at.seq - seq)) (place + 1
 
 -- the identifier in force, of the epoch with this UUID
 abbrev pub in_force_of : (uuid : ℕ) (counted : Option ℕ) → Option ChangeId
-in_force_of uuid counted =
-    if unwrap_or counted 0 == 0
-    then None
-    else Some (record { uuid = uuid; seq = unwrap_or counted 0 })
+in_force_of uuid counted = counted_id uuid (unwrap_or counted 0)

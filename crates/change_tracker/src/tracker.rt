@@ -10,7 +10,7 @@ use crate::kept::Kept;
 use crate::maps::Maps;
 use crate::touches::Touches;
 use crate::word::Window;
-use change_id::{ChangeId, Since, pack};
+use change_id::{ChangeId, Since, counted_id, pack};
 use sector_model::{NoMemory, Page, Run};
 use std::alloc::Global;
 use std::marker::Model;
@@ -297,8 +297,5 @@ fn window_since(uuid: u128, place: usize, at: Option<ChangeId>, from: ChangeId) 
 fn in_force_of(uuid: u128, counted: Option<u64>) -> Option<ChangeId>
     ensures { result ≡ in_force_of uuid counted }
 {
-    match counted {
-        Some(seq) if seq != 0 => Some(ChangeId { uuid, seq }),
-        _ => None,
-    }
+    counted_id(uuid, counted.unwrap_or(0))
 }

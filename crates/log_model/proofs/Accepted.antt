@@ -6,6 +6,7 @@ use Rattle.std.proofs.lemmas.List.Sums.{sum_by-append}
 use Rattle.std.proofs.lemmas.List.{append-nil, take_all, drop_all}
 use Rattle.std.proofs.lemmas.List.Elements.{filter-append}
 use Rattle.std.proofs.Math.Seq.{take-append_seam}
+use Rattle.sector_model.specs.Run.{is_within}
 use Rattle.sector_model.specs.declared.sector.Sector.{Sector}
 use Rattle.basics.specs.declared.limits.TheConstants.{MAX_WRITE_SECTORS, MAX_LOGGED_SECTORS}
 use Rattle.log_model.specs.declared.entry.TheConstants.{MAX_LOG_ENTRIES}
@@ -21,7 +22,7 @@ use Rattle.log_model.specs.declared.refusals.WriteRefused.TheVariants.{Off as Of
 use Rattle.log_model.specs.Entry.{sectors_of}
 use Rattle.log_model.specs.Legal.{Disks, all_of, ActsFor, Legal, ActMayStand, OwnerLets, machine_on, owner_of, is_enabled, taken, written, capacity_of}
 use Rattle.log_model.specs.Laws.{FitsBehind, AcceptedMayStand}
-use Rattle.log_model.specs.Refusals.{spent_refusal, snap_refusal, remove_refusal, owner_refusal, may_remove, power_off_refusal, power_on_refusal, reset_refusal, enable_refusal, write_refusal, is_spent, is_known, is_within}
+use Rattle.log_model.specs.Refusals.{spent_refusal, snap_refusal, remove_refusal, owner_refusal, may_remove, power_off_refusal, power_on_refusal, reset_refusal, enable_refusal, write_refusal, is_spent, is_known, is_on_disk}
 use Rattle.basics.specs.Refusal.{IsRefusedOr}
 use Rattle.log_model.specs.Link.{LinkState, IsCall, OnlyReads, AddsAct, log_met, is_by}
 use Rattle.log_model.specs.PlainMachine.{Appends, plain_state}
@@ -101,26 +102,27 @@ write_stands capacities log who disk first sectors h =
     let last : Option WriteRefused =
     cond (ltb MAX_LOGGED_SECTORS (written log + count) || is_spent log) (Some LogFull) None in
     let running = chosen_none (not (machine_on log)) Off_refused
-    (cond (not (is_within capacities disk first count && leb count MAX_WRITE_SECTORS))
+    (cond (not (is_on_disk capacities disk first count && leb count MAX_WRITE_SECTORS))
     (Some OutOfRange) last) h in
     let ranged = chosen_none
-    (not (is_within capacities disk first count && leb count MAX_WRITE_SECTORS)) OutOfRange last
+    (not (is_on_disk capacities disk first count && leb count MAX_WRITE_SECTORS)) OutOfRange last
     running.1 in
     let full = or_parts (ltb MAX_LOGGED_SECTORS (written log + count)) (is_spent log)
     (chosen_none (ltb MAX_LOGGED_SECTORS (written log + count) || is_spent log) LogFull None
     ranged.1).0 in
-    let range = and_parts (is_within capacities disk first count) (leb count MAX_WRITE_SECTORS)
-    (not-false (is_within capacities disk first count && leb count MAX_WRITE_SECTORS) ranged.0)
+    let range = and_parts (is_on_disk capacities disk first count) (leb count MAX_WRITE_SECTORS)
+    (not-false (is_on_disk capacities disk first count && leb count MAX_WRITE_SECTORS) ranged.0)
     in
-    let within = and_parts (is_known capacities disk && leb 1 count)
-    (leb (first + count) (capacity_of capacities disk)) range.0 in
-    let known = and_parts (is_known capacities disk) (leb 1 count) within.0 in (
+    let on_disk = and_parts (is_known capacities disk)
+    (is_within (capacity_of capacities disk) first count) range.0 in
+    let within = and_parts (leb 1 count) (leb (first + count) (capacity_of capacities disk))
+    on_disk.1 in (
       record {
         running = not-false (machine_on log) running.0;
-        some_sectors = leb-true 1 count known.1;
+        some_sectors = leb-true 1 count within.0;
         few_sectors = leb-true count MAX_WRITE_SECTORS range.1;
         within = (
-          ltb-true disk (length capacities) known.0,
+          ltb-true disk (length capacities) on_disk.0,
           leb-true (first + count)
               (capacity_of capacities disk) within.1,
         );

@@ -1,6 +1,6 @@
 -- The next area from a sector on, found sector by sector.
-use Rattle.std.proofs.Common.{◌≡◌, ℕ, ◌+◌, ◌/◌, ◌<◌, ◌≤◌, List, [], ◌∷◌, Bool, true, false, ◌&&◌, ◌||◌, nat_eq, Option, Some, None, refl, ap, ◌∙◌, arith}
-use Rattle.std.specs.List.{list_any, cons_option, range_with_len}
+use Rattle.std.proofs.Common.{◌≡◌, ℕ, ◌+◌, ◌/◌, ◌<◌, ◌≤◌, List, [], ◌∷◌, Bool, false, ◌&&◌, ◌||◌, Option, Some, None, refl, ap, ◌∙◌, arith}
+use Rattle.std.specs.List.{list_any, cons_option}
 use Rattle.std.specs.Option.{option_map_or}
 use Rattle.std.proofs.Math.Bool.{and-true}
 use Rattle.std.proofs.lemmas.Bool.{lt-ltb, le-ltb}
@@ -10,7 +10,7 @@ use Rattle.sector_model.specs.declared.run.Run.{Run}
 use Rattle.sector_model.proofs.Exact.{in_runs_of}
 use Rattle.log_model.specs.declared.entry.Entry.{Entry}
 use Rattle.log_model.specs.Entry.{writes_of, write_to}
-use Rattle.log_model.specs.PlainMachine.{is_touched}
+use Rattle.log_model.specs.Touched.{is_touched}
 use Rattle.sector_model.proofs.Touched.{in_touched, any_below}
 
 -- a test of the writes is one of the entries

@@ -8,7 +8,7 @@ use Rattle.log_model.specs.declared.entry.Act.{Act}
 use Rattle.log_model.specs.declared.entry.Entry.{Entry}
 use Rattle.log_model.specs.declared.refusals.LinkRefused.{LinkRefused}
 use Rattle.log_model.specs.Legal.{Legal, all_of}
-use Rattle.log_model.specs.Link.{LinkState, IsCall, OnlyReads, AddsAct, FollowsFrom, is_by, log_met, entry_if_ok, with_entries, after_act_alone}
+use Rattle.log_model.specs.Link.{LinkState, IsCall, OnlyReads, AddsAct, FollowsFrom, is_by, log_met, entry_if_ok, after_act_alone}
 use Rattle.log_model.specs.Laws.{CallsFollow, ReadsArePart, CallsAlone}
 
 -- ---- a list that begins with another

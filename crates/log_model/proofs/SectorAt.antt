@@ -1,17 +1,18 @@
 -- One sector of what a log leaves.
-use Rattle.std.proofs.Common.{◌≡◌, ℕ, ◌+◌, ◌-◌, ◌<◌, ◌≤◌, List, [], ◌∷◌, length, drop, map, slice_range, Bool, true, false, cond, leb, ◌&&◌, Option, Some, None, unwrap_or, refl, sym, ap, ◌∙◌, arith, length-take, length-drop, inl, inr}
+use Rattle.std.proofs.Common.{◌≡◌, ℕ, ◌+◌, ◌-◌, ◌<◌, ◌≤◌, List, [], ◌∷◌, length, drop, map, slice_range, true, cond, leb, Option, Some, None, unwrap_or, refl, sym, ap, ◌∙◌, arith, length-take, length-drop, inl, inr}
 use Rattle.std.specs.List.{fold, slice_get, range_with_len, AllByRecursion, cons_option}
-use Rattle.std.proofs.lemmas.Bool.{leb-true, ltb-true, le-leb, lt-leb, cases_lt}
+use Rattle.std.proofs.lemmas.Bool.{and_parts, leb-true, ltb-true, le-leb, lt-leb, cases_lt}
 use Rattle.std.proofs.lemmas.Option.{slice_get_past, get_or_from_slice_get, slice_get-get_or}
 use Rattle.std.proofs.lemmas.List.{length-replicate}
 use Rattle.std.proofs.lemmas.List.FromFn.{fill_by_all}
 use Rattle.sector_model.specs.Disk.{Write as Replacement, Fits, after_write, fresh_disk}
+use Rattle.sector_model.specs.Run.{is_within}
 use Rattle.sector_model.specs.Sector.{zero_sector}
 use Rattle.sector_model.specs.declared.sector.Sector.{Sector}
 use Rattle.log_model.specs.declared.entry.Entry.{Entry}
 use Rattle.log_model.specs.Entry.{writes_of, write_to, contents}
 use Rattle.log_model.specs.Legal.{Disks, all_of, HasDisk, Legal, capacity_of}
-use Rattle.log_model.specs.Refusals.{is_within, is_known}
+use Rattle.log_model.specs.Refusals.{is_on_disk, is_known}
 use Rattle.log_model.specs.PlainMachine.{sector_at, sector_after, sector_of_write}
 use Rattle.basics.proofs.ItemAt.{slice_get-take, slice_get-drop, slice_get-replicate}
 use Rattle.basics.proofs.Replaced.{length-replaced, replaced-before, replaced-within, replaced-behind}
@@ -76,20 +77,16 @@ sector_at_is disks c d s log has legal less =
     reads_on c d s log (fresh_disk c) zero_sector (length-replicate c zero_sector)
     (writes_fit disks c d log has legal) (slice_get-replicate c s zero_sector less)
 
-and_parts : (a b e : Bool) → (a && b && e) ≡ true → (a ≡ true) × (e ≡ true)
-and_parts true true e h = (refl, h)
-and_parts true false e h = absurd (cc)
-and_parts false b e h = absurd (cc)
-
 pub read_is : (capacities : List ℕ) (d first count : ℕ) (log : List Entry)
-    → Legal (all_of capacities) log → is_within capacities d first count ≡ true
+    → Legal (all_of capacities) log → is_on_disk capacities d first count ≡ true
     → map (λ i. sector_at d (first + i) log) (range_with_len 0 count)
     ≡ slice_range (contents (capacity_of capacities d) d log) first (first + count)
 read_is capacities d first count log legal within =
     let c : ℕ = capacity_of capacities d in
     let disk : List Sector = contents c d log in
-    let parts = and_parts (is_known capacities d) (leb 1 count) (leb (first + count) c) within in
-    let has : HasDisk (all_of capacities) d c = (ltb-true d (length capacities) parts.0, refl) in
+    let on_disk = and_parts (is_known capacities d) (is_within c first count) within in
+    let parts = and_parts (leb 1 count) (leb (first + count) c) on_disk.1 in
+    let has : HasDisk (all_of capacities) d c = (ltb-true d (length capacities) on_disk.0, refl) in
     let long : length disk ≡ c = length-contents (all_of capacities) c d log legal has in
     let fits : first + count ≤ c = leb-true (first + count) c parts.1 in
     let n : length (slice_range disk first (first + count)) ≡ count =

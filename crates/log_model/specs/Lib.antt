@@ -6,6 +6,7 @@ pub mod Touched
 pub mod Query
 pub mod Refusals
 pub mod Link
+pub mod Machine
 pub mod PlainMachine
 pub mod SmallLog
 pub mod MayStand

@@ -1,13 +1,10 @@
 -- Words of the plain machine's own steps: each says of a log what one pass over it finds. They are
 -- no promise of the crate, but for `plain_state` and `with_entry`, which say what a plain machine
 -- is.
-use Rattle.std.specs.Prelude.{◌≡◌, ℕ, ◌+◌, ◌-◌, ◌/◌, ◌==◌, ◌&&◌, length, take, List, [], ◌∷◌, ◌++◌, Bool, true, false, nat_le, Option, Some, None, unwrap_or, slice_get, Result, Ok, Err, if◌then◌else◌}
-use Rattle.std.specs.List.{fold, find, list_any, filter, range_with_len}
-use Rattle.std.specs.Option.{option_map_or}
+use Rattle.std.specs.Prelude.{◌≡◌, ℕ, ◌+◌, ◌-◌, ◌==◌, ◌&&◌, length, take, List, [], ◌∷◌, ◌++◌, true, nat_le, Option, Some, None, unwrap_or, slice_get, Result, Ok, Err, if◌then◌else◌}
+use Rattle.std.specs.List.{fold, find, filter, range_with_len}
 use Rattle.sector_model.specs.Disk.{Write as Replacement}
-use Rattle.sector_model.specs.Run.{touches}
 use Rattle.sector_model.specs.Sector.{zero_sector}
-use Rattle.sector_model.specs.declared.run.TheConstants.{BLOCK_SECTORS}
 use Rattle.sector_model.specs.declared.sector.Sector.{Sector}
 use Rattle.log_model.specs.declared.entry.Entry.{Entry}
 use Rattle.log_model.specs.Entry.{write_to}
@@ -26,15 +23,6 @@ sector_after disk at sector e = sector_of_write at sector (write_to disk e.act)
 -- what the log leaves of a sector of the disk
 abbrev pub sector_at : (disk at : ℕ) → List Entry → Sector
 sector_at disk at log = fold (sector_after disk at) zero_sector log
-
--- the entry touches the block of a sector of the disk
-abbrev pub entry_touches : (disk sector : ℕ) → Entry → Bool
-entry_touches disk sector e =
-    option_map_or (touches (sector / BLOCK_SECTORS)) (write_to disk e.act) false
-
--- an entry of the log does
-abbrev pub is_touched : (disk sector : ℕ) → List Entry → Bool
-is_touched disk sector log = list_any (entry_touches disk sector) log
 
 -- the place whose entry gives the disk this number in the epoch that it has now: for an identifier
 -- that is accepted, the mark of the snapshot that has it

@@ -1,6 +1,7 @@
 -- Why a call is refused at a log, its reasons in order. None stands where the call is accepted.
 -- Want of memory is no reason here: it may come where no other one stands.
 use Rattle.std.specs.Prelude.{ℕ, ◌+◌, ◌==◌, List, length, Bool, true, false, not, ◌&&◌, ◌||◌, nat_lt, nat_le, Option, Some, None, is_some, Result, Ok, Err, if◌then◌else◌}
+use Rattle.sector_model.specs.Run.{is_within}
 use Rattle.sector_model.specs.declared.run.Run.{Run}
 use Rattle.change_id.specs.declared.ChangeId.{ChangeId}
 use Rattle.change_id.specs.declared.Since.{Since}
@@ -92,17 +93,16 @@ query_refusal machine capacities snapshot disk since start log =
     else strange_refusal
     (changed_areas machine (capacity_of capacities disk) disk snapshot since log)
 
--- `count` sectors from `first` on are some, and lie within the disk
-abbrev pub is_within : (capacities : List ℕ) (disk first count : ℕ) → Bool
-is_within capacities disk first count =
-    is_known capacities disk && nat_le 1 count
-    && nat_le (first + count) (capacity_of capacities disk)
+-- the disk is known, and `count` sectors from `first` on are some, and lie within it
+abbrev pub is_on_disk : (capacities : List ℕ) (disk first count : ℕ) → Bool
+is_on_disk capacities disk first count =
+    is_known capacities disk && is_within (capacity_of capacities disk) first count
 
 abbrev pub read_refusal : (capacities : List ℕ) (snapshot disk first count : ℕ) → List Entry
     → Option LinkRefused
 read_refusal capacities snapshot disk first count log =
     if not (is_live snapshot log) then Some UnknownSnap
-    else if not (is_within capacities disk first count) then Some Range else None
+    else if not (is_on_disk capacities disk first count) then Some Range else None
 
 abbrev pub power_off_refusal : List Entry → Option LinkRefused
 power_off_refusal log = if machine_on log then spent_refusal log else Some AlreadyOff
@@ -122,7 +122,7 @@ abbrev pub write_refusal : (capacities : List ℕ) (disk first count : ℕ) → 
     → Option WriteRefused
 write_refusal capacities disk first count log =
     if not (machine_on log) then Some Off
-    else if not (is_within capacities disk first count && nat_le count MAX_WRITE_SECTORS)
+    else if not (is_on_disk capacities disk first count && nat_le count MAX_WRITE_SECTORS)
     then Some OutOfRange
     else if nat_lt MAX_LOGGED_SECTORS (written log + count) || is_spent log
     then Some LogFull else None

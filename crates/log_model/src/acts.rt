@@ -7,7 +7,7 @@ ghost use Rattle.log_model.specs.Refusals.{spent_refusal, snap_refusal, may_remo
 ghost use Rattle.log_model.specs.PlainMachine.{Appends};
 
 use crate::folds::{is_enabled, last_off, machine_on, owner_of, taken, written};
-use crate::query::is_within;
+use crate::query::is_on_disk;
 use crate::{
     Act, Entry, LinkRefused, MAX_LOG_ENTRIES, MIGRATION_CALLER, Owner, Snapped, WriteRefused,
 };
@@ -174,7 +174,7 @@ pub fn write(
     if !machine_on(log) {
         return Err(WriteRefused::Off);
     }
-    if !is_within(capacities, disk, first, count) || count > MAX_WRITE_SECTORS {
+    if !is_on_disk(capacities, disk, first, count) || count > MAX_WRITE_SECTORS {
         return Err(WriteRefused::Range);
     }
     if written(log) + count > MAX_LOGGED_SECTORS || log.len() >= MAX_LOG_ENTRIES {

@@ -30,7 +30,7 @@ pub use link::{Facts, Link, Snapped};
 pub use may_stand::may_stand_alone;
 pub use plain_machine::PlainMachine;
 pub use query::{
-    accepts, answer_page, before, between, entry_touches, in_force, is_touched, is_within,
+    accepts, answer_page, before, between, entry_touches, in_force, is_on_disk, is_touched,
     read_into, sector_at, since_place, through,
 };
 pub use refusals::{LinkRefused, WriteRefused};

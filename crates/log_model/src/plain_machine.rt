@@ -10,7 +10,7 @@ ghost use Rattle.log_model.specs.PlainMachine.{plain_state, with_entry};
 
 use crate::folds::{facts_of, least_owned, mark, owner_of};
 use crate::query::{
-    answer_page, before, between, capacity_past, in_force, is_within, read_into, since_place,
+    answer_page, before, between, capacity_past, in_force, is_on_disk, read_into, since_place,
     through,
 };
 use crate::{Entry, Facts, Link, LinkRefused, Owner, Snapped, WriteRefused, acts};
@@ -154,7 +154,7 @@ impl Link for PlainMachine {
         if owner_of(log, id).is_none() {
             return Err(LinkRefused::UnknownSnap);
         }
-        if !is_within(self.capacities.as_slice(), disk, first, buf.len() as u64) {
+        if !is_on_disk(self.capacities.as_slice(), disk, first, buf.len() as u64) {
             return Err(LinkRefused::Range);
         }
         read_into(before(log, id), disk, first, buf);

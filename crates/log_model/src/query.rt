@@ -6,14 +6,14 @@ ghost use Rattle.sector_model.specs.Page.{page_from};
 ghost use Rattle.log_model.specs.Entry.{writes_of};
 ghost use Rattle.log_model.specs.Legal.{capacity_of};
 ghost use Rattle.log_model.specs.Marks.{mark, before, through, in_force};
-ghost use Rattle.log_model.specs.Touched.{between, touched_areas};
+ghost use Rattle.log_model.specs.Touched.{between, touched_areas, entry_touches, is_touched};
 ghost use Rattle.log_model.specs.Query.{changed_areas, accepts};
-ghost use Rattle.log_model.specs.Refusals.{is_known, is_within};
-ghost use Rattle.log_model.specs.PlainMachine.{numbered_place, sector_after, sector_at, entry_touches, is_touched};
+ghost use Rattle.log_model.specs.Refusals.{is_known, is_on_disk};
+ghost use Rattle.log_model.specs.PlainMachine.{numbered_place, sector_after, sector_at};
 
 use crate::folds::{epoch, mark, number};
 use crate::{Act, Entry, LinkRefused};
-use change_id::{ChangeId, Since, pack};
+use change_id::{ChangeId, Since, counted_id, pack};
 use sector_model::{BLOCK_SECTORS, PAGE_AREAS, Page, Run, Sector};
 
 /// The entries before the one that takes the snapshot.
@@ -35,12 +35,8 @@ pub fn through(log: &[Entry], snapshot: u32) -> &[Entry]
 pub fn in_force(machine: u32, log: &[Entry], disk: u32) -> Option<ChangeId>
     ensures { result ≡ in_force machine disk log.now }
 {
-    let seq = number(log, disk);
-    if seq == 0 {
-        return None;
-    }
     let uuid = pack(machine, disk, epoch(log, disk));
-    Some(ChangeId { uuid, seq })
+    counted_id(uuid, number(log, disk))
 }
 
 /// Whether a query of the snapshot accepts the identifier.
@@ -92,8 +88,8 @@ pub fn capacity_past(capacities: &[u64], disk: u32, start: u64) -> Result<u64, L
 }
 
 /// Whether the sectors are some, and lie on a known disk.
-pub fn is_within(capacities: &[u64], disk: u32, first: u64, count: u64) -> bool
-    ensures within { result ≡ is_within capacities.now disk first count }
+pub fn is_on_disk(capacities: &[u64], disk: u32, first: u64, count: u64) -> bool
+    ensures within { result ≡ is_on_disk capacities.now disk first count }
     ensures fits { IsTrue result → first + count < 2 ^ 64 }
 {
     match capacities.get(disk as usize) {

@@ -3,19 +3,19 @@ use Rattle.std.proofs.Common.{◌≡◌, ℕ, ◌+◌, List, [], ◌∷◌, ◌+
 use Rattle.std.specs.List.{slice_get}
 use Rattle.std.specs.Slice.{IsItemAt}
 use Rattle.std.proofs.lemmas.Bool.{false≢true, lt-ltb}
-use Rattle.std.proofs.lemmas.List.{append-nil, take_all, drop_all}
+use lib.Seq.{take-append_seam}
 use Rattle.std.proofs.lemmas.Option.{none-some, slice_get_read, slice_get_within}
 use Rattle.basics.specs.Refusal.{IsRefusedBy}
 use Rattle.snapshot_chain.specs.declared.chain.ChainRefused.{ChainRefused}
 use Rattle.snapshot_chain.specs.declared.chain.ChainRefused.TheVariants.{Range as ChainRange}
-use Rattle.sector_model.specs.Run.{is_within as lies_within}
+use Rattle.sector_model.specs.Run.{is_within}
 use Rattle.log_model.specs.declared.entry.Act.{Act}
 use Rattle.log_model.specs.declared.entry.Entry.{Entry}
 use Rattle.log_model.specs.declared.refusals.LinkRefused.{LinkRefused}
 use Rattle.log_model.specs.Legal.{Legal, all_of, capacity_of}
 use Rattle.log_model.specs.Laws.{FitsBehind}
 use Rattle.log_model.specs.Link.{AddsAct, log_met}
-use Rattle.log_model.specs.Refusals.{is_known, is_within}
+use Rattle.log_model.specs.Refusals.{is_known, is_on_disk}
 use Rattle.log_model.proofs.LegalLogs.{legal_grows, legal_front, legal_grew}
 use Rattle.log_model.proofs.Accepted.{plain_adds, log_before}
 use Rattle.source_disk.specs.SourceDisk.{SourceDiskState, capacity_of as size_of}
@@ -80,8 +80,8 @@ sound_after number log roomy pushed who act old new is pushes fits sound takes =
 pub all_back : (len : ℕ) (items new : List SourceDiskState) → length new ≡ length items
     → length items ≡ len → take len (new ++ drop (length new) items) ≡ new
 all_back len items new same is =
-    ap (λ xs. take len (new ++ xs)) (drop_all (length new) items (omega (arith, same)))
-    ∙ ap (take len) (append-nil new) ∙ take_all len new (omega (arith, same, is))
+    ap (λ n. take n (new ++ drop (length new) items)) (sym (same ∙ is))
+    ∙ take-append_seam new (drop (length new) items)
 
 -- the disk that was found stands at its place
 pub disk_at : (disks : List SourceDiskState) (place : ℕ) (r : Option (Bor SourceDiskState))
@@ -101,9 +101,9 @@ known_at machine capacities log disks place d are at =
 
 pub lies_as : (capacities : List ℕ) (place first count : ℕ) (d : SourceDiskState)
     → is_known capacities place ≡ true → size_of d ≡ capacity_of capacities place
-    → is_within capacities place first count ≡ lies_within (size_of d) first count
+    → is_on_disk capacities place first count ≡ is_within (size_of d) first count
 lies_as capacities place first count d known size =
-    (λ i. (known i && leb 1 count) && leb (first + count) (sym size i)) ∙ refl
+    (λ i. known i && is_within (sym size i) first count) ∙ refl
 
 -- a read that is accepted lies within the disk, and one that isn't doesn't
 pub read_within : {T : Type 0} (within : Bool) (r : Result T ChainRefused)

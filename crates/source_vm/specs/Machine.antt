@@ -7,11 +7,8 @@ use Rattle.log_model.specs.declared.entry.Act.{Act}
 use Rattle.log_model.specs.declared.entry.Entry.{Entry}
 use Rattle.log_model.specs.Link.{LinkState}
 use Rattle.log_model.specs.PlainMachine.{plain_state}
-
-pub record MachineState : Type 0 where
-  pub number : ℕ
-  pub capacities : List ℕ
-  pub log : List Entry
+-- the record of a machine
+pub use Rattle.log_model.specs.Machine.{MachineState}
 
 -- a disk may have this capacity, in sectors
 abbrev pub is_capacity : (capacity : ℕ) → Bool

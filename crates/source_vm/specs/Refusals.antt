@@ -4,12 +4,12 @@ use Rattle.change_tracker.specs.declared.refusals.TrackRefused.{TrackRefused}
 use Rattle.change_tracker.specs.declared.refusals.TrackRefused.TheVariants.{UnknownSnap as NotKnown, Range as Outside, Strange as NotOurs, NoMemory as NoRoom}
 use Rattle.log_model.specs.declared.refusals.LinkRefused.{LinkRefused}
 use Rattle.log_model.specs.declared.refusals.LinkRefused.TheVariants.{UnknownSnap, Strange, Range, NoMemory}
-use Rattle.log_model.specs.Refusals.{is_within}
+use Rattle.log_model.specs.Refusals.{is_on_disk}
 
 -- why what a disk holds now isn't read
 abbrev pub read_now_refusal : (capacities : List ℕ) (disk first count : ℕ) → Option LinkRefused
 read_now_refusal capacities disk first count =
-    if is_within capacities disk first count then None else Some Range
+    if is_on_disk capacities disk first count then None else Some Range
 
 -- what a machine refuses where one of its disks does
 abbrev pub link_refused : TrackRefused → LinkRefused

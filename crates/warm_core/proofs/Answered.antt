@@ -1,10 +1,8 @@
 -- What a query answers a stage: the areas that it asks for, or that it has to become a full one.
-use Rattle.std.proofs.Common.{◌≡◌, ℕ, ◌<◌, ◌≤◌, ◌^◌, List, take, Bool, true, false, Option, Some, None, Result, Ok, Err, IsErr, refl, sym, ap, subst, ◌∙◌, arith, ◌⊎◌, inl, inr, IsSome}
-use Rattle.std.specs.List.{All}
+use Rattle.std.proofs.Common.{◌≡◌, ℕ, ◌≤◌, List, take, Bool, true, false, Option, Some, None, Result, Ok, Err, IsErr, refl, sym, ap, subst, ◌∙◌, inl, inr, IsSome}
 use Rattle.std.proofs.lemmas.Bool.{cases_eq, false≢true}
 use Rattle.std.proofs.lemmas.List.Elements.{All-from_recursion}
 use Rattle.sector_model.specs.Run.{end_of, in_blocks, areas_of}
-use Rattle.sector_model.specs.Page.{page_from, LiesWithin}
 use Rattle.sector_model.specs.declared.run.Run.{Run}
 use Rattle.sector_model.proofs.Spacing.{runs_of-spaced}
 use Rattle.sector_model.proofs.PageWithin.{page_lies_within}
@@ -14,9 +12,9 @@ use Rattle.log_model.specs.declared.link.Snapped.{Snapped}
 use Rattle.log_model.specs.Marks.{epoch, mark, in_force}
 use Rattle.log_model.specs.Touched.{touched_areas}
 use Rattle.warm_core.specs.declared.disk_world.Base.{Base}
-use Rattle.warm_core.specs.Staged.{is_unfinished, since_mark, blocks_asked, answer, HasToBeFull, IsForgotten}
-use Rattle.warm_core.specs.Laws.{IsGround, IsAnswered, AnswersTell, StagesAreAnswered}
-use Rattle.warm_core.proofs.Answering.{answers-between, answer-not-err}
+use Rattle.warm_core.specs.Staged.{is_unfinished, blocks_asked, answer, HasToBeFull}
+use Rattle.warm_core.specs.Laws.{IsGround, IsAnswered, StagesAreAnswered}
+use Rattle.warm_core.proofs.Answering.{answers-between}
 
 -- the mark of a ground's snapshot is what the log says
 at-mark : (machine c d : ℕ) (log : List Entry) (base : Option Base) (snap : Snapped) (from : ℕ)

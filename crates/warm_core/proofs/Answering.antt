@@ -1,13 +1,10 @@
 -- What a query answers a stage, and what later entries leave of what it asks for.
-use Rattle.std.proofs.Common.{◌≡◌, ℕ, ◌+◌, ◌<◌, ◌≤◌, ◌^◌, List, [], ◌∷◌, ◌++◌, length, take, Bool, true, false, Option, Some, None, Ok, Err, refl, sym, ap, subst, ◌∙◌, arith, inl, inr, IsSome}
-use Rattle.std.proofs.lemmas.Bool.{cases_eq, false≢true}
+use Rattle.std.proofs.Common.{◌≡◌, ℕ, ◌<◌, ◌≤◌, ◌^◌, List, ◌++◌, length, Bool, true, false, Option, Some, None, Ok, Err, refl, sym, ap, ◌∙◌, arith, IsSome}
 use Rattle.sector_model.specs.declared.run.Run.{Run}
-use Rattle.sector_model.specs.declared.sector.Sector.{Sector}
 use Rattle.change_id.specs.declared.ChangeId.{ChangeId}
 use Rattle.log_model.specs.declared.entry.Entry.{Entry}
 use Rattle.log_model.specs.declared.link.Snapped.{Snapped}
-use Rattle.log_model.specs.Legal.{Legal, only}
-use Rattle.log_model.specs.Marks.{epoch, mark}
+use Rattle.log_model.specs.Marks.{mark}
 use Rattle.log_model.specs.Touched.{touched_areas}
 use Rattle.log_model.specs.Laws.{AnswersBetween, AreAreas}
 use Rattle.log_model.proofs.AnswerLaws.{ids_answer_between}

@@ -1,19 +1,17 @@
 -- What the entries say of the blocks that a stage asks for.
-use Rattle.std.proofs.Common.{◌≡◌, ℕ, ◌+◌, ◌-◌, ◌/◌, ◌<◌, ◌≤◌, List, [], ◌∷◌, Bool, true, false, ◌||◌, ◌&&◌, nat_eq, refl, sym, ap, ◌∙◌, arith, ◌⊎◌, inl, inr, IsTrue}
-use Rattle.std.specs.List.{list_any, range_with_len}
+use Rattle.std.proofs.Common.{◌≡◌, ℕ, ◌+◌, ◌-◌, ◌/◌, ◌<◌, ◌≤◌, List, Bool, true, false, ◌||◌, refl, sym, ap, ◌∙◌, arith, inl, inr, IsTrue}
+use Rattle.std.specs.List.{list_any}
 use Rattle.std.specs.Option.{option_map_or}
 use Rattle.std.specs.Bool.{MatchBool}
 use Rattle.std.proofs.lemmas.Bool.{cases_eq, false≢true}
-use Rattle.sector_model.specs.Run.{end_of, in_blocks, touches, block_count}
+use Rattle.sector_model.specs.Run.{end_of, in_blocks, touches}
 use Rattle.sector_model.specs.declared.run.Run.{Run}
-use Rattle.sector_model.proofs.Touched.{in_touched, any_below}
 use Rattle.log_model.specs.declared.entry.Entry.{Entry}
-use Rattle.log_model.specs.Entry.{writes_of, write_to}
-use Rattle.log_model.specs.PlainMachine.{is_touched}
+use Rattle.log_model.specs.Entry.{write_to}
+use Rattle.log_model.specs.Touched.{is_touched}
 use Rattle.log_model.proofs.AreaLemmas.{in_touched_blocks}
 use Rattle.warm_core.specs.declared.stage_state.StageState.{StageState}
-use Rattle.warm_core.specs.StageState.{has_to_write}
-use Rattle.warm_core.specs.Asked.{blocks_in, AreMet, AreMissed, AllAsked, NoneAsked, NothingLeft}
+use Rattle.warm_core.specs.Asked.{blocks_in, AreMet, AreMissed, AllAsked, NothingLeft}
 
 pub in-asked : (c d s : ℕ) (entries : List Entry) → s < c
     → in_blocks (blocks_in c d entries) s ≡ is_touched d s entries

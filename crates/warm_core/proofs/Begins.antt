@@ -1,21 +1,19 @@
 -- What a stage that begins leaves of a sound world.
-use Rattle.std.proofs.Common.{◌≡◌, ℕ, ◌+◌, ◌<◌, ◌≤◌, ◌==◌, ◌^◌, List, [], ◌∷◌, length, Bool, true, false, not, cond, ◌||◌, eqb, Option, Some, None, refl, sym, ap, subst, ◌∙◌, arith, ◌⊎◌, inl, inr, IsSome}
-use Rattle.std.specs.Option.{is_some, is_none, IsSomeAnd, IfSome}
+use Rattle.std.proofs.Common.{◌≡◌, ℕ, ◌<◌, ◌≤◌, List, [], Bool, true, false, not, cond, Option, Some, None, refl, sym, ap, subst, ◌∙◌, arith, inl, inr}
+use Rattle.std.specs.Option.{is_none, IfSome}
 use Rattle.std.proofs.lemmas.Bool.{false_from_ne_true, false≢true, ne_eqb, or_left}
 use Rattle.std.proofs.lemmas.Option.{same_Some, none-some}
 use Rattle.sector_model.specs.Run.{in_blocks}
-use Rattle.sector_model.specs.VolumeContents.{VolumeContents}
 use Rattle.log_model.specs.declared.entry.Entry.{Entry}
 use Rattle.log_model.specs.declared.link.Snapped.{Snapped}
 use Rattle.log_model.specs.Legal.{only, owner_of}
-use Rattle.log_model.specs.Marks.{mark}
 use Rattle.log_model.specs.Touched.{touched}
 use Rattle.log_model.proofs.SnapMarks.{live_was_taken}
 use Rattle.log_model.proofs.TouchedLaws.{touched_joins}
 use Rattle.warm_core.specs.declared.disk_world.Base.{Base}
 use Rattle.warm_core.specs.declared.stage_state.StageState.{StageState}
 use Rattle.warm_core.specs.StageState.{begun}
-use Rattle.warm_core.specs.Staged.{is_unfinished, open_blocks, IsOnBase, IsForgotten, Staged}
+use Rattle.warm_core.specs.Staged.{is_unfinished, open_blocks, Staged}
 use Rattle.warm_core.specs.World.{World, IsSnapOf, IsLive, StageIsSound, IsSound}
 use Rattle.warm_core.specs.Events.{MayBegin, snapped_of}
 use Rattle.warm_core.specs.Laws.{StageStands, LaterSnapshotsStay}

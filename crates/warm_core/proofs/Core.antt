@@ -1,14 +1,8 @@
 -- The law of the core: whatever happens to a sound world, and in a row.
-use Rattle.std.proofs.Common.{◌≡◌, ℕ, ◌+◌, ◌<◌, ◌≤◌, ◌^◌, List, [], ◌∷◌, ◌++◌, length, take, Bool, true, false, ◌||◌, Option, Some, None, refl, sym, ap, subst, ◌∙◌, arith, ◌⊎◌, inl, inr, length-append}
-use Rattle.std.specs.List.{list_any}
-use Rattle.std.specs.Option.{option_map, option_and_then, is_none}
+use Rattle.std.proofs.Common.{◌≡◌, ℕ, ◌<◌, ◌≤◌, ◌^◌, List, [], ◌∷◌, ◌++◌, length, take, Option, Some, None, refl, sym, ap, subst, ◌∙◌, arith, inl, inr, length-append}
 use Rattle.std.proofs.lemmas.Option.{none-some}
 use Rattle.std.proofs.lemmas.List.{take-append-le, take_all, take-take}
 use Rattle.std.proofs.Math.Bool.{or-false}
-use Rattle.sector_model.specs.Run.{end_of}
-use Rattle.sector_model.specs.VolumeContents.{VolumeContents, volume_stopped, volume_flushed, volume_zeroed}
-use Rattle.sector_model.specs.declared.run.Run.{Run}
-use Rattle.change_id.specs.declared.ChangeId.{ChangeId}
 use Rattle.log_model.specs.declared.entry.Entry.{Entry}
 use Rattle.log_model.specs.declared.link.Snapped.{Snapped}
 use Rattle.log_model.specs.Entry.{removes, contents}
@@ -17,11 +11,11 @@ use Rattle.warm_core.specs.declared.event.Event.{Event}
 use Rattle.warm_core.specs.declared.event.Event.TheVariants.{Machine, Begin, PageAnswered, PageRefused, Copied, Zeroed, Flushed, StageDone, Stop, Restart, Cancel, Complete}
 use Rattle.warm_core.specs.declared.stage_state.StageState.{StageState}
 use Rattle.warm_core.specs.Staged.{disk_at, with_copy}
-use Rattle.warm_core.specs.World.{World, IsCompleteAt, IsSound}
+use Rattle.warm_core.specs.World.{World, IsSound}
 use Rattle.warm_core.specs.StageState.{with_page, with_piece}
-use Rattle.warm_core.specs.Events.{MayHappen, after, at_stage, by_stage, base_of, answer_now, page_end_of, Steps, Follows}
+use Rattle.warm_core.specs.Events.{MayHappen, after, at_stage, base_of, answer_now, page_end_of, Steps, Follows}
 use Rattle.warm_core.specs.Events.{MayAdd}
-use Rattle.warm_core.specs.Laws.{EventsKeepSound, MayAddAll, StaysComplete, GoesOn, LawOfTheCore}
+use Rattle.warm_core.specs.Laws.{EventsKeepSound, MayAddAll, LawOfTheCore}
 use Rattle.warm_core.proofs.Worlds.{answered-sound, refused-sound, copied-sound, zeroed-sound, flushed-sound, done-sound}
 use Rattle.warm_core.proofs.Begins.{begun-sound}
 use Rattle.warm_core.proofs.Entries.{entries_keep_sound, complete-within}

@@ -1,9 +1,8 @@
 -- How many sectors blocks have below a sector.
-use Rattle.std.proofs.Common.{◌≡◌, ℕ, zero, suc, ◌+◌, ◌-◌, ◌<◌, ◌≤◌, List, [], ◌∷◌, Bool, true, false, cond, eqb, refl, sym, ap, subst, ◌∙◌, arith, inl, inr}
+use Rattle.std.proofs.Common.{◌≡◌, ℕ, zero, suc, ◌+◌, ◌-◌, ◌<◌, ◌≤◌, List, [], ◌∷◌, Bool, true, false, cond, eqb, ap, subst, ◌∙◌, arith}
 use Rattle.std.specs.List.{sum_by}
 use Rattle.std.proofs.lemmas.List.Sums.{sum_by-cons}
-use Rattle.std.proofs.lemmas.Bool.{cases_lt}
-use Rattle.sector_model.specs.Run.{end_of, in_blocks, with_sector, runs_of, areas_of}
+use Rattle.sector_model.specs.Run.{end_of, in_blocks, with_sector, runs_of}
 use Rattle.sector_model.specs.declared.run.Run.{Run}
 use Rattle.warm_core.specs.StageState.{sectors_below}
 

@@ -1,23 +1,21 @@
 -- What a stop, a restart, a cancel and a completion leave of a sound world.
-use Rattle.std.proofs.Common.{◌≡◌, ℕ, zero, suc, ◌<◌, ◌≤◌, ◌==◌, List, [], ◌∷◌, length, take, replicate, Bool, true, false, not, cond, eqb, Option, Some, None, refl, sym, ap, subst, ◌∙◌, arith, ◌⊎◌, inl, inr, IsSome, slice_index_or}
-use Rattle.std.specs.List.{slice_get}
-use Rattle.std.specs.Option.{is_some, IsSomeAnd, option_and_then}
+use Rattle.std.proofs.Common.{◌≡◌, ℕ, suc, List, [], ◌∷◌, length, replicate, Bool, true, false, not, cond, Option, Some, None, refl, sym, ap, subst, ◌∙◌, ◌⊎◌, inl, inr, slice_index_or}
+use Rattle.std.specs.Option.{IsSomeAnd, option_and_then}
 use Rattle.std.proofs.lemmas.Bool.{false≢true, eq-eqb}
-use Rattle.std.proofs.lemmas.Option.{same_Some, none-some}
+use Rattle.std.proofs.lemmas.Option.{none-some}
 use Rattle.sector_model.specs.VolumeContents.{VolumeContents, IsSized, IsFlushed, is_loose, volume_stopped}
 use Rattle.sector_model.specs.declared.sector.Sector.{Sector}
 use Rattle.sector_model.proofs.Volumes.{keep_their_size, stop_leaves_flushed, stop_leaves_others}
 use Rattle.log_model.specs.declared.entry.Entry.{Entry}
 use Rattle.log_model.specs.declared.link.Snapped.{Snapped}
 use Rattle.log_model.specs.Legal.{Legal, only}
-use Rattle.log_model.specs.Entry.{contents}
 use Rattle.log_model.specs.Touched.{touched}
 use Rattle.sector_model.specs.Run.{in_blocks}
 use Rattle.log_model.proofs.OffLaws.{off_is_frozen}
 use Rattle.warm_core.specs.declared.disk_world.Base.{Base}
 use Rattle.warm_core.specs.declared.stage_state.StageState.{StageState}
 use Rattle.warm_core.specs.Staged.{is_unfinished, IsBaseOf, open_blocks, disk_at, IsOnBase, Staged, IsFullCopy}
-use Rattle.warm_core.specs.World.{World, IsLive, MayLose, IsCompleteAt, StageIsSound, IsSound}
+use Rattle.warm_core.specs.World.{World, MayLose, IsCompleteAt, IsSound}
 use Rattle.warm_core.specs.Events.{MayComplete}
 use Rattle.warm_core.specs.Laws.{FinishedIsWhole, WholeAtOffPlace, FinishedSnapshotsGo}
 use Rattle.basics.proofs.ItemAt.{same_items}

@@ -1,5 +1,5 @@
 -- What entries of the machine's log leave of a sound world.
-use Rattle.std.proofs.Common.{◌≡◌, ℕ, ◌+◌, ◌<◌, ◌≤◌, ◌^◌, List, [], ◌∷◌, ◌++◌, length, take, Bool, true, false, cond, ◌||◌, eqb, Option, Some, None, refl, sym, ap, subst, ◌∙◌, arith, ◌⊎◌, inl, inr, IsSome, length-append}
+use Rattle.std.proofs.Common.{◌≡◌, ℕ, ◌<◌, ◌≤◌, List, [], ◌∷◌, ◌++◌, length, Bool, true, false, cond, eqb, Option, Some, None, refl, sym, subst, ◌∙◌, arith, ◌⊎◌, inl, inr, IsSome, length-append}
 use Rattle.std.specs.List.{list_any, fold}
 use Rattle.std.specs.Option.{IsSomeAnd}
 use Rattle.std.proofs.lemmas.Bool.{false≢true, or_parts}
@@ -14,20 +14,18 @@ use Rattle.log_model.specs.declared.link.Snapped.{Snapped}
 use Rattle.log_model.specs.Entry.{removes}
 use Rattle.log_model.specs.Legal.{owner_of, owner_after, owner_after_act, machine_on}
 use Rattle.log_model.specs.Marks.{mark, before, id_at, HasId}
-use Rattle.log_model.specs.Frozen.{last_off, off_place}
+use Rattle.log_model.specs.Frozen.{last_off}
 use Rattle.log_model.specs.Laws.{HasOffPlace}
 use Rattle.log_model.proofs.Later.{later_entries_keep}
 use Rattle.log_model.proofs.LegalLogs.{length-take-le}
 use Rattle.log_model.proofs.Readings.{marks_of_ids}
 use Rattle.log_model.proofs.OffPlace.{off_has_place}
-use Rattle.warm_core.specs.declared.disk_world.Base.{Base}
-use Rattle.warm_core.specs.declared.stage_state.StageState.{StageState}
-use Rattle.warm_core.specs.Staged.{is_unfinished, disk_at}
-use Rattle.warm_core.specs.World.{World, IsSnapOf, IsLive, MayLose, IsCompleteAt, StageIsSound, IsSound}
+use Rattle.warm_core.specs.Staged.{is_unfinished}
+use Rattle.warm_core.specs.World.{World, IsSnapOf, IsLive, MayLose, IsCompleteAt, IsSound}
 use Rattle.warm_core.specs.Laws.{MayAddAll, EntriesKeepSound, GroundsStay}
 use Rattle.warm_core.proofs.Answering.{disk_at-later, asked-later, mark-within}
 use Rattle.warm_core.proofs.Stages.{later-stands, staged-later}
-use Rattle.warm_core.proofs.Worlds.{some-parts, ground-of, stands-of}
+use Rattle.warm_core.proofs.Worlds.{ground-of, stands-of}
 
 -- ---- one fact of a snapshot or a base
 

@@ -1,5 +1,5 @@
 -- Events in a row, one more behind them.
-use Rattle.std.proofs.Common.{◌≡◌, List, [], ◌∷◌, ◌++◌, refl, sym, subst}
+use Rattle.std.proofs.Common.{List, [], ◌∷◌, ◌++◌, refl, subst}
 use Rattle.warm_core.specs.declared.event.Event.{Event}
 use Rattle.warm_core.specs.World.{World}
 use Rattle.warm_core.specs.Events.{Steps, Follows}

@@ -1,5 +1,5 @@
 -- What writes, fillings and broken writes leave of a volume that stands on a base.
-use Rattle.std.proofs.Common.{◌≡◌, ℕ, ◌+◌, ◌-◌, ◌<◌, ◌≤◌, List, [], ◌∷◌, length, replicate, slice_index_or, Bool, true, false, cond, ◌||◌, ◌&&◌, leb, ltb, Option, Some, None, refl, sym, ap, subst, ◌∙◌, arith, ◌⊎◌, inl, inr}
+use Rattle.std.proofs.Common.{◌≡◌, ℕ, ◌+◌, ◌-◌, ◌<◌, ◌≤◌, List, [], length, replicate, slice_index_or, Bool, true, false, cond, ◌||◌, ◌&&◌, leb, ltb, Option, Some, None, refl, sym, ap, subst, ◌∙◌, arith, ◌⊎◌, inl, inr}
 use Rattle.std.specs.List.{slice_get}
 use Rattle.std.proofs.Math.Bool.{or-false}
 use Rattle.std.proofs.lemmas.Bool.{cases_lt, lt-leb, le-ltb, false≢true, and_right}
@@ -15,7 +15,7 @@ use Rattle.log_model.specs.declared.entry.Entry.{Entry}
 use Rattle.log_model.specs.declared.link.Snapped.{Snapped}
 use Rattle.log_model.specs.Touched.{touched}
 use Rattle.warm_core.specs.declared.disk_world.Base.{Base}
-use Rattle.warm_core.specs.Staged.{is_unfinished, open_blocks, blocks_asked, disk_at, IsOnBase, IsForgotten, Staged}
+use Rattle.warm_core.specs.Staged.{is_unfinished, open_blocks, blocks_asked, IsOnBase}
 use Rattle.warm_core.specs.Laws.{FillingsStay}
 
 -- ---- one sector of a volume

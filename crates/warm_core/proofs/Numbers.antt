@@ -1,5 +1,5 @@
 -- What the steps of a stage leave of its numbers.
-use Rattle.std.proofs.Common.{◌≡◌, ℕ, zero, suc, ◌+◌, ◌-◌, ◌<◌, ◌≤◌, List, [], ◌∷◌, Bool, true, false, cond, ◌||◌, Option, Some, None, refl, sym, ap, subst, ◌∙◌, arith, inl, inr, IsSome}
+use Rattle.std.proofs.Common.{◌≡◌, ℕ, ◌+◌, ◌-◌, ◌<◌, ◌≤◌, List, Bool, true, false, cond, ◌||◌, Option, Some, None, refl, sym, ap, subst, ◌∙◌, arith, inl, inr, IsSome}
 use Rattle.std.proofs.lemmas.Bool.{cases_lt, false≢true}
 use Rattle.sector_model.specs.Run.{end_of, in_blocks}
 use Rattle.sector_model.specs.declared.run.Run.{Run}
@@ -7,9 +7,9 @@ use Rattle.log_model.specs.declared.entry.Entry.{Entry}
 use Rattle.log_model.specs.declared.link.Snapped.{Snapped}
 use Rattle.warm_core.specs.declared.disk_world.Base.{Base}
 use Rattle.warm_core.specs.declared.stage_state.StageState.{StageState}
-use Rattle.warm_core.specs.StageState.{IsInOrder, IsReady, with_page, made_full, with_piece, at_its_end, IsPiece, MayAsk, MayCopy, MayZero, MayFlush, has_to_write, sectors_below}
+use Rattle.warm_core.specs.StageState.{IsInOrder, with_page, made_full, with_piece, at_its_end, IsPiece, MayAsk, MayFlush, has_to_write, sectors_below}
 use Rattle.warm_core.specs.Staged.{blocks_asked, HasWritten, HasToBeFull, StageFits}
-use Rattle.warm_core.proofs.Counting.{sectors_below-skip, sectors_below-run, sectors_below-le, sectors_below-rises}
+use Rattle.warm_core.proofs.Counting.{sectors_below-skip, sectors_below-run, sectors_below-rises}
 
 -- the bound of what was written goes on with `at`
 pub bound-goes_on : (full : Bool) (c at next written more : ℕ) → at + more ≤ next

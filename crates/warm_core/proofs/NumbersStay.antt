@@ -1,7 +1,6 @@
 -- All steps of a stage leave what is known of its numbers.
-use Rattle.std.proofs.Common.{◌≡◌, ℕ, ◌+◌, ◌<◌, ◌≤◌, List, ◌||◌, Bool, true, false, Option, Some, None, Ok, Err, refl, sym, ap, subst, ◌∙◌, arith}
+use Rattle.std.proofs.Common.{ℕ, List, Option, Ok, sym, ◌∙◌, arith}
 use Rattle.std.proofs.lemmas.Bool.{false≢true}
-use Rattle.sector_model.specs.Run.{in_blocks}
 use Rattle.sector_model.specs.declared.run.Run.{Run}
 use Rattle.log_model.specs.declared.entry.Entry.{Entry}
 use Rattle.log_model.specs.declared.link.Snapped.{Snapped}
@@ -10,7 +9,7 @@ use Rattle.warm_core.specs.declared.stage_state.StageState.{StageState}
 use Rattle.warm_core.specs.StageState.{MayZero, with_piece}
 use Rattle.warm_core.specs.Staged.{blocks_asked, StageFits}
 use Rattle.warm_core.specs.Events.{page_end_of}
-use Rattle.warm_core.specs.Laws.{IsGround, NumbersStay, StageNumbersStay}
+use Rattle.warm_core.specs.Laws.{StageNumbersStay}
 use Rattle.warm_core.proofs.Numbers.{answered-fits, refused-fits, piece-fits, flushed-fits}
 use Rattle.warm_core.proofs.Answering.{page-ends, must-be-full, fits-later}
 

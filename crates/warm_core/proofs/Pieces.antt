@@ -1,22 +1,21 @@
 -- What a stage does next may be done.
-use Rattle.std.proofs.Common.{◌≡◌, ℕ, ◌+◌, ◌-◌, ◌<◌, ◌≤◌, ◌^◌, min, List, [], ◌∷◌, take, Bool, true, false, cond, ◌||◌, ◌&&◌, leb, ltb, Option, Some, None, refl, sym, ap, subst, ◌∙◌, arith, inl, inr}
+use Rattle.std.proofs.Common.{◌≡◌, ℕ, ◌+◌, ◌-◌, ◌<◌, ◌≤◌, ◌^◌, List, Bool, true, false, cond, ◌||◌, ◌&&◌, leb, ltb, Option, Some, None, refl, sym, ap, subst, ◌∙◌, arith}
 use Rattle.std.specs.List.{AllByRecursion}
 use Rattle.std.specs.Option.{option_map_or}
-use Rattle.std.proofs.lemmas.Bool.{cases_lt, lt-ltb, le-leb, ltb-true, ltb-false, false≢true}
+use Rattle.std.proofs.lemmas.Bool.{lt-ltb, le-leb, ltb-true, ltb-false, false≢true}
 use Rattle.std.proofs.lemmas.List.Elements.{recursion_from_All, All-from_recursion}
-use Rattle.sector_model.specs.Run.{end_of, in_runs, in_blocks, areas_of, areas_of, next_run, AreSpaced, AreSpacedFrom}
-use Rattle.sector_model.specs.Page.{PageContents, page_from, areas_from, LiesWithin}
+use Rattle.sector_model.specs.Run.{end_of, in_runs, in_blocks, areas_of, areas_of, next_run, AreSpaced}
+use Rattle.sector_model.specs.Page.{PageContents, page_from, areas_from}
 use Rattle.sector_model.specs.declared.run.Run.{Run}
 use Rattle.sector_model.proofs.Exact.{in_runs_of}
 use Rattle.sector_model.proofs.NextRun.{Next, next_is, areas_from-none}
-use Rattle.sector_model.proofs.PageLaws.{areas_from-spaced}
 use Rattle.sector_model.proofs.PageSectors.{areas_from_are_exact, pages_are_exact}
-use Rattle.sector_model.proofs.Spacing.{none_in_gap, in_first, runs_of-spaced}
+use Rattle.sector_model.proofs.Spacing.{runs_of-spaced}
 use Rattle.warm_core.specs.declared.stage_state.StageState.{StageState}
 use Rattle.warm_core.specs.declared.stage_state.Piece.{Piece}
 use Rattle.warm_core.specs.declared.stage_state.Piece.TheVariants.{Ask, Copy, Zero, Flush, Done}
-use Rattle.warm_core.specs.StageState.{IsInOrder, IsPiece, IsReady, has_to_write, MayAsk, MayCopy, MayZero, MayFlush}
-use Rattle.warm_core.specs.Piece.{piece_from, next_area, gap_end, piece_behind, piece_of, Reaches, IsPageOf, MayBeNext}
+use Rattle.warm_core.specs.StageState.{IsInOrder, IsReady, MayCopy, MayZero}
+use Rattle.warm_core.specs.Piece.{piece_from, next_area, gap_end, piece_behind, Reaches, IsPageOf, MayBeNext}
 use Rattle.warm_core.specs.Laws.{PiecesMayBeNext}
 
 -- ---- what a page tells of the sectors from `at` on

@@ -1,13 +1,12 @@
 -- What the steps of a stage leave of what is known of it and of its volume.
-use Rattle.std.proofs.Common.{◌≡◌, ℕ, ◌+◌, ◌-◌, ◌<◌, ◌≤◌, List, [], ◌∷◌, ◌++◌, length, take, drop, replicate, Bool, true, false, cond, ◌||◌, nat_eq, eqb, Option, Some, None, Ok, Err, refl, sym, ap, subst, ◌∙◌, arith, ◌⊎◌, inl, inr, IsSome, slice_index_or, length-take, length-drop}
+use Rattle.std.proofs.Common.{◌≡◌, ℕ, ◌+◌, ◌-◌, ◌<◌, ◌≤◌, List, [], ◌++◌, length, take, drop, replicate, Bool, true, false, cond, ◌||◌, Option, Some, None, Ok, Err, refl, sym, ap, subst, ◌∙◌, arith, ◌⊎◌, inl, inr, IsSome, slice_index_or, length-take, length-drop}
 use Rattle.std.specs.List.{slice_get, slice_range}
 use Rattle.std.specs.Option.{is_none}
 use Rattle.std.proofs.lemmas.Bool.{cases_lt, false≢true}
-use Rattle.std.proofs.lemmas.Option.{same_Some, none-some}
+use Rattle.std.proofs.lemmas.Option.{same_Some}
 use Rattle.std.proofs.lemmas.List.{length-replicate}
 use Rattle.sector_model.specs.Run.{end_of, in_blocks}
 use Rattle.sector_model.specs.Sector.{zero_sector}
-use Rattle.sector_model.specs.Disk.{fresh_disk}
 use Rattle.sector_model.specs.VolumeContents.{VolumeContents, IsSized, IsFlushed, is_loose, volume_written, volume_zeroed, volume_flushed, IsBrokenAt}
 use Rattle.sector_model.specs.declared.run.Run.{Run}
 use Rattle.sector_model.specs.declared.sector.Sector.{Sector}
@@ -17,22 +16,19 @@ use Rattle.change_id.specs.declared.ChangeId.{ChangeId}
 use Rattle.log_model.specs.declared.entry.Entry.{Entry}
 use Rattle.log_model.specs.declared.link.Snapped.{Snapped}
 use Rattle.log_model.specs.Legal.{Legal, only}
-use Rattle.log_model.specs.Entry.{contents}
-use Rattle.log_model.specs.Query.{changed_areas}
-use Rattle.log_model.specs.Touched.{touched_areas}
 use Rattle.log_model.specs.Marks.{in_force}
 use Rattle.log_model.proofs.LegalLogs.{prefixes_are_legal}
 use Rattle.log_model.proofs.TouchedLaws.{untouched_stays, length-contents}
 use Rattle.warm_core.specs.declared.disk_world.Base.{Base}
 use Rattle.warm_core.specs.declared.stage_state.StageState.{StageState}
-use Rattle.warm_core.specs.StageState.{begun, IsInOrder, IsPiece, IsReady, with_page, made_full, with_piece, at_its_end, has_to_write, MayAsk, MayCopy, MayZero, MayFlush}
-use Rattle.warm_core.specs.Staged.{is_unfinished, since_mark, open_blocks, blocks_asked, answer, disk_at, IsOnBase, IsForgotten, HasToBeFull, Staged, IsFullCopy, StageFits, StageHolds, RunsOnBase, HasWritten, with_copy}
+use Rattle.warm_core.specs.StageState.{IsPiece, with_page, made_full, with_piece, at_its_end, has_to_write, MayAsk, MayCopy, MayZero, MayFlush}
+use Rattle.warm_core.specs.Staged.{is_unfinished, since_mark, open_blocks, blocks_asked, answer, disk_at, IsOnBase, HasToBeFull, Staged, StageFits, RunsOnBase, HasWritten, with_copy}
 use Rattle.warm_core.specs.Events.{page_end_of}
-use Rattle.warm_core.specs.Laws.{IsGround, StageStands, StagesStay, StagesWithVolumesStay, StagesBegin, NumbersBegin, WrittenAtEnd, EntriesStay}
+use Rattle.warm_core.specs.Laws.{IsGround, StageStands, StagesWithVolumesStay, StagesBegin, NumbersBegin, WrittenAtEnd, EntriesStay}
 use Rattle.warm_core.proofs.Counting.{sectors_below-le}
 use Rattle.warm_core.proofs.NumbersStay.{numbers_stay, zeroed-fits}
 use Rattle.warm_core.proofs.Answering.{answers-between, mark-within, base-within, disk_at-later, asked-later, forgotten-later, fits-later, answer-not-err}
-use Rattle.warm_core.proofs.Holding.{outside, inside, loose-outside, on_base-written, on_base-filled, open-asked, on_base-broken}
+use Rattle.warm_core.proofs.Holding.{outside, inside, on_base-written, open-asked, on_base-broken}
 
 -- ---- the disk at a mark
 

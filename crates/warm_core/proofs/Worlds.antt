@@ -1,38 +1,25 @@
 -- What each event leaves of a sound world.
-use Rattle.std.proofs.Common.{◌≡◌, ℕ, zero, suc, ◌+◌, ◌-◌, ◌<◌, ◌≤◌, ◌==◌, ◌^◌, List, [], ◌∷◌, ◌++◌, length, take, drop, replicate, Bool, true, false, not, cond, ◌||◌, eqb, Option, Some, None, Result, Ok, Err, IsOk, IsErr, refl, sym, ap, subst, ◌∙◌, arith, ◌⊎◌, inl, inr, IsSome, slice_index_or, length-append}
-use Rattle.std.specs.List.{slice_get, list_any, fold}
-use Rattle.std.specs.Option.{is_some, is_none, IsSomeAnd, IfSome, ForSome, option_map, option_and_then}
-use Rattle.std.proofs.lemmas.Bool.{cases_lt, false≢true, eq-eqb, ne_eqb}
+use Rattle.std.proofs.Common.{◌≡◌, ℕ, ◌+◌, ◌<◌, ◌^◌, List, take, true, false, not, Option, Some, None, Result, Ok, Err, IsOk, IsErr, refl, sym, ap, subst, ◌∙◌, arith, ◌⊎◌, inl, inr, IsSome}
+use Rattle.std.specs.List.{slice_get}
+use Rattle.std.specs.Option.{is_some, IsSomeAnd, option_map}
+use Rattle.std.proofs.lemmas.Bool.{false≢true, eq-eqb}
 use Rattle.std.proofs.lemmas.Option.{same_Some, none-some}
-use Rattle.std.proofs.lemmas.List.{take-append-le}
-use Rattle.std.proofs.lemmas.List.Sums.{fold-append}
-use Rattle.sector_model.specs.Run.{end_of, in_blocks}
-use Rattle.sector_model.specs.VolumeContents.{VolumeContents, IsSized, IsFlushed, is_loose, volume_stopped, volume_flushed, volume_zeroed}
+use Rattle.sector_model.specs.VolumeContents.{VolumeContents, volume_flushed, volume_zeroed}
 use Rattle.sector_model.specs.declared.run.Run.{Run}
-use Rattle.sector_model.specs.declared.sector.Sector.{Sector}
-use Rattle.sector_model.proofs.Volumes.{keep_their_size, stop_leaves_flushed, stop_leaves_others}
 use Rattle.change_id.specs.declared.ChangeId.{ChangeId}
 use Rattle.log_model.specs.declared.entry.Entry.{Entry}
-use Rattle.log_model.specs.declared.entry.Owner.{Owner}
 use Rattle.log_model.specs.declared.link.Snapped.{Snapped}
-use Rattle.log_model.specs.Entry.{removes, takes, is_snap}
-use Rattle.log_model.specs.Legal.{Legal, only, owner_of, machine_on}
-use Rattle.log_model.specs.Marks.{takes_in, mark, before, in_force, id_at, HasId}
-use Rattle.log_model.specs.Frozen.{last_off, off_place}
-use Rattle.log_model.specs.Touched.{touched}
+use Rattle.log_model.specs.Marks.{takes_in, in_force, id_at, HasId}
 use Rattle.change_id.proofs.IdMarks.{takes-at_mark}
 use Rattle.log_model.proofs.Readings.{snap-takes}
-use Rattle.log_model.proofs.SnapMarks.{live_was_taken}
-use Rattle.log_model.proofs.TouchedLaws.{touched_joins}
 use Rattle.warm_core.specs.declared.disk_world.Base.{Base}
 use Rattle.warm_core.specs.declared.stage_state.StageState.{StageState}
-use Rattle.warm_core.specs.StageState.{begun, with_page, made_full, with_piece, at_its_end, MayAsk, MayCopy, MayZero, MayFlush}
-use Rattle.warm_core.specs.Staged.{is_unfinished, IsBaseOf, open_blocks, blocks_asked, disk_at, IsOnBase, IsForgotten, Staged, IsFullCopy, with_copy}
-use Rattle.warm_core.specs.World.{World, IsSnapOf, IsLive, MayLose, IsCompleteAt, StageIsSound, IsSound}
-use Rattle.warm_core.specs.Events.{Runs, MayBegin, MayComplete, answer_now, page_end_of, at_stage, by_stage, snapped_of, base_of, after_page, after_copy, after_done}
+use Rattle.warm_core.specs.StageState.{with_page, made_full, with_piece, at_its_end, MayAsk, MayCopy, MayZero, MayFlush}
+use Rattle.warm_core.specs.Staged.{is_unfinished, blocks_asked, Staged, with_copy}
+use Rattle.warm_core.specs.World.{World, IsSnapOf, MayLose, IsCompleteAt, StageIsSound, IsSound}
+use Rattle.warm_core.specs.Events.{Runs, answer_now, page_end_of, at_stage, by_stage, base_of, after_page, after_copy, after_done}
 use Rattle.warm_core.specs.Laws.{IsGround, StageStands}
-use Rattle.warm_core.proofs.Stages.{stages_stay, begun-stands, done-staged}
-use Rattle.warm_core.proofs.Holding.{fillings_stay}
+use Rattle.warm_core.proofs.Stages.{stages_stay, done-staged}
 
 -- ---- options and results
 

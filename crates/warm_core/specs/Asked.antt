@@ -1,5 +1,5 @@
 -- Words of the functions that decide whether an event may happen: no promise of the crate.
-use Rattle.std.specs.Prelude.{◌≡◌, ℕ, ◌<◌, ◌≤◌, ◌==◌, ◌&&◌, nat_lt, nat_le, List, Bool, true, false, Option, Some, None, IfSome, IsSome, IsSomeAnd, IsOk, IsErr}
+use Rattle.std.specs.Prelude.{◌≡◌, ℕ, ◌<◌, ◌≤◌, ◌&&◌, List, Bool, true, false, Option, Some, None, IfSome, IsSome, IsSomeAnd, IsOk, IsErr}
 use Rattle.std.specs.Option.{ForSome}
 use Rattle.sector_model.specs.Run.{end_of, in_blocks, touched_blocks}
 use Rattle.sector_model.specs.declared.run.Run.{Run}
@@ -8,7 +8,7 @@ use Rattle.log_model.specs.declared.link.Snapped.{Snapped}
 use Rattle.log_model.specs.Entry.{writes_of, removes}
 use Rattle.log_model.specs.Marks.{mark, id_at}
 use Rattle.log_model.specs.Frozen.{off_place}
-use Rattle.log_model.specs.PlainMachine.{entry_touches, is_touched}
+use Rattle.log_model.specs.Touched.{entry_touches, is_touched}
 use Rattle.warm_core.specs.declared.disk_world.Base.{Base}
 use Rattle.warm_core.specs.declared.event.Event.{Event}
 use Rattle.warm_core.specs.declared.event.Event.TheVariants.{Machine, Begin, PageAnswered, PageRefused, Copied, Zeroed, Flushed, StageDone, Stop, Restart, Cancel, Complete}

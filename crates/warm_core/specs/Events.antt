@@ -1,12 +1,10 @@
 -- What may happen to the world of one disk, and what it leaves. Each event has one condition and
 -- one effect; where its condition doesn't hold, it isn't carried out and leaves nothing.
-use Rattle.std.specs.Prelude.{◌≡◌, ℕ, ◌+◌, ◌<◌, ◌≤◌, ◌==◌, ◌⊎◌, List, [], ◌∷◌, ◌++◌, length, take, slice_get, Bool, true, false, Option, Some, None, IsSome, IfSome, IsSomeAnd, is_none, option_map, Result, Ok, Err, IsOk, IsErr}
+use Rattle.std.specs.Prelude.{◌≡◌, ℕ, ◌+◌, ◌<◌, ◌≤◌, ◌⊎◌, List, [], ◌∷◌, ◌++◌, length, take, slice_get, Bool, true, false, Option, Some, None, IsSome, IfSome, IsSomeAnd, is_none, option_map, Result, Ok, Err, IsOk, IsErr}
 use Rattle.std.specs.Option.{ForSome, option_and_then}
-use Rattle.sector_model.specs.Run.{end_of}
 use Rattle.sector_model.specs.Page.{page_from}
-use Rattle.sector_model.specs.VolumeContents.{VolumeContents, loose_count, volume_stopped, volume_flushed, volume_zeroed}
+use Rattle.sector_model.specs.VolumeContents.{loose_count, volume_stopped, volume_flushed, volume_zeroed}
 use Rattle.sector_model.specs.declared.run.Run.{Run}
-use Rattle.sector_model.specs.declared.sector.Sector.{Sector}
 use Rattle.change_id.specs.declared.ChangeId.{ChangeId}
 use Rattle.log_model.specs.declared.entry.Entry.{Entry}
 use Rattle.log_model.specs.declared.link.Snapped.{Snapped}

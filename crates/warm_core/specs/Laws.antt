@@ -1,7 +1,7 @@
 -- What the definitions say together. Each law is the contract of a public function of laws.rt whose
 -- body does nothing. Those on stages speak of one stage and its volume at a log, so that whoever
 -- has only these can use them; those on worlds are made of them.
-use Rattle.std.specs.Prelude.{◌≡◌, ℕ, ◌+◌, ◌<◌, ◌≤◌, ◌^◌, ◌⊎◌, List, [], ◌∷◌, ◌++◌, length, take, Bool, true, false, Option, Some, None, IsSome, is_none, Ok, Err, IsErr}
+use Rattle.std.specs.Prelude.{◌≡◌, ℕ, ◌<◌, ◌≤◌, ◌^◌, ◌⊎◌, List, ◌++◌, length, take, Bool, true, false, Option, Some, None, IsSome, is_none, Ok, Err, IsErr}
 use Rattle.std.specs.Option.{ForSome}
 use Rattle.std.specs.List.{list_any}
 use Rattle.sector_model.specs.Run.{areas_of}
@@ -13,7 +13,7 @@ use Rattle.log_model.specs.declared.entry.Entry.{Entry}
 use Rattle.log_model.specs.declared.link.Snapped.{Snapped}
 use Rattle.log_model.specs.Entry.{removes}
 use Rattle.log_model.specs.Legal.{Legal, only}
-use Rattle.log_model.specs.Marks.{id_at, HasId}
+use Rattle.log_model.specs.Marks.{HasId}
 use Rattle.warm_core.specs.declared.disk_world.Base.{Base}
 use Rattle.warm_core.specs.declared.event.Event.{Event}
 use Rattle.warm_core.specs.declared.stage_state.StageState.{StageState}

@@ -1,6 +1,6 @@
 -- What a stage does next: the page that it has tells the areas below `covered`, and a stage goes
 -- through these in ascending order, a piece at a time.
-use Rattle.std.specs.Prelude.{◌≡◌, ℕ, ◌+◌, ◌-◌, ◌<◌, ◌≤◌, ◌&&◌, nat_lt, min, List, Bool, true, Option, Some, None, if◌then◌else◌}
+use Rattle.std.specs.Prelude.{◌≡◌, ℕ, ◌+◌, ◌-◌, ◌≤◌, ◌&&◌, nat_lt, min, List, true, Option, None, if◌then◌else◌}
 use Rattle.std.specs.Option.{option_map_or}
 use Rattle.sector_model.specs.Run.{areas_of, next_run}
 use Rattle.sector_model.specs.Page.{PageContents, page_from, LiesWithin}

@@ -2,7 +2,7 @@
 //! memory: a range is compared with each entry once.
 ghost use Rattle.std.specs.Prelude.{◌≡◌, ◌+◌, ◌≤◌, ◌<◌, ◌↔◌, IsTrue, MatchBool};
 ghost use Rattle.sector_model.specs.Run.{end_of};
-ghost use Rattle.log_model.specs.PlainMachine.{entry_touches, is_touched};
+ghost use Rattle.log_model.specs.Touched.{entry_touches, is_touched};
 ghost use Rattle.warm_core.specs.Asked.{blocks_in, Meets, Misses, AreMet, AreMissed, AllAsked, NoneAsked, NothingLeft};
 ghost use Rattle.warm_core.specs.StageState.{IsInOrder, IsReady, IsPiece, MayAsk, MayCopy, MayZero, MayFlush};
 

@@ -5,7 +5,7 @@ ghost use Rattle.log_model.specs.Refusals.{is_known, spent_refusal, snap_refusal
 use super::MachineLog;
 use crate::live::owner_in;
 use basics::{MAX_LOGGED_SECTORS, MAX_WRITE_SECTORS};
-use log_model::{LinkRefused, MAX_LOG_ENTRIES, Owner, WriteRefused, is_within, may_remove};
+use log_model::{LinkRefused, MAX_LOG_ENTRIES, Owner, WriteRefused, is_on_disk, may_remove};
 
 impl MachineLog {
     /// Of any call that adds an entry.
@@ -93,7 +93,9 @@ impl MachineLog {
         if !self.facts.on {
             return Some(WriteRefused::Off);
         }
-        if !is_within(self.capacities.as_slice(), disk, first, count) || count > MAX_WRITE_SECTORS {
+        if !is_on_disk(self.capacities.as_slice(), disk, first, count)
+            || count > MAX_WRITE_SECTORS
+        {
             return Some(WriteRefused::Range);
         }
         let is_full = self.facts.written + count > MAX_LOGGED_SECTORS;

@@ -1,5 +1,5 @@
 use Rattle.std.proofs.Common.{◌≡◌, ℕ, ◌<◌, ◌≤◌, not}
-use Rattle.log_model.specs.PlainMachine.{is_touched}
+use Rattle.log_model.specs.Touched.{is_touched}
 use Rattle.log_model.proofs.query.first_sector.Given as goal
 
 abbrev pub invariant-loop-sector : goal.invariant-loop-sector

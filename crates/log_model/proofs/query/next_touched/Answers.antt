@@ -4,7 +4,7 @@ use Rattle.sector_model.specs.Run.{in_blocks, touched_blocks, AreSpaced}
 use Rattle.sector_model.proofs.Spacing.{runs_of-spaced}
 use Rattle.log_model.specs.declared.entry.Entry.{Entry}
 use Rattle.log_model.specs.Entry.{writes_of}
-use Rattle.log_model.specs.PlainMachine.{is_touched}
+use Rattle.log_model.specs.Touched.{is_touched}
 use Rattle.sector_model.proofs.NextRun.{next_some, next_none, true_false}
 use Rattle.log_model.proofs.AreaLemmas.{in_touched_runs, past_touched_runs, touched_runs}
 use Rattle.log_model.proofs.query.next_touched.Goals as goal

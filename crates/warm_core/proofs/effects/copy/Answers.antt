@@ -1,7 +1,7 @@
-use Rattle.std.proofs.Common.{◌≡◌, ℕ, ◌+◌, ◌<◌, ◌≤◌, ◌^◌, List, Some, length, sym, ap, ◌∙◌, arith}
+use Rattle.std.proofs.Common.{◌≡◌, ◌≤◌, List, Some, length, sym, ap, ◌∙◌, arith}
 use Rattle.std.specs.List.{slice_range}
 use Rattle.sector_model.specs.Run.{end_of}
-use Rattle.sector_model.specs.VolumeContents.{VolumeContents, volume_written}
+use Rattle.sector_model.specs.VolumeContents.{volume_written}
 use Rattle.sector_model.specs.declared.sector.Sector.{Sector}
 use Rattle.log_model.specs.declared.link.Snapped.{Snapped}
 use Rattle.warm_core.specs.declared.stage_state.StageState.{StageState}

@@ -1,6 +1,4 @@
-use Rattle.std.proofs.Common.{◌≡◌, ℕ, List, true, false, sym, ◌∙◌}
-use Rattle.log_model.specs.declared.link.Snapped.{Snapped}
-use Rattle.warm_core.specs.declared.stage_state.StageState.{StageState}
+use Rattle.std.proofs.Common.{ℕ, List}
 use Rattle.warm_core.specs.StageState.{MayFlush}
 use Rattle.warm_core.specs.Staged.{blocks_asked}
 use Rattle.warm_core.specs.DiskWorld.{world_of}

@@ -1,7 +1,5 @@
-use Rattle.std.proofs.Common.{◌≡◌, ◌≤◌, List, [], option_map, sym, ap, subst, ◌∙◌, arith}
-use Rattle.sector_model.specs.LooseRuns.{volume_of}
-use Rattle.sector_model.specs.VolumeContents.{VolumeContents, volume_flushed}
-use Rattle.sector_model.specs.Run.{end_of}
+use Rattle.std.proofs.Common.{List, [], option_map, sym, ap, subst, arith}
+use Rattle.sector_model.specs.VolumeContents.{VolumeContents}
 use Rattle.sector_model.specs.declared.run.Run.{Run}
 use Rattle.sector_model.proofs.LooseRuns.{no_loose_runs}
 use Rattle.warm_core.specs.declared.disk_world.DiskWorld.{DiskWorld}

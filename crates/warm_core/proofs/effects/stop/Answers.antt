@@ -1,4 +1,4 @@
-use Rattle.std.proofs.Common.{◌≡◌, Bool, List, length, sym, ap, subst, ◌∙◌}
+use Rattle.std.proofs.Common.{◌≡◌, Bool, List, length, ap, ◌∙◌}
 use Rattle.sector_model.specs.LooseRuns.{volume_of, flags_of}
 use Rattle.sector_model.specs.VolumeContents.{VolumeContents, volume_stopped, with_found}
 use Rattle.sector_model.specs.declared.sector.Sector.{Sector}

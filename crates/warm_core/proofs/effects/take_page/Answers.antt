@@ -1,15 +1,14 @@
-use Rattle.std.proofs.Common.{◌≡◌, ℕ, ◌+◌, ◌<◌, ◌^◌, List, Some, IsOk, sym, ap, ◌∙◌, arith}
-use Rattle.sector_model.specs.Page.{PageContents, page_from}
+use Rattle.std.proofs.Common.{ℕ, List, Some, IsOk, ap, ◌∙◌, arith}
+use Rattle.sector_model.specs.Page.{page_from}
 use Rattle.sector_model.specs.Run.{areas_of}
 use Rattle.log_model.specs.declared.entry.Entry.{Entry}
-use Rattle.log_model.specs.declared.link.Snapped.{Snapped}
 use Rattle.warm_core.specs.declared.stage_state.StageState.{StageState}
 use Rattle.warm_core.specs.StageState.{MayAsk}
 use Rattle.warm_core.specs.Staged.{blocks_asked}
 use Rattle.warm_core.specs.Asked.{blocks_in}
 use Rattle.warm_core.specs.DiskWorld.{world_of}
 use Rattle.warm_core.specs.World.{World}
-use Rattle.warm_core.specs.Events.{answer_now, after_page}
+use Rattle.warm_core.specs.Events.{answer_now}
 use Rattle.warm_core.proofs.Numbers.{full-ready}
 use Rattle.warm_core.proofs.EffectLemmas.{order-of, sized-of, runs-at, page-lies, page-effect}
 use Rattle.warm_core.proofs.effects.take_page.Goals as goal

@@ -1,6 +1,4 @@
-use Rattle.std.proofs.Common.{◌≡◌, ℕ, ◌+◌, ◌<◌, ◌≤◌, ◌^◌, List, Some, length, sym, ap, ◌∙◌, arith}
-use Rattle.log_model.specs.declared.link.Snapped.{Snapped}
-use Rattle.warm_core.specs.declared.stage_state.StageState.{StageState}
+use Rattle.std.proofs.Common.{ap, arith}
 use Rattle.warm_core.specs.StageState.{MayZero}
 use Rattle.warm_core.specs.DiskWorld.{world_of}
 use Rattle.warm_core.specs.World.{World}

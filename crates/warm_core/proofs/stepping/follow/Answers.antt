@@ -1,4 +1,4 @@
-use Rattle.std.proofs.Common.{◌≡◌, [], ◌∷◌, ◌++◌, ◌<◌, ◌^◌, List, length, take, Option, Some, refl, sym, ap, subst, ◌∙◌, inl, inr, arith, append_assoc}
+use Rattle.std.proofs.Common.{◌≡◌, [], ◌∷◌, ◌++◌, List, length, take, Option, Some, refl, sym, ap, subst, ◌∙◌, inl, inr, arith, append_assoc}
 use Rattle.std.specs.List.{slice_get}
 use Rattle.std.specs.Option.{IsSomeAnd}
 use Rattle.std.proofs.Math.Seq.{take-append_seam}
@@ -7,7 +7,7 @@ use Rattle.warm_core.specs.declared.event.Event.{Event}
 use Rattle.warm_core.specs.declared.event.CoreRefused.{CoreRefused}
 use Rattle.warm_core.specs.DiskWorld.{world_of, StandsSound, IsRefusalOf}
 use Rattle.warm_core.specs.World.{World}
-use Rattle.warm_core.specs.Events.{MayHappen, Steps, Follows, IsCutShort}
+use Rattle.warm_core.specs.Events.{MayHappen, Follows, IsCutShort}
 use Rattle.warm_core.specs.Laws.{GoesOn}
 use Rattle.warm_core.proofs.Core.{law_of_the_core}
 use Rattle.warm_core.proofs.Following.{follows-one-more}

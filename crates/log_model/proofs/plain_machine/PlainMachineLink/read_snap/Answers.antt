@@ -27,7 +27,7 @@ returns-clause-sectors c =
     c.before-2.ensures
     ∙ read_is sizes d c.args.first n (before c.args.id log)
     (prefixes_are_legal (all_of sizes) log (mark c.args.id log) legal)
-    (sym c.is_within.ensures.within ∙ c.if-not-is_within.false) in
+    (sym c.is_on_disk.ensures.within ∙ c.if-not-is_on_disk.false) in
     subst (λ (s : LinkState). c.read_into.new.buf
     ≡ slice_range (frozen (capacity_of s.capacities d) d c.args.id s.seen) c.args.first
     (c.args.first + n)) c.self.view_is

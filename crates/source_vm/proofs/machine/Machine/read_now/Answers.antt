@@ -2,12 +2,12 @@ use Rattle.std.proofs.Common.{◌≡◌, ℕ, ◌+◌, List, length, true, false
 use Rattle.std.specs.List.{slice_get}
 use Rattle.basics.specs.Refusal.{IsRefusedBy}
 use Rattle.sector_model.specs.declared.sector.Sector.{Sector}
-use Rattle.sector_model.specs.Run.{is_within as lies_within}
+use Rattle.sector_model.specs.Run.{is_within}
 use Rattle.log_model.specs.declared.refusals.LinkRefused.{LinkRefused}
 use Rattle.log_model.specs.declared.refusals.LinkRefused.TheVariants.{Range}
 use Rattle.log_model.specs.Entry.{contents}
 use Rattle.log_model.specs.Legal.{capacity_of}
-use Rattle.log_model.specs.Refusals.{is_within}
+use Rattle.log_model.specs.Refusals.{is_on_disk}
 use Rattle.source_disk.specs.SourceDisk.{SourceDiskState, number_of, capacity_of as size_of}
 use Rattle.source_vm.specs.Disks.{IsDisk}
 use Rattle.source_vm.specs.MachineLog.{LogState}
@@ -28,11 +28,11 @@ returns-in-Some-clause-refused c =
     c.in-Some.is in
     let is : IsDisk c.self.inside.number c.args.disk (capacity_of log.capacities c.args.disk)
     log.entries d = c.self.invariant.stand.each c.args.disk d at in
-    let within : is_within log.capacities c.args.disk c.args.first count ≡ true =
+    let within : is_on_disk log.capacities c.args.disk c.args.first count ≡ true =
     lies_as log.capacities c.args.disk c.args.first count d
     (known_at c.self.inside.number log.capacities log.entries disks c.args.disk d
     c.self.invariant.stand at) is.sized
-    ∙ read_within (lies_within (size_of d) c.args.first count) c.read.result c.read.ensures.refused
+    ∙ read_within (is_within (size_of d) c.args.first count) c.read.result c.read.ensures.refused
     (sym c.is_ok.ensures.value ∙ c.if-is_ok.true) in
     subst (λ (m : MachineState). IsRefusedBy {T = Unit {0}}
     (read_now_refusal m.capacities c.args.disk c.args.first count) (Ok tt)) c.self.view_is
@@ -72,11 +72,11 @@ returns-in_default-clause-refused c =
     c.in-Some.is in
     let is : IsDisk c.self.inside.number c.args.disk (capacity_of log.capacities c.args.disk)
     log.entries d = c.self.invariant.stand.each c.args.disk d at in
-    let outside : is_within log.capacities c.args.disk c.args.first count ≡ false =
+    let outside : is_on_disk log.capacities c.args.disk c.args.first count ≡ false =
     lies_as log.capacities c.args.disk c.args.first count d
     (known_at c.self.inside.number log.capacities log.entries disks c.args.disk d
     c.self.invariant.stand at) is.sized
-    ∙ read_outside (lies_within (size_of d) c.args.first count) c.read.result c.read.ensures.refused
+    ∙ read_outside (is_within (size_of d) c.args.first count) c.read.result c.read.ensures.refused
     (sym c.is_ok.ensures.value ∙ c.if-is_ok.false) in
     subst (λ (m : MachineState). IsRefusedBy {T = Unit {0}}
     (read_now_refusal m.capacities c.args.disk c.args.first count) (Err Range)) c.self.view_is

@@ -4,12 +4,12 @@ use Rattle.basics.specs.Refusal.{IsRefusedBy}
 use Rattle.sector_model.specs.declared.sector.Sector.{Sector}
 use Rattle.snapshot_chain.specs.declared.chain.ChainRefused.{ChainRefused}
 use Rattle.snapshot_chain.specs.declared.chain.ChainRefused.TheVariants.{UnknownSnap as ChainUnknown, Range as ChainRange}
-use Rattle.sector_model.specs.Run.{is_within as lies_within}
+use Rattle.sector_model.specs.Run.{is_within}
 use Rattle.log_model.specs.declared.refusals.LinkRefused.{LinkRefused}
 use Rattle.log_model.specs.declared.refusals.LinkRefused.TheVariants.{UnknownSnap, Range}
 use Rattle.log_model.specs.Frozen.{frozen}
 use Rattle.log_model.specs.Legal.{capacity_of}
-use Rattle.log_model.specs.Refusals.{is_within, is_live, read_refusal}
+use Rattle.log_model.specs.Refusals.{is_on_disk, is_live, read_refusal}
 use Rattle.source_disk.specs.SourceDisk.{SourceDiskState, number_of, capacity_of as size_of, contents_of}
 use Rattle.source_disk.proofs.Holding.{holds_the_log}
 use Rattle.source_vm.specs.Disks.{IsDisk}
@@ -42,19 +42,19 @@ returns-in-Some-clause-refused c =
     let live : is_live c.args.id log.entries ≡ true =
     sym c.is_live.ensures ∙ c.if-not-is_live.false in
     let has = (holds_the_log d log.entries is.stands).frozen c.args.id live in
-    let within : is_within log.capacities c.args.disk c.args.first count ≡ true =
+    let within : is_on_disk log.capacities c.args.disk c.args.first count ≡ true =
     lies_as log.capacities c.args.disk c.args.first count d
     (known_at c.self.inside.number log.capacities log.entries disks c.args.disk d
     c.self.invariant.stand at) is.sized
-    ∙ read_within (lies_within (size_of d) c.args.first count) c.read.result
-    (ranged (lies_within (size_of d) c.args.first count) (contents_of (Some c.args.id) d) _
+    ∙ read_within (is_within (size_of d) c.args.first count) c.read.result
+    (ranged (is_within (size_of d) c.args.first count) (contents_of (Some c.args.id) d) _
     c.read.result has c.read.ensures.refused) (sym c.is_ok.ensures.value ∙ c.if-is_ok.true) in
     subst (λ (m : MachineState). IsRefusedBy {T = Unit {0}}
     (read_refusal m.capacities c.args.id c.args.disk c.args.first count m.log) (Ok tt))
     c.self.view_is
     (subst (λ a. IsRefusedBy {T = Unit {0}} {E = LinkRefused}
     (cond (not a) (Some UnknownSnap)
-    (cond (not (is_within log.capacities c.args.disk c.args.first count)) (Some Range) None))
+    (cond (not (is_on_disk log.capacities c.args.disk c.args.first count)) (Some Range) None))
     (Ok tt)) (sym live)
     (subst (λ b. IsRefusedBy {T = Unit {0}} {E = LinkRefused} (cond (not b) (Some Range) None)
     (Ok tt)) (sym within) refl))
@@ -96,19 +96,19 @@ returns-in_default-clause-refused c =
     let live : is_live c.args.id log.entries ≡ true =
     sym c.is_live.ensures ∙ c.if-not-is_live.false in
     let has = (holds_the_log d log.entries is.stands).frozen c.args.id live in
-    let outside : is_within log.capacities c.args.disk c.args.first count ≡ false =
+    let outside : is_on_disk log.capacities c.args.disk c.args.first count ≡ false =
     lies_as log.capacities c.args.disk c.args.first count d
     (known_at c.self.inside.number log.capacities log.entries disks c.args.disk d
     c.self.invariant.stand at) is.sized
-    ∙ read_outside (lies_within (size_of d) c.args.first count) c.read.result
-    (ranged (lies_within (size_of d) c.args.first count) (contents_of (Some c.args.id) d) _
+    ∙ read_outside (is_within (size_of d) c.args.first count) c.read.result
+    (ranged (is_within (size_of d) c.args.first count) (contents_of (Some c.args.id) d) _
     c.read.result has c.read.ensures.refused) (sym c.is_ok.ensures.value ∙ c.if-is_ok.false) in
     subst (λ (m : MachineState). IsRefusedBy {T = Unit {0}}
     (read_refusal m.capacities c.args.id c.args.disk c.args.first count m.log) (Err Range))
     c.self.view_is
     (subst (λ a. IsRefusedBy {T = Unit {0}} {E = LinkRefused}
     (cond (not a) (Some UnknownSnap)
-    (cond (not (is_within log.capacities c.args.disk c.args.first count)) (Some Range) None))
+    (cond (not (is_on_disk log.capacities c.args.disk c.args.first count)) (Some Range) None))
     (Err Range)) (sym live)
     (subst (λ b. IsRefusedBy {T = Unit {0}} {E = LinkRefused} (cond (not b) (Some Range) None)
     (Err Range)) (sym outside) refl))

@@ -1,10 +1,9 @@
-use Rattle.std.proofs.Common.{◌≡◌, ◌≤◌, List, length, refl, sym, ap, subst, ◌∙◌, arith}
+use Rattle.std.proofs.Common.{◌≤◌, List, length, refl, sym, ap, subst, arith}
 use Rattle.std.specs.List.{All}
 use Rattle.sector_model.specs.Run.{end_of}
 use Rattle.sector_model.specs.declared.run.Run.{Run}
 use Rattle.sector_model.specs.declared.sector.Sector.{Sector}
 use Rattle.log_model.specs.Legal.{only}
-use Rattle.warm_core.specs.World.{World, IsStart}
 use Rattle.warm_core.proofs.Starts.{legal-none, sized-of, start-sound}
 use Rattle.warm_core.proofs.disk_world.DiskWorld.new.Goals as goal
 
