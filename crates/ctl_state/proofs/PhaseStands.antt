@@ -280,7 +280,8 @@ phase-fine Failed v now m machine log s copying waiting has = nothing-said (read
 
 is-ready : (m : Migration) → is_live m ≡ true → m.cancel ≡ false → m ≡ ready_in m.phase m
 is-ready m live going =
-    ap (λ (how : Option How). record m { how = how }) (none_is m.how (not-true (is_some m.how) live))
+    ap (λ (how : Option How). record m { how = how })
+    (none_is m.how (not-true (is_some m.how) live))
     ∙ ap (λ (c : Bool). record m { how = None; cancel = c }) going
 
 pub phases_may_stand : PhasesMayStand
