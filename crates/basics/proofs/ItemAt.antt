@@ -1,8 +1,9 @@
--- One item of a list that was cut, joined, set or made of equal ones; lists with equal items.
-use Rattle.std.proofs.Common.{◌≡◌, ◌≢◌, ℕ, zero, suc, ◌+◌, ◌<◌, List, [], ◌∷◌, ◌++◌, length, take, drop, set, replicate, Option, Some, ap, refl, sym, unwrap_or, ◌∙◌, arith}
-use Rattle.std.specs.List.{slice_get}
-use Rattle.std.proofs.lemmas.List.{same_lists}
-use Rattle.std.proofs.lemmas.Option.{unwrap_or-slice_get}
+-- One item of a list that was cut, joined, set or made of equal ones; lists with equal items; a
+-- list up to one of its places and from there on.
+use Rattle.std.proofs.Common.{◌≡◌, ◌≢◌, ℕ, zero, suc, ◌+◌, ◌-◌, ◌<◌, ◌≤◌, Bool, true, false, not, cond, List, [], ◌∷◌, ◌++◌, length, get_or, take, drop, set, replicate, Option, Some, ap, refl, sym, unwrap_or, ◌∙◌, arith, append_assoc, length-drop}
+use Rattle.std.specs.List.{slice_get, position_or_len}
+use Rattle.std.proofs.lemmas.List.{same_lists, take_more, take_all, take-append-drop}
+use Rattle.std.proofs.lemmas.Option.{unwrap_or-slice_get, slice_get_within, get_or_from_slice_get}
 
 pub slice_get-front : {X : Type 0} (xs ys : List X) (k : ℕ) → k < length xs
     → slice_get (xs ++ ys) k ≡ slice_get xs k
@@ -65,3 +66,44 @@ same_items xs ys long same =
     same_lists xs ys long
     (λ i x less. sym (unwrap_or-slice_get xs i x) ∙ ap (λ o. unwrap_or o x) (same i less)
     ∙ unwrap_or-slice_get ys i x)
+
+-- ---- a list up to, at and from one of its places
+
+-- one item more
+pub take-next : {X : Type 0} (xs : List X) (place : ℕ) (x : X) → slice_get xs place ≡ Some x
+    → take (place + 1) xs ≡ take place xs ++ x ∷ []
+take-next xs place x at =
+    take_more xs place x (slice_get_within xs place x at)
+    ∙ ap (λ y. take place xs ++ y ∷ []) (get_or_from_slice_get xs place x x at)
+
+-- the same, where the item was read
+pub take-next_read : {X : Type 0} (xs : List X) (place : ℕ) (x : X) → place < length xs
+    → x ≡ get_or xs place x → take (place + 1) xs ≡ take place xs ++ x ∷ []
+take-next_read xs place x within is =
+    take_more xs place x within ∙ ap (λ y. take place xs ++ y ∷ []) (sym is)
+
+-- what stands before an item, the item, and what stands behind it
+pub split_around : {X : Type 0} (xs : List X) (place : ℕ) (x : X) → place < length xs
+    → x ≡ get_or xs place x → xs ≡ take place xs ++ x ∷ drop (place + 1) xs
+split_around xs place x within is =
+    sym (take-append-drop (place + 1) xs)
+    ∙ ap (λ ys. ys ++ drop (place + 1) xs) (take_more xs place x within)
+    ∙ ap (λ y. (take place xs ++ y ∷ []) ++ drop (place + 1) xs) (sym is)
+    ∙ append_assoc (take place xs) (x ∷ []) (drop (place + 1) xs)
+
+-- a part from a place to the end is all that stands from there on
+pub take-drop_rest : {X : Type 0} (xs : List X) (place : ℕ)
+    → take (length xs - place) (drop place xs) ≡ drop place xs
+take-drop_rest xs place =
+    take_all (length xs - place) (drop place xs) (omega (arith, length-drop place xs))
+
+-- ---- the first place of an item that passes a test
+
+pub position_or_len-le : {X : Type 0} (p : X → Bool) (xs : List X)
+    → position_or_len p xs ≤ length xs
+position_or_len-le p [] = omega arith
+position_or_len-le p (x ∷ xs) = bounded (p x) (position_or_len p xs) (position_or_len-le p xs)
+  where
+    bounded : (b : Bool) (n : ℕ) → n ≤ length xs → cond (not b) (1 + n) 0 ≤ suc (length xs)
+    bounded true n le = omega arith
+    bounded false n le = omega (arith, le)
