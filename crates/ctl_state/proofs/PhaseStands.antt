@@ -1,9 +1,9 @@
 -- What a phase says may stand in the state that its task was made from, phase by phase.
 use Rattle.std.proofs.Common.{◌≡◌, ℕ, zero, suc, ◌+◌, ◌<◌, ◌≤◌, ◌==◌, List, [], ◌∷◌, Bool, true, false, ◌&&◌, ◌||◌, cond, not, Option, Some, None, refl, sym, ap, subst, ◌∙◌, length, map, arith}
-use Rattle.std.specs.Prelude.{is_none, unwrap_or, nat_lt, nat_le, IsSome, IsSomeAnd, option_and_then}
+use Rattle.std.specs.Prelude.{is_none, is_some, unwrap_or, nat_lt, nat_le, IsSome, IsSomeAnd, option_and_then}
 use Rattle.std.specs.List.{list_all, filter_map, range_with_len, cons_option}
 use Rattle.std.specs.Option.{option_map_or}
-use Rattle.std.proofs.lemmas.Bool.{and_from, not-false, eqb-true, eq-eqb, lt-ltb, false≢true}
+use Rattle.std.proofs.lemmas.Bool.{and_from, not-false, not-true, eqb-true, eq-eqb, lt-ltb, false≢true}
 use Rattle.std.proofs.lemmas.Option.{none-some}
 use Rattle.change_id.specs.declared.ChangeId.{ChangeId}
 use Rattle.change_id.specs.ChangeId.{packed}
@@ -18,6 +18,7 @@ use Rattle.log_model.specs.Frozen.{last_off}
 use Rattle.log_model.specs.Refusals.{is_spent, is_live as snapshot_is_live}
 use Rattle.log_model.specs.Laws.{HasOffPlace}
 use Rattle.log_model.proofs.OffPlace.{off_has_place}
+use Rattle.log_model.proofs.Options.{none_is}
 use Rattle.phase_table.specs.declared.phases.Phase.{Phase}
 use Rattle.phase_table.specs.declared.phases.Phase.TheVariants.{Started, CreateInitialSnapshot, StoreInitialIds, CreateVolumes, AddFirstCheckpoint, CopyDisks, CopyingPaused, RemovePreviousSnapshot, CreateSnapshot, StoreIds, AddCheckpoint, StorePowerState, PowerOffSource, WaitForPowerOff, RemovePenultimateSnapshot, CreateFinalSnapshot, AddFinalCheckpoint, CopyFinal, RemoveFinalSnapshot, Completed, Cancelled, Failed}
 use Rattle.phase_table.specs.Phases.{is_end}
@@ -42,7 +43,6 @@ use Rattle.ctl_state.specs.Effect.{Effect, phase_at, ids_at, effect_at, says_rec
 use Rattle.ctl_state.specs.declared.task.PhaseTask.{PhaseTask}
 use Rattle.ctl_state.specs.EffectLaws.{record_of, HasForJob, PhasesMayStand, MayCleanUp, CleanUpsMayStand}
 use Rattle.ctl_state.proofs.SoundMoves.{is-at, closed}
-use Rattle.ctl_state.proofs.SoundSteps.{none-is}
 use Rattle.ctl_state.proofs.EffectStands.{IsPhaseJob, phase-job}
 
 -- a migration whose phase has a job to do
@@ -280,7 +280,8 @@ phase-fine Failed v now m machine log s copying waiting has = nothing-said (read
 
 is-ready : (m : Migration) → is_live m ≡ true → m.cancel ≡ false → m ≡ ready_in m.phase m
 is-ready m live going =
-    ap (λ (how : Option How). record m { how = how }) (none-is m.how live)
+    ap (λ (how : Option How). record m { how = how })
+    (none_is m.how (not-true (is_some m.how) live))
     ∙ ap (λ (c : Bool). record m { how = None; cancel = c }) going
 
 pub phases_may_stand : PhasesMayStand

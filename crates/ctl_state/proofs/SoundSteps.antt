@@ -1,10 +1,11 @@
 -- Each record that may stand for a sound migration leaves it sound.
 use Rattle.std.proofs.Common.{◌≡◌, ℕ, ◌<◌, ◌==◌, List, Bool, true, false, ◌&&◌, ◌||◌, ◌⊎◌, inl, inr, cond, not, Option, Some, None, refl, sym, ap, subst, ◌∙◌, length}
-use Rattle.std.specs.Prelude.{is_none, unwrap_or, nat_lt, nat_le, IsSome}
+use Rattle.std.specs.Prelude.{is_none, is_some, unwrap_or, nat_lt, nat_le, IsSome}
 use Rattle.std.specs.List.{list_all}
 use Rattle.std.proofs.lemmas.Bool.{and_parts, or_cases, not-true, eqb-true, ltb-true, false≢true}
 use Rattle.change_id.specs.declared.ChangeId.{ChangeId}
 use Rattle.checkpoints.specs.DataVolume.{add_refusal}
+use Rattle.log_model.proofs.Options.{none_is}
 use Rattle.phase_table.specs.declared.phases.Phase.{Phase}
 use Rattle.phase_table.specs.declared.phases.Phase.TheVariants.{Started, CreateInitialSnapshot, StoreInitialIds, CreateVolumes, AddFirstCheckpoint, CopyDisks, CopyingPaused, RemovePreviousSnapshot, CreateSnapshot, StoreIds, AddCheckpoint, StorePowerState, PowerOffSource, WaitForPowerOff, RemovePenultimateSnapshot, CreateFinalSnapshot, AddFinalCheckpoint, CopyFinal, RemoveFinalSnapshot, Completed, Cancelled, Failed}
 use Rattle.phase_table.specs.declared.table.Fact.TheVariants as Facts
@@ -114,10 +115,6 @@ made : (m : Migration) → IsSound m → goes_on_in m CreateVolumes ≡ true
 made m s h = by-phase m CreateVolumes (λ x. moved (record x { volumes = true }) Facts.Done) refl s
     (goes-on m CreateVolumes h).phase (volumes-made m)
 
-pub none-is : {X : Type 0} (o : Option X) → is_none o ≡ true → o ≡ None
-none-is None e = refl
-none-is (Some x) e = absurd (false≢true e)
-
 added : (m : Migration) (previous current : ℕ) (last : Bool) → IsSound m
     → may_add m previous current last ≡ true
     → IsSound (moved (opened m previous current last) Facts.Done)
@@ -127,7 +124,8 @@ added m previous current last s h =
     let rest = and_parts (is_current m current) (is_none (add_refusal m.dv previous current))
     parts.1 in
     by-last m previous current last s parts.0 (is_that m.snap current rest.0)
-    (none-is (add_refusal m.dv previous current) rest.1)
+    (none_is (add_refusal m.dv previous current)
+    (not-true (is_some (add_refusal m.dv previous current)) rest.1))
   where
     by-last : (m : Migration) (previous current : ℕ) (last : Bool) → IsSound m
         → adds_checkpoint m last ≡ true → m.snap ≡ Some current

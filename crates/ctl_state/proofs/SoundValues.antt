@@ -5,7 +5,7 @@ use Rattle.std.specs.List.{AllByRecursion}
 use Rattle.std.specs.Option.{option_map_or}
 use Rattle.std.proofs.lemmas.Bool.{and_parts, eqb-true, eq-eqb, ltb-true, leb-true, false≢true}
 use Rattle.std.proofs.lemmas.List.{length-replicate}
-use Rattle.std.proofs.lemmas.Option.{none-some, same_Some}
+use Rattle.std.proofs.lemmas.Option.{none-some, same_Some, slice_get_past}
 use Rattle.basics.specs.declared.limits.TheConstants.{MAX_DISKS}
 use Rattle.checkpoints.proofs.Order.{new_is_sound}
 use Rattle.plan_model.specs.declared.plan.Plan.{Plan}
@@ -151,17 +151,13 @@ step-same m (Ended mig how place) = ends-same m (how_of how)
 
 -- ---- plans stay
 
-past-end : {X : Type 0} (xs : List X) → slice_get xs (length xs) ≡ None
-past-end [] = refl
-past-end (x ∷ xs) = past-end xs
-
 pub numbered-past : {X : Type 0} (xs : List X) → numbered xs (length xs + 1) ≡ None
 numbered-past {X} xs = test (length xs + 1 == 0)
   where
     test : (b : Bool) → cond b None (slice_get xs (length xs + 1 - 1)) ≡ None
     test true = refl
     test false = let at : length xs + 1 - 1 ≡ length xs = omega arith in
-        ap (slice_get xs) at ∙ past-end xs
+        ap (slice_get xs) at ∙ slice_get_past xs (length xs) (omega arith)
 
 added-plan : (plans : List Plan) (p : ℕ) (plan added : Plan) → numbered plans p ≡ Some plan
     → numbered (plans ++ added ∷ []) p ≡ Some plan

@@ -6,6 +6,7 @@ use Rattle.std.specs.BTreeMap.{get, is_at}
 use Rattle.std.specs.Ordering.{nat_cmp, is_eq}
 use Rattle.std.proofs.lemmas.Bool.{eqb-true, eq-eqb}
 use Rattle.std.proofs.lemmas.Bool.Decides.{eqb_tells}
+use Rattle.std.proofs.lemmas.List.{take_all}
 use Rattle.log_model.proofs.Options.{none_is}
 use Rattle.ctl_state.specs.Value.{is_listed}
 use Rattle.ctl_state.specs.MayStand.{has_double}
@@ -117,12 +118,6 @@ none_at work vms i free h = none_from work vms i (get_or vms i 0) free
     (from_place vms i (get_or vms i 0) h
     ∙ ap (λ b. b || is_listed (drop (i + 1) vms) (get_or vms i 0))
     (eq-eqb (get_or vms i 0) (get_or vms i 0) refl))
-
-take_all : (n : ℕ) (xs : List ℕ) → length xs ≤ n → take n xs ≡ xs
-take_all zero [] h = refl
-take_all zero (x ∷ xs) h = absurd (omega (arith, h))
-take_all (suc n) [] h = refl
-take_all (suc n) (x ∷ xs) h = ap (λ rest. x ∷ rest) (take_all n xs (omega (arith, h)))
 
 -- a slice from a place to the end is the list from there on
 pub from_on : (xs : List ℕ) (i : ℕ) → take (length xs - i) (drop i xs) ≡ drop i xs

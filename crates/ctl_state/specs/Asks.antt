@@ -20,6 +20,7 @@ use Rattle.log_model.specs.Marks.{mark, id_at, in_force, tracking}
 use Rattle.log_model.specs.Frozen.{off_place}
 use Rattle.log_model.specs.Touched.{touched}
 use Rattle.warm_core.specs.declared.disk_world.Base.{Base}
+use Rattle.warm_core.specs.Events.{base_of}
 use Rattle.warm_core.specs.StageState.{sectors_below}
 use Rattle.warm_core.specs.Staged.{Staged}
 use Rattle.target_volume.specs.declared.volume_name.VolumeName.{VolumeName}
@@ -154,12 +155,12 @@ SnapshotAsks mig log m = is_live m ≡ true → ForSome m.snap
 -- what a volume holds, as the disk's last stage that is done left it: the mark is that of the
 -- records, the identifier that of the log at this mark
 abbrev pub base_at : (machine disk : ℕ) → List Entry → CopyBase → Option Base
-base_at machine disk log base = option_map
-    (λ id. record { mark = base.mark; id = id })
-    (in_force machine disk (take (base.mark + 1) log))
+base_at machine disk log base =
+    base_of base.mark (in_force machine disk (take (base.mark + 1) log))
 
-abbrev pub base_of : (machine disk : ℕ) → List Entry → DiskCopy → Option Base
-base_of machine disk log copy = option_and_then (base_at machine disk log) copy.base
+-- the same of a disk's copy, where a stage of it is done
+abbrev pub base_of_copy : (machine disk : ℕ) → List Entry → DiskCopy → Option Base
+base_of_copy machine disk log copy = option_and_then (base_at machine disk log) copy.base
 
 -- the current snapshot, with the power-off place that the log has for it
 abbrev pub snapped_in : List Entry → Migration → Option Snapped
@@ -171,7 +172,7 @@ pub record VolumeAgrees (at : MachineFacts) (m : Migration) (disk : ℕ) (copy :
     (v : VolumeContents) : Type 0 where
   pub sized : IsSized (capacity_of at.capacities disk) v
   pub staged : Staged (capacity_of at.capacities disk) disk at.log
-      (base_of at.number disk at.log copy) (snapped_in at.log m) v
+      (base_of_copy at.number disk at.log copy) (snapped_in at.log m) v
 
 -- the volume is of a disk that the migration has, and of its capacity
 pub record IsOfDisk (at : MachineFacts) (m : Migration) (disk : ℕ) (stored : StoredVolume)

@@ -51,7 +51,7 @@ pub record AddsAlone (command : Command) : Type 0 where
   pub after : (s : State) → state_after command s ≡ with_added (records_of command s) s
 
 -- by what it is asked over the value of the controller
-pub record AsksFor (command : Command) (s : State) (refusal : Option Refusal) (added : List Record)
+pub record HasParts (command : Command) (s : State) (refusal : Option Refusal) (added : List Record)
     (reply : Reply) : Type 0 where
   pub refusal_is : refusal_of command s ≡ refusal
   pub records_are : records_of command s ≡ added
@@ -69,7 +69,7 @@ has_some (Some first) P why is = sym is
 
 pub answered : (command : Command) (old new : Server) (refusal : Option Refusal)
     (added : List Record) (reply : Reply) (v w : CtlValue) (result : Result Answer NotKept)
-    → AddsAlone command → AsksFor command (state_of old) refusal added reply
+    → AddsAlone command → HasParts command (state_of old) refusal added reply
     → new ≡ record old { journal = new.journal }
     → CarriesOut refusal added reply result (keeping v old.journal) (keeping w new.journal)
     → IfOk result (λ answer. Answers command answer (state_of old) (state_of new))
@@ -116,7 +116,7 @@ still_unfailed refusal added reply v w j k (Err why) ready h = tt
 
 pub unanswered : (command : Command) (old new : Server) (refusal : Option Refusal)
     (added : List Record) (reply : Reply) (v w : CtlValue) (result : Result Answer NotKept)
-    → AddsAlone command → AsksFor command (state_of old) refusal added reply
+    → AddsAlone command → HasParts command (state_of old) refusal added reply
     → new ≡ record old { journal = new.journal }
     → CarriesOut refusal added reply result (keeping v old.journal) (keeping w new.journal)
     → IfErr result (λ why. IsUnanswered command why old new)
@@ -144,8 +144,9 @@ plan_adds name vms interval = record {
 
 pub plan_asks : (name : List ℕ) (vms : List (List ℕ)) (interval : Option ℕ) (server : Server)
     (v : CtlValue) → IsStateOf v server.journal.records
-    → AsksFor (PlanAsked name vms interval) (state_of server) (plan_refusal name vms server.fleet v)
-    (plan_records name vms interval server.fleet v) plan_reply
+    → HasParts (PlanAsked name vms interval) (state_of server)
+    (plan_refusal name vms server.fleet v) (plan_records name vms interval server.fleet v)
+    plan_reply
 plan_asks name vms interval server v come =
     let is = value_is v server.journal.records come in
     record {

@@ -19,6 +19,7 @@ use Rattle.journal.proofs.Crashes.{crashes_keep, never_strange, opens_one_of, re
 use Rattle.record_codec.specs.declared.record.Record.{Record}
 use Rattle.ctl_state.specs.Value.{no_records}
 use Rattle.ctl_state.proofs.ListFacts.{none-numbered}
+use Rattle.restart.proofs.Folding.{none_stand}
 use Rattle.restart.specs.Agrees.{Agrees}
 use Rattle.restart.specs.Laws.{TakenAgree, TakenAreNotStrange}
 use Rattle.restart.specs.Reopening.{SaysWhy, IsFoundStrange}
@@ -109,16 +110,9 @@ crashes_hold_together lists old new h crash same = record {
 
 nothing_taken : (fleet : FleetState) → AreTaken fleet [] no_records
 nothing_taken fleet = record {
-  stand = record {
-    come_to = refl;
-    borne_out = λ front rest r v split come. absurd (no_split front rest r split);
-  };
+  stand = none_stand fleet;
   snapshots = λ mig m there. absurd (none-numbered mig m there);
 }
-  where
-    no_split : (front rest : List Record) (r : Record) → [] ≡ front ++ r ∷ rest → ⊥
-    no_split [] rest r e = cc
-    no_split (x ∷ front) rest r e = cc
 
 few_stand : (bytes image : List ℕ) → length bytes ≤ EMPTY_BYTES → image ≡ bytes
     → StandsForOneOf ([] ∷ []) image

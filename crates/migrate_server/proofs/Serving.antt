@@ -46,7 +46,7 @@ use Rattle.answers.specs.Answer.{Answer, answer_line}
 use Rattle.migrate_server.specs.Line.{AsksToQuit, Means, refused_by, quits, is_space, is_blank, is_lf, lines_of, ended_lines, before_first_line, requests_among}
 use Rattle.migrate_server.specs.LineBuffer.{Holds}
 use Rattle.migrate_server.specs.Reader.{ReaderState, HasNoLf, IsIdle, TakesLine, TakesEnd, HasNoLine, budget}
-use Rattle.migrate_server.specs.Serve.{IsAnswered, IsStopped, HasReply, TellsQuit, ServesLine, FailsInReply, LacksMemory, LineStops, StopsBeforeReply, LacksReply, LacksBytes, bytes_of_reply, stop_without_line, stop_unkept, stop_without_reply, status_of}
+use Rattle.migrate_server.specs.Serve.{IsAnswered, IsStopped, HasReply, TellsQuit, ServesLine, FailsInReply, LacksMemory, LineStops, StopsBeforeReply, LacksReply, LacksBytes, bytes_of_reply, stop_without_line, stop_unkept, stop_without_reply, status_served}
 use Rattle.migrate_server.specs.Serves.{Serves, TakesFor, NoneQuits, QuitsLast, QuitsFor, ComesTo, LeavesFor, CutsNext, CutFor}
 use Rattle.migrate_server.specs.Session.{State, state_of, serving, LineIsCut, Session, Step}
 use Rattle.migrate_server.specs.World.{Server, Desk}
@@ -496,8 +496,8 @@ replied_line text (Some reply) lines replies old now after sink sink_now sink_af
       replies = replies ++ reply ∷ [];
       session = session_reply old now after lines replies text reply session answers;
       written = subst (Appends sink.held sink_after.held) (sym (text_more replies reply))
-          (Appends-trans sink.held sink_now.held sink_after.held (text_of replies) (answer_line reply)
-          written told);
+          (Appends-trans sink.held sink_now.held sink_after.held (text_of replies)
+          (answer_line reply) written told);
     }
 
 -- the journal hasn't failed in the next line either
@@ -629,8 +629,8 @@ serves_by old new status f =
 
 -- a run came to its end
 pub record Ended (old new : Desk) (status : Result (Unit {0}) Stop) : Type 0 where
-  pub serves : Serves old new (status_of status)
-  pub ends : EndsFor old new (status_of status)
+  pub serves : Serves old new (status_served status)
+  pub ends : EndsFor old new (status_served status)
 
 -- the desk with its source after more was read
 abbrev pub read_on : Desk → SourceState → Desk
@@ -1029,7 +1029,7 @@ ended_before_reply old now after reader reader_after buffer p t sink r =
 
 -- the statuses of such a line
 abbrev unkept : NotKept → Status
-unkept why = status_of (Err (stop_unkept why))
+unkept why = status_served (Err (stop_unkept why))
 
 for_each : (why : NotKept) (P : Status → Type 0) → P status.JournalFault → P status.JournalFull
     → P status.NoMemory → P (unkept why)

@@ -155,11 +155,11 @@ stop_without_reply Fault = WriteFault
 stop_without_reply (Unkept why) = stop_unkept why
 
 -- the status of a run whose input was served so
-abbrev pub status_of : Result (Unit {0}) Stop → Status
-status_of (Ok _) = Served
-status_of (Err ReadFault) = EndsReadFault
-status_of (Err JournalFault) = EndsJournalFault
-status_of (Err WriteFault) = EndsWriteFault
-status_of (Err InputLimit) = EndsInputLimit
-status_of (Err JournalFull) = EndsJournalFull
-status_of (Err NoServingMemory) = EndsNoMemory
+abbrev pub status_served : Result (Unit {0}) Stop → Status
+status_served (Ok _) = Served
+status_served (Err ReadFault) = EndsReadFault
+status_served (Err JournalFault) = EndsJournalFault
+status_served (Err WriteFault) = EndsWriteFault
+status_served (Err InputLimit) = EndsInputLimit
+status_served (Err JournalFull) = EndsJournalFull
+status_served (Err NoServingMemory) = EndsNoMemory

@@ -1,15 +1,13 @@
 //! A full copy of a disk to a volume.
-ghost use Rattle.std.specs.Prelude.{◌≡◌, ◌+◌, ◌-◌, ◌≤◌, ◌<◌, ℕ, true, false, length, All, OnOk, OnErr, MatchOption, min};
-ghost use Rattle.sector_model.specs.Run.{end_of, in_runs, AreSpaced, IsNext, NoneFrom};
+ghost use Rattle.std.specs.Prelude.{◌≡◌, ◌+◌, ◌-◌, ◌≤◌, ◌<◌, ℕ, true, false, length, All, OnOk, OnErr, min};
+ghost use Rattle.sector_model.specs.Run.{end_of, in_runs, AreSpaced};
 ghost use Rattle.migrate_server.specs.Copy.{after_copy, CopyFails};
 ghost use Rattle.migrate_server.specs.WrittenDisk.{frozen_sectors, IsFrozen};
 
 use crate::written_disk::WrittenDisk;
-use sector_model::{Run, Runs, Sector};
+use sector_model::{Runs, Sector};
 use target_volume::{Volume, VolumeFailed};
-
-/// The most sectors that are copied or zeroed at once.
-pub(crate) const PIECE_SECTORS: u64 = 128;
+use warm_core::MAX_PIECE_SECTORS;
 
 /// Copies the allocated runs of a frozen disk to a volume that was never written, zeroes the rest,
 /// and flushes. Each sector is written once, in one pass, by a buffer that a piece fits into. A
@@ -20,7 +18,7 @@ pub(crate) fn copy_full<V: Volume>(
     volume: &mut V,
 ) -> Result<(), VolumeFailed>
     requires frozen { IsFrozen disk.now }
-    requires room { PIECE_SECTORS ≤ length buffer.old }
+    requires room { MAX_PIECE_SECTORS ≤ length buffer.old }
     requires sized { (V.state volume.old).capacity ≡ length (frozen_sectors disk.now) }
     requires fresh { (V.state volume.old).written ≡ 0 }
     ensures copied { OnOk result
@@ -56,14 +54,14 @@ fn next_piece(allocated: &Runs, at: u64, capacity: u64) -> Piece
     requires spaced { AreSpaced allocated.now }
     requires within { All (λ run. end_of run ≤ capacity) allocated.now }
     ensures some { 0 < result.count }
-    ensures few { result.count ≤ PIECE_SECTORS }
+    ensures few { result.count ≤ MAX_PIECE_SECTORS }
     ensures inside { at + result.count ≤ capacity }
     ensures data { result.is_data ≡ true → (s : ℕ) → at ≤ s → s < at + result.count
         → in_runs allocated.now s ≡ true }
     ensures gap { result.is_data ≡ false → (s : ℕ) → at ≤ s → s < at + result.count
         → in_runs allocated.now s ≡ false }
 {
-    let Some(run) = next_run(allocated, at, capacity) else {
+    let Some(run) = allocated.next_from(at) else {
         return piece_to(at, capacity, false);
     };
     if run.first == at {
@@ -73,22 +71,13 @@ fn next_piece(allocated: &Runs, at: u64, capacity: u64) -> Piece
     }
 }
 
-/// The next run from a sector on, if there is one.
-fn next_run(allocated: &Runs, at: u64, capacity: u64) -> Option<Run>
-    requires spaced { AreSpaced allocated.now }
-    requires within { All (λ run. end_of run ≤ capacity) allocated.now }
-    ensures { MatchOption result (NoneFrom allocated.now at) (IsNext allocated.now at capacity) }
-{
-    allocated.next_from(at)
-}
-
 /// At most as many sectors as a piece may have, of those from one on and before another.
 fn piece_to(at: u64, end: u64, is_data: bool) -> Piece
     requires { at < end }
-    ensures { result ≡ record { count = min PIECE_SECTORS (end - at); is_data = is_data } }
+    ensures { result ≡ record { count = min MAX_PIECE_SECTORS (end - at); is_data = is_data } }
 {
     Piece {
-        count: PIECE_SECTORS.min(end - at),
+        count: MAX_PIECE_SECTORS.min(end - at),
         is_data,
     }
 }

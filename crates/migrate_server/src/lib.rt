@@ -5,7 +5,7 @@ ghost use Rattle.std.specs.Prelude.{◌≡◌, ◌<◌, ◌↔◌, length, IsTru
 ghost use Rattle.fleet.specs.Sound.{AllAreIn};
 ghost use Rattle.record_keeping.specs.Keeping.{keeping, IsReady};
 ghost use Rattle.migrate_server.specs.World.{world_of, desk_of, server_of};
-ghost use Rattle.migrate_server.specs.Serve.{status_of, AllWouldBeTaken};
+ghost use Rattle.migrate_server.specs.Serve.{status_served, AllWouldBeTaken};
 ghost use Rattle.migrate_server.specs.EndsFor.{TellsUsage};
 ghost use Rattle.migrate_server.specs.Runs.{Runs, Closes, status_unopened};
 
@@ -166,7 +166,7 @@ fn serve_over<S: Source, K: Sink, D: Disk, T: VolumeStore>(
 {
     let mut controller = controller;
     let mut fleet = fleet;
-    let status = status_of(serve(alloc, input, out, &mut controller, &mut fleet));
+    let status = status_served(serve(alloc, input, out, &mut controller, &mut fleet));
     let Controller { journal, store, .. } = controller;
     Outcome {
         status,
@@ -193,8 +193,8 @@ fn status_unopened(refused: ReopenRefused) -> Status
 }
 
 /// The status of a run whose input was served so.
-fn status_of(served: Result<(), Stop>) -> Status
-    ensures { result ≡ status_of served }
+fn status_served(served: Result<(), Stop>) -> Status
+    ensures { result ≡ status_served served }
 {
     match served {
         Ok(()) => Status::Ok,

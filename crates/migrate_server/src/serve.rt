@@ -11,7 +11,7 @@ ghost use Rattle.target_volume.specs.VolumeStore.{StoreState};
 ghost use Rattle.migrate_server.specs.LineBuffer.{Holds};
 ghost use Rattle.migrate_server.specs.Line.{AsksInRange};
 ghost use Rattle.migrate_server.specs.Session.{serving, state_of, power_deed, Answers};
-ghost use Rattle.migrate_server.specs.Serve.{is_on_plans, AllWouldBeTaken, IsAnswered, IsUnanswered, IsStopped, TellsQuit, ServesLine, LacksReply, LacksBytes, status_of};
+ghost use Rattle.migrate_server.specs.Serve.{is_on_plans, AllWouldBeTaken, IsAnswered, IsUnanswered, IsStopped, TellsQuit, ServesLine, LacksReply, LacksBytes, status_served};
 ghost use Rattle.migrate_server.specs.World.{desk_of, server_of};
 ghost use Rattle.migrate_server.specs.Serves.{Serves};
 ghost use Rattle.migrate_server.specs.EndsFor.{EndsFor};
@@ -132,13 +132,13 @@ pub(crate) fn serve<S: Source, K: Sink, D: Disk, T: VolumeStore>(
         (server_of fleet.old controller.old.journal (T.state controller.old.store)))
         (desk_of (S.state input.new) (K.state out.new)
         (server_of fleet.new controller.new.journal (T.state controller.new.store)))
-        (status_of result) }
+        (status_served result) }
     ensures ends { EndsFor
         (desk_of (S.state input.old) (K.state out.old)
         (server_of fleet.old controller.old.journal (T.state controller.old.store)))
         (desk_of (S.state input.new) (K.state out.new)
         (server_of fleet.new controller.new.journal (T.state controller.new.store)))
-        (status_of result) }
+        (status_served result) }
     ensures taken { AllWouldBeTaken fleet.new controller.new.journal }
 {
     let Ok(mut reader) = LineReader::new(alloc) else {

@@ -20,27 +20,27 @@ use Rattle.plan_model.specs.Book as book
 use Rattle.plan_model.specs.Laws.{NumbersTellApart}
 use Rattle.plan_model.specs.Plans.{vm_number}
 use Rattle.ctl_state.specs.Value.{CtlValue, is_at_work}
-use Rattle.plan_commands.specs.Machines.{fact_of, known_of}
+use Rattle.plan_commands.specs.Machines.{known_machine, known_of}
 
 -- ---- by a place
 
 pub known_at : (fleet : FleetState) (v : CtlValue) (place : ℕ) (vm : VmState)
     → slice_get fleet.vms place ≡ Some vm
     → slice_get (known_of fleet v) place
-    ≡ Some (fact_of v (vm_row fleet.hosts (place + 1) vm))
+    ≡ Some (known_machine v (vm_row fleet.hosts (place + 1) vm))
 known_at fleet v place vm at =
-    slice_get-map (fact_of v) (vm_rows fleet) place
-    ∙ ap (option_map (fact_of v)) (row_at fleet place vm at)
+    slice_get-map (known_machine v) (vm_rows fleet) place
+    ∙ ap (option_map (known_machine v)) (row_at fleet place vm at)
 
 pub none_known_at : (fleet : FleetState) (v : CtlValue) (place : ℕ)
     → slice_get fleet.vms place ≡ None → slice_get (known_of fleet v) place ≡ None
 none_known_at fleet v place none =
-    slice_get-map (fact_of v) (vm_rows fleet) place
-    ∙ ap (option_map (fact_of v)) (no_row_at fleet place none)
+    slice_get-map (known_machine v) (vm_rows fleet) place
+    ∙ ap (option_map (known_machine v)) (no_row_at fleet place none)
 
 pub known_count : (fleet : FleetState) (v : CtlValue)
     → length (known_of fleet v) ≡ length fleet.vms
-known_count fleet v = length-map (vm_rows fleet) (fact_of v) ∙ row_count fleet
+known_count fleet v = length-map (vm_rows fleet) (known_machine v) ∙ row_count fleet
 
 -- what was found of the machine at a place is what is known of it
 pub fact_is : (fleet : FleetState) (v : CtlValue) (place : ℕ) → place < length fleet.vms
@@ -105,7 +105,7 @@ is_known fleet v name fact h =
     by place is named None at =
         absurd (none-some fact (sym (none_known_at fleet v place at) ∙ is))
     by place is named (Some vm) at =
-        let same : fact_of v (vm_row fleet.hosts (place + 1) vm) ≡ fact =
+        let same : known_machine v (vm_row fleet.hosts (place + 1) vm) ≡ fact =
         same_Some _ fact (sym (known_at fleet v place vm at) ∙ is) in
         record {
           place = place;

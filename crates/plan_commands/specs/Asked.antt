@@ -7,8 +7,8 @@ use Rattle.reply_json.specs.declared.reply.Reply.{Reply}
 use Rattle.plan_commands.specs.declared.asked.Asked.{Asked}
 
 -- a command that has this refusal, or none, asks for these records and has this reply
-abbrev pub AsksFor : (refusal : Option Refusal) → (records : List Record) → (reply : Reply)
+abbrev pub IsDecidedBy : (refusal : Option Refusal) → (records : List Record) → (reply : Reply)
     → Result Asked Refusal → Type 0
-AsksFor refusal records reply (Ok asked) =
+IsDecidedBy refusal records reply (Ok asked) =
     (refusal ≡ None) × (asked.records ≡ records) × (asked.reply ≡ reply)
-AsksFor refusal records reply (Err why) = refusal ≡ Some why
+IsDecidedBy refusal records reply (Err why) = refusal ≡ Some why

@@ -9,8 +9,8 @@ use Rattle.plan_model.specs.declared.plan.VmFact.{VmFact}
 use Rattle.ctl_state.specs.Value.{CtlValue, is_at_work}
 
 -- what is known of a machine, where the records came to a value
-abbrev pub fact_of : CtlValue → VmRow → VmFact
-fact_of v row = record {
+abbrev pub known_machine : CtlValue → VmRow → VmFact
+known_machine v row = record {
   name = row.name;
   number = row.number;
   in_plan = is_at_work v row.number;
@@ -19,7 +19,7 @@ fact_of v row = record {
 
 -- of all machines, in order of their numbers
 abbrev pub known_of : FleetState → CtlValue → List VmFact
-known_of fleet v = map (fact_of v) (vm_rows fleet)
+known_of fleet v = map (known_machine v) (vm_rows fleet)
 
 -- how many disks the machine of a number has
 abbrev pub disks_of : (vm : ℕ) → FleetState → ℕ

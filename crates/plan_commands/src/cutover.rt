@@ -1,6 +1,6 @@
 //! The command `cutover`.
 ghost use Rattle.std.specs.Prelude.{◌≡◌, IfOk};
-ghost use Rattle.plan_commands.specs.Asked.{AsksFor};
+ghost use Rattle.plan_commands.specs.Asked.{IsDecidedBy};
 ghost use Rattle.plan_commands.specs.commands.Cutover.{course_refusal, cutover_refusal_of, seconds_of, cutover_refusal, cutover_records, cutover_reply};
 
 use crate::Asked;
@@ -23,7 +23,7 @@ pub fn ask_cutover(
     plan: &Name,
     at: Option<Moment>,
 ) -> Result<Result<Asked, Refusal>, NoMemory>
-    ensures { IfOk result (λ answer. AsksFor (cutover_refusal plan.now state.now)
+    ensures { IfOk result (λ answer. IsDecidedBy (cutover_refusal plan.now state.now)
         (cutover_records plan.now at state.now) cutover_reply answer) }
 {
     let Some(number) = state.plan_named(plan) else {

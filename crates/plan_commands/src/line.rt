@@ -3,7 +3,7 @@ ghost use Rattle.std.specs.Prelude.{◌≡◌, IfOk, map, option_map};
 ghost use Rattle.log_model.specs.Entry.{writes_before};
 ghost use Rattle.fleet.specs.Sound.{AllAreIn};
 ghost use Rattle.ctl_state.specs.StatusLine.{cause_of, state_of_end, state_in, state_of, dv_name, told_place, plan_name, checkpoint_line};
-ghost use Rattle.plan_commands.specs.commands.Status.{check_line, line_of};
+ghost use Rattle.plan_commands.specs.commands.Status.{check_line, migration_line};
 
 use crate::machines::{log_of, name_of};
 use basics::{NoMemory, Sequence, Text};
@@ -16,14 +16,14 @@ use reply_json::{CheckLine, MigLine};
 use std::alloc::Global;
 
 /// The line of a migration.
-pub(crate) fn line_of(
+pub(crate) fn migration_line(
     alloc: Global,
     fleet: &Fleet,
     state: &CtlState,
     migration: &Migration,
 ) -> Result<MigLine, NoMemory>
     requires { AllAreIn fleet.now }
-    ensures { IfOk result (λ line. line ≡ line_of fleet.now state.now migration.now) }
+    ensures { IfOk result (λ line. line ≡ migration_line fleet.now state.now migration.now) }
 {
     let place = told_place(migration);
     Ok(MigLine {

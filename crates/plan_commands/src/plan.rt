@@ -4,7 +4,7 @@ ghost use Rattle.basics.specs.Spelled.{IsName};
 ghost use Rattle.basics.specs.declared.limits.TheConstants.{MAX_INTERVAL};
 ghost use Rattle.cmd_json.specs.Range.{IsWithin};
 ghost use Rattle.fleet.specs.Sound.{AllAreIn};
-ghost use Rattle.plan_commands.specs.Asked.{AsksFor};
+ghost use Rattle.plan_commands.specs.Asked.{IsDecidedBy};
 ghost use Rattle.plan_commands.specs.commands.Plan.{made_by, plan_told, plan_refusal, plan_records, plan_reply};
 
 use crate::Asked;
@@ -39,7 +39,7 @@ pub fn ask_plan(
     requires named { IsName name.now }
     requires limited { IfSome interval (IsWithin 1 MAX_INTERVAL) }
     requires room { length state.now.plans < u32.MAX }
-    ensures { IfOk result (λ answer. AsksFor
+    ensures { IfOk result (λ answer. IsDecidedBy
         (plan_refusal name.now vms.now fleet.now state.now)
         (plan_records name.now vms.now interval fleet.now state.now) plan_reply answer) }
 {

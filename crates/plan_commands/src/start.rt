@@ -1,7 +1,7 @@
 //! The command `start`.
 ghost use Rattle.std.specs.Prelude.{◌≡◌, ◌+◌, ◌≤◌, ◌^◌, ◌++◌, true, IfOk, length, map};
 ghost use Rattle.std.specs.List.{zip, range_with_len};
-ghost use Rattle.plan_commands.specs.Asked.{AsksFor};
+ghost use Rattle.plan_commands.specs.Asked.{IsDecidedBy};
 ghost use Rattle.plan_commands.specs.commands.Start.{waiting_in, has_numbers_for, begun_by, numbers_in, start_refusal, start_records, start_reply};
 
 use crate::Asked;
@@ -36,7 +36,7 @@ pub fn ask_start(
     plan: &Name,
 ) -> Result<Result<Asked, Refusal>, NoMemory>
     requires room { has_numbers_for plan.now state.now ≡ true }
-    ensures { IfOk result (λ answer. AsksFor (start_refusal plan.now state.now)
+    ensures { IfOk result (λ answer. IsDecidedBy (start_refusal plan.now state.now)
         (start_records plan.now fleet.now state.now) (start_reply plan.now state.now) answer) }
 {
     let Some(number) = state.plan_named(plan) else {

@@ -3,7 +3,7 @@ ghost use Rattle.std.specs.Prelude.{◌≡◌, IfOk};
 ghost use Rattle.fleet.specs.Sound.{AllAreIn};
 ghost use Rattle.plan_commands.specs.commands.Status.{status_reply};
 
-use crate::line::line_of;
+use crate::line::migration_line;
 use basics::{NoMemory, Sequence};
 use ctl_state::CtlState;
 use fleet::Fleet;
@@ -19,7 +19,7 @@ pub fn status_of(alloc: Global, fleet: &Fleet, state: &CtlState) -> Result<Reply
 {
     let mut lines = Vec::new(alloc);
     for migration in state.migrations() {
-        let line = line_of(alloc, fleet, state, migration)?;
+        let line = migration_line(alloc, fleet, state, migration)?;
         lines.push(line)?;
     }
     Ok(Reply::Status(Sequence::from_vec(lines)))

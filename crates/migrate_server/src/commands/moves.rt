@@ -10,7 +10,7 @@ ghost use Rattle.migrate_server.specs.Session.{serving, Answers};
 ghost use Rattle.migrate_server.specs.WrittenDisk.{AreWithin, frozen_sectors, IsFrozen};
 ghost use Rattle.migrate_server.specs.commands.Moves.{move_refusal};
 
-use crate::copy::{PIECE_SECTORS, copy_full};
+use crate::copy::copy_full;
 use crate::written_disk::WrittenDisk;
 use answers::{Answer, Refusal};
 use basics::{MAX_LOGGED_SECTORS, Name, NoMemory};
@@ -19,6 +19,7 @@ use reply_json::Reply;
 use sector_model::Sector;
 use std::alloc::Global;
 use target_volume::{StoreRefused, VolumeName, VolumeStore};
+use warm_core::MAX_PIECE_SECTORS;
 
 /// Applies the writes to a fresh disk, and copies it to a fresh volume of that name. In this order:
 /// [`Refusal::Range`] where a write passes the end of the disk, [`Refusal::LogFull`] where they
@@ -44,7 +45,7 @@ pub(crate) fn run_move<T: VolumeStore>(
     let Ok(disk) = WrittenDisk::new(alloc, sectors, writes) else {
         return Err(NoMemory);
     };
-    let mut buffer = vec![in alloc; Sector::filled(0); PIECE_SECTORS as usize]?;
+    let mut buffer = vec![in alloc; Sector::filled(0); MAX_PIECE_SECTORS as usize]?;
     let name = VolumeName::Given(name);
     match copy_to_new_volume(&disk, &mut buffer, &name, sectors, store) {
         Ok(()) => Ok(Ok(Reply::Moved {
@@ -106,7 +107,7 @@ fn copy_to_new_volume<T: VolumeStore>(
 ) -> Result<(), StoreRefused>
     requires sized { length (frozen_sectors disk.now) ≡ sectors }
     requires frozen { IsFrozen disk.now }
-    requires room { PIECE_SECTORS ≤ length buffer.old }
+    requires room { MAX_PIECE_SECTORS ≤ length buffer.old }
     ensures { CopyAnswers (frozen_sectors disk.now) name.now sectors result
         (T.state store.old) (T.state store.new) }
 {

@@ -31,8 +31,8 @@ printed line = record {
 }
 
 -- by the name and the log of the migration's machine
-abbrev pub line_of : FleetState → CtlValue → Migration → MigLine
-line_of fleet v m = printed (status_line v (name_of m.vm fleet) (log_of m.vm fleet) m)
+abbrev pub migration_line : FleetState → CtlValue → Migration → MigLine
+migration_line fleet v m = printed (status_line v (name_of m.vm fleet) (log_of m.vm fleet) m)
 
 abbrev pub status_reply : FleetState → CtlValue → Reply
-status_reply fleet v = reply.Status (map (line_of fleet v) v.migrations)
+status_reply fleet v = reply.Status (map (migration_line fleet v) v.migrations)

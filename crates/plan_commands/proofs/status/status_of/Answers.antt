@@ -1,11 +1,11 @@
 use Rattle.std.proofs.Common.{◌++◌, ◌∷◌, [], ap, sym, ◌∙◌, map, take}
 use Rattle.std.proofs.lemmas.List.{map_more}
-use Rattle.plan_commands.specs.commands.Status.{line_of}
+use Rattle.plan_commands.specs.commands.Status.{migration_line}
 use Rattle.plan_commands.proofs.status.status_of.Goals as goal
 
 pub loop-migration-preserved : goal.loop-migration-preserved
 loop-migration-preserved c =
-    let line = line_of c.args.fleet.now c.args.state.now in
+    let line = migration_line c.args.fleet.now c.args.state.now in
     let all = c.migrations-migration-items.result.now in
     let index = c.loop-migration.migration-index in
     let before = map line (take index all) in
