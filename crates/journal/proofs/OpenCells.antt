@@ -4,6 +4,7 @@ use Rattle.std.proofs.lemmas.List.{take-append-drop}
 use Rattle.record_codec.specs.Record.{word_bytes}
 use Rattle.record_codec.specs.Parse.{word_at}
 use Rattle.record_codec.proofs.Numbers.{IsBytes, word_split, word_fits}
+use Rattle.record_codec.proofs.FixedFields.{byte_split}
 use Rattle.journal.specs.declared.format.TheConstants.{OPEN_GATE}
 use Rattle.journal.specs.Cells.{IsOpen}
 use Rattle.journal.proofs.CellLemmas.{HasParts, parts_of}
@@ -31,10 +32,6 @@ open_fits cells body behind is =
     let rest : drop 5 cells ≡ body ++ behind = ap (λ xs. drop 5 xs) parts.gate ∙ parts.tail in
     omega (arith, word, ap length rest, length-append body behind)
 
-first_and_rest : (cells : List ℕ) → 1 ≤ length cells → cells ≡ get_or cells 0 0 ∷ drop 1 cells
-first_and_rest [] some = absurd (omega arith)
-first_and_rest (x ∷ xs) some = refl
-
 drop_five : (cells : List ℕ) → drop 4 (drop 1 cells) ≡ drop 5 cells
 drop_five [] = refl
 drop_five (x ∷ xs) = refl
@@ -58,7 +55,7 @@ is_open cells body behind bytes rest_bytes long gate fits body_is behind_is =
     ∙ take-append-drop count rest in
     let some : 1 ≤ length cells = omega arith in
     let split : cells ≡ OPEN_GATE ∷ (word_bytes count ++ rest) =
-    first_and_rest cells some ∙ ap (λ g. g ∷ drop 1 cells) gate
+    byte_split cells some ∙ ap (λ g. g ∷ drop 1 cells) gate
     ∙ ap (λ xs. OPEN_GATE ∷ xs) fields in
     record {
       few = omega (arith, len, word_fits (drop 1 cells) rest_bytes);

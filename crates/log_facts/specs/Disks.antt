@@ -1,8 +1,8 @@
 -- What a log says of the tracking of each disk: how far the two numbers had come at each snapshot
 -- from which its identifier there follows, and the place of its last reset.
-use Rattle.std.specs.Prelude.{◌≡◌, ℕ, ◌+◌, ◌==◌, nat_le, List, length, take, drop, slice_get, Bool, true, false, Option, Some, None, unwrap_or, if◌then◌else◌}
+use Rattle.std.specs.Prelude.{◌≡◌, ℕ, ◌+◌, nat_le, List, length, take, drop, slice_get, Bool, true, false, Option, Some, None, unwrap_or, if◌then◌else◌}
 use Rattle.std.specs.List.{list_any}
-use Rattle.change_id.specs.ChangeId.{packed}
+use Rattle.change_id.specs.ChangeId.{packed, counted_id}
 use Rattle.change_id.specs.declared.ChangeId.{ChangeId}
 use Rattle.log_model.specs.declared.entry.Entry.{Entry}
 use Rattle.log_model.specs.Entry.{is_snap, resets}
@@ -25,9 +25,7 @@ count_of disk log = record { resets = epoch disk log; counted = counted disk log
 -- the identifier that is in force
 abbrev pub id_of : (machine disk : ℕ) → IdCount → Option ChangeId
 id_of machine disk count =
-    if unwrap_or count.counted 0 == 0
-    then None
-    else Some (record { uuid = packed machine disk count.resets; seq = unwrap_or count.counted 0 })
+    counted_id (packed machine disk count.resets) (unwrap_or count.counted 0)
 
 -- they had come so far at the snapshots, in their order
 pub record AreCounts (disk : ℕ) (log : List Entry) (counts : List IdCount) : Type 0 where

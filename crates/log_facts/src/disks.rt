@@ -3,7 +3,7 @@ ghost use Rattle.std.specs.Prelude.{◌≡◌, ◌+◌, ◌<◌, ◌≤◌, ◌^
 ghost use Rattle.log_facts.specs.Disks.{count_after, id_of, reaches, IsDisk, AreDisks};
 
 use basics::NoMemory;
-use change_id::{ChangeId, pack};
+use change_id::{ChangeId, counted_id, pack};
 use log_model::{Entry, MAX_LOG_ENTRIES};
 use std::alloc::Global;
 
@@ -69,12 +69,8 @@ impl IdCount {
     pub fn id(self, machine: u32, disk: u32) -> Option<ChangeId>
         ensures { result ≡ id_of machine disk self }
     {
-        let seq = u64::from(self.counted.unwrap_or(0));
-        if seq == 0 {
-            return None;
-        }
         let uuid = pack(machine, disk, u64::from(self.resets));
-        Some(ChangeId { uuid, seq })
+        counted_id(uuid, u64::from(self.counted.unwrap_or(0)))
     }
 }
 

@@ -5,6 +5,7 @@ use Rattle.std.specs.Prelude.{◌==◌, ◌&&◌, nat_lt, nat_le, slice_index, i
 use Rattle.std.specs.List.{list_all, zip}
 use Rattle.std.specs.Char.{is_ascii_digit}
 use Rattle.std.proofs.lemmas.Bool.{and_parts, eqb-true}
+use Rattle.std.proofs.lemmas.Nat.{same_from_place}
 use Rattle.std.proofs.lemmas.Option.{same_Some}
 use Rattle.std.proofs.lemmas.Bool.Decides.{nat_tests}
 use Rattle.std.proofs.lemmas.Grind.{same_number_lists}
@@ -90,7 +91,7 @@ pair_same a b at ta tb tc td same =
     (slice_index b (at + 1)) ta tb tc td same
 
 digits_few : (a b : ℕ) → is_ascii_digit a ≡ true → is_ascii_digit b ≡ true
-    → (a - 48) * 10 + (b - 48) ≤ 99
+    → (a - 48) * 10 + (b - 48) < 100
 digits_few a b ta tb = let fa = digit_facts a ta in let fb = digit_facts b tb in omega arith
 
 pattern_at : (patterns text : List ℕ) (k : ℕ) → length text ≡ length patterns
@@ -177,9 +178,6 @@ same_parts r s one other same =
       second = parts.3;
     }
 
-year_same : (p q x y : ℕ) → q ≤ 99 → y ≤ 99 → p * 100 + q ≡ x * 100 + y → (p ≡ x) × (q ≡ y)
-year_same p q x y few other same = (omega arith, omega arith)
-
 both_are : (x y p : ℕ) → (x == p) ≡ true → (y == p) ≡ true → x ≡ y
 both_are x y p e f = grind (arith, nat_tests)
 
@@ -187,7 +185,8 @@ same_text : (a b : List ℕ) → Shaped a → Shaped b → SameParts (reading a)
 same_text a b sa sb parts =
     let P : ℕ → Type 0 = λ k. get_or a k 0 ≡ get_or b k 0 in
     let ta = sa.written in let tb = sb.written in
-    let years = year_same (two_digits a 0) (two_digits a 2) (two_digits b 0) (two_digits b 2)
+    let years = same_from_place
+    (two_digits a 0) (two_digits a 2) (two_digits b 0) (two_digits b 2) 100
     (digits_few (slice_index a 2) (slice_index a 3) (ta 2 (lit≤ tt)) (ta 3 (lit≤ tt)))
     (digits_few (slice_index b 2) (slice_index b 3) (tb 2 (lit≤ tt)) (tb 3 (lit≤ tt)))
     parts.year in

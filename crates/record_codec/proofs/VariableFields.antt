@@ -1,7 +1,7 @@
 -- Plans and identifiers: what stands in bytes that meet the needs, and that the bytes of such a
--- record
--- meet them.
+-- record meet them.
 use Rattle.std.proofs.Common.{◌≡◌, ℕ, zero, suc, ◌+◌, ◌-◌, ◌*◌, ◌^◌, ◌<◌, ◌≤◌, true, false, List, [], ◌∷◌, ◌++◌, length, take, drop, Option, Some, Ok, Err, refl, sym, ap, ◌∙◌, subst, arith, append_assoc, append-nil, length-append, eq-eqb}
+use lib.Seq.{take-append_seam, drop-append_seam}
 use Rattle.std.specs.Prelude.{slice_index, ◌==◌}
 use Rattle.std.specs.List.{AllByRecursion}
 use Rattle.std.proofs.lemmas.Option.{same_Some}
@@ -176,14 +176,6 @@ unfoldable pub plan_tail : (interval : ℕ) (vms : List ℕ) → List ℕ
 plan_tail interval vms =
     word_bytes interval ++ ((word_bytes (length vms) ++ all_word_bytes vms) ++ [])
 
-take_front : (xs ys : List ℕ) → take (length xs) (xs ++ ys) ≡ xs
-take_front [] ys = refl
-take_front (x ∷ xs) ys = ap (λ (zs : List ℕ). x ∷ zs) (take_front xs ys)
-
-drop_front : (xs ys : List ℕ) → drop (length xs) (xs ++ ys) ≡ ys
-drop_front [] ys = refl
-drop_front (x ∷ xs) ys = drop_front xs ys
-
 -- the needs, of the parts that stand there
 plan_needs_of : (bytes name rest : List ℕ) (interval : ℕ) (vms : List ℕ) → IsPlan name interval vms
     → interval < 2 ^ 32
@@ -198,8 +190,10 @@ plan_needs_of bytes name rest interval vms owes range e len =
     let tail = plan_tail interval vms in
     let nl : name_len bytes ≡ length name = ap (λ (ys : List ℕ). slice_index ys 0) e in
     let behind : behind_name_len bytes ≡ name ++ tail = ap (λ (ys : List ℕ). drop 1 ys) e in
-    let text : plan_name bytes ≡ name = (λ i. take (nl i) (behind i)) ∙ take_front name tail in
-    let left : behind_name bytes ≡ tail = (λ i. drop (nl i) (behind i)) ∙ drop_front name tail in
+    let text : plan_name bytes ≡ name =
+    (λ i. take (nl i) (behind i)) ∙ take-append_seam name tail in
+    let left : behind_name bytes ≡ tail =
+    (λ i. drop (nl i) (behind i)) ∙ drop-append_seam name tail in
     let every : plan_interval bytes ≡ interval =
     ap (λ (ys : List ℕ). word_at ys) left
     ∙ word_back interval ((word_bytes (length vms) ++ all_word_bytes vms) ++ []) range in
@@ -426,8 +420,10 @@ plan_read bytes plan name interval vms has e =
     let four : drop 4 bytes ≡ length name ∷ (name ++ tail) = ap (λ (ys : List ℕ). drop 4 ys) e in
     let nl : name_len bytes ≡ length name = ap (λ (ys : List ℕ). slice_index ys 0) four in
     let behind : behind_name_len bytes ≡ name ++ tail = ap (λ (ys : List ℕ). drop 1 ys) four in
-    let text : plan_name bytes ≡ name = (λ i. take (nl i) (behind i)) ∙ take_front name tail in
-    let left : behind_name bytes ≡ tail = (λ i. drop (nl i) (behind i)) ∙ drop_front name tail in
+    let text : plan_name bytes ≡ name =
+    (λ i. take (nl i) (behind i)) ∙ take-append_seam name tail in
+    let left : behind_name bytes ≡ tail =
+    (λ i. drop (nl i) (behind i)) ∙ drop-append_seam name tail in
     let every : plan_interval bytes ≡ interval =
     ap (λ (ys : List ℕ). word_at ys) left
     ∙ word_back interval ((word_bytes (length vms) ++ all_word_bytes vms) ++ []) ranges.1.1.0 in

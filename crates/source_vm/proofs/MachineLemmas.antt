@@ -1,5 +1,5 @@
 -- What a call of a machine leaves of its log and of its disks.
-use Rattle.std.proofs.Common.{◌≡◌, ℕ, ◌+◌, List, [], ◌∷◌, ◌++◌, length, take, drop, Bool, true, false, cond, ◌&&◌, leb, Option, Some, None, Bor, Result, Ok, Err, is_ok, OnOk, IfOk, MatchResult, subst, sym, ap, refl, ◌∙◌, arith}
+use Rattle.std.proofs.Common.{◌≡◌, ℕ, List, [], ◌∷◌, ◌++◌, length, take, drop, Bool, true, false, cond, ◌&&◌, Option, Some, None, Bor, Result, Ok, Err, is_ok, OnOk, IfOk, MatchResult, subst, sym, ap, refl, ◌∙◌, arith}
 use Rattle.std.specs.List.{slice_get}
 use Rattle.std.specs.Slice.{IsItemAt}
 use Rattle.std.proofs.lemmas.Bool.{false≢true, lt-ltb}

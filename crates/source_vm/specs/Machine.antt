@@ -4,7 +4,6 @@ use Rattle.std.specs.Prelude.{◌≡◌, ℕ, List, [], ◌∷◌, ◌++◌, len
 use Rattle.std.specs.List.{list_all}
 use Rattle.basics.specs.declared.limits.TheConstants.{MAX_DISKS, MAX_DISK_SECTORS}
 use Rattle.log_model.specs.declared.entry.Act.{Act}
-use Rattle.log_model.specs.declared.entry.Entry.{Entry}
 use Rattle.log_model.specs.Link.{LinkState}
 use Rattle.log_model.specs.PlainMachine.{plain_state}
 -- the record of a machine
