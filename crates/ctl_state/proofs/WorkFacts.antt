@@ -1,12 +1,11 @@
 -- The map of the machines at work, as machines are put in and taken out one by one.
-use Rattle.std.proofs.Common.{◌≡◌, ◌≢◌, ℕ, zero, suc, ◌+◌, ◌-◌, ◌==◌, ◌<◌, ◌≤◌, Bool, true, false, cond, ◌||◌, not, List, [], ◌∷◌, length, length-drop, take, drop, get_or, Option, Some, None, is_some, refl, ap, subst, sym, ◌∙◌, arith, add-one, inl, inr}
+use Rattle.std.proofs.Common.{◌≡◌, ◌≢◌, ℕ, zero, suc, ◌+◌, ◌==◌, ◌<◌, Bool, true, false, cond, ◌||◌, not, List, [], ◌∷◌, length, drop, get_or, Option, Some, None, is_some, refl, ap, subst, sym, ◌∙◌, add-one, inl, inr}
 use Rattle.std.proofs.Math.Seq.{drop-cons}
 use Rattle.std.specs.List.{list_any}
 use Rattle.std.specs.BTreeMap.{get, is_at}
 use Rattle.std.specs.Ordering.{nat_cmp, is_eq}
 use Rattle.std.proofs.lemmas.Bool.{eqb-true, eq-eqb}
 use Rattle.std.proofs.lemmas.Bool.Decides.{eqb_tells}
-use Rattle.std.proofs.lemmas.List.{take_all}
 use Rattle.log_model.proofs.Options.{none_is}
 use Rattle.ctl_state.specs.Value.{is_listed}
 use Rattle.ctl_state.specs.MayStand.{has_double}
@@ -118,11 +117,6 @@ none_at work vms i free h = none_from work vms i (get_or vms i 0) free
     (from_place vms i (get_or vms i 0) h
     ∙ ap (λ b. b || is_listed (drop (i + 1) vms) (get_or vms i 0))
     (eq-eqb (get_or vms i 0) (get_or vms i 0) refl))
-
--- a slice from a place to the end is the list from there on
-pub from_on : (xs : List ℕ) (i : ℕ) → take (length xs - i) (drop i xs) ≡ drop i xs
-from_on xs i = take_all (length xs - i) (drop i xs)
-    (let a = length-drop i xs in omega (arith, a))
 
 -- those that were put in so far are taken out again
 pub undone : (work now : Work) (vms : List ℕ) (i v : ℕ) (left : Option (Option ℕ))

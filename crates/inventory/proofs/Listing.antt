@@ -1,6 +1,6 @@
 -- The rows of a listing, one after the other, and what the calls that find a machine's parts make
 -- of its row.
-use Rattle.std.proofs.Common.{◌≡◌, ℕ, zero, suc, ◌+◌, ◌-◌, ◌<◌, ◌≤◌, Bool, true, false, true≢false, is_some, List, [], ◌∷◌, ◌++◌, map, length, get_or, take, Option, Some, None, All, option_map, refl, ap, ◌∙◌, sym, subst, slice_get, arith, add-one}
+use Rattle.std.proofs.Common.{◌≡◌, ℕ, zero, suc, ◌+◌, ◌-◌, ◌<◌, ◌≤◌, Bool, true, false, true≢false, is_some, List, [], ◌∷◌, map, length, get_or, take, Option, Some, None, All, option_map, refl, ap, ◌∙◌, sym, subst, slice_get, arith}
 use Rattle.std.specs.List.{enumerate_from}
 use Rattle.std.specs.Option.{option_map_or}
 use Rattle.std.proofs.lemmas.List.{length-map}
@@ -15,16 +15,6 @@ use Rattle.fleet.specs.Sound.{AllAreIn}
 use Rattle.fleet.proofs.Replacing.{vm_of-at}
 use Rattle.inventory.specs.Rows.{host_rows, host_name, vm_row, vm_rows}
 use Rattle.inventory.specs.declared.rows.VmRow.{VmRow}
-
--- one row more
-pub more_taken : {X : Type 0} (xs : List X) (place : ℕ) (x : X) → slice_get xs place ≡ Some x
-    → take (place + 1) xs ≡ take place xs ++ x ∷ []
-more_taken {X} xs place x at = rw (add-one place) (by xs place at)
-  where
-    by : (ys : List X) (k : ℕ) → slice_get ys k ≡ Some x → take (suc k) ys ≡ take k ys ++ x ∷ []
-    by [] k h = absurd (none-some x h)
-    by (y ∷ ys) zero h = ap (λ z. z ∷ []) (same_Some y x h)
-    by (y ∷ ys) (suc k) h = ap (λ l. y ∷ l) (by ys k h)
 
 -- all rows
 pub all_taken : {X : Type 0} (xs : List X) (place : ℕ) → slice_get xs place ≡ None

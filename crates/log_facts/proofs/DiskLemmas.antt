@@ -7,7 +7,7 @@ use Rattle.std.proofs.lemmas.Option.{slice_get_within}
 use Rattle.std.proofs.lemmas.List.{length_push, take-append-le, drop-append-le, drop_all, take_all}
 use Rattle.std.proofs.lemmas.List.Folds.{list_any-append}
 use Rattle.std.proofs.lemmas.List.Sums.{sum_by-append}
-use Rattle.basics.proofs.ItemAt.{slice_get-front, slice_get-last}
+use Rattle.basics.proofs.ItemAt.{slice_get-front, slice_get-last, take-next_read}
 use Rattle.change_id.proofs.Ends.{read-front, read-last}
 use Rattle.change_id.proofs.Counts.{counted-last}
 use Rattle.log_model.specs.declared.entry.Entry.{Entry}
@@ -18,7 +18,6 @@ use Rattle.log_model.proofs.OwnedLaws.{taken-append}
 use Rattle.log_facts.specs.declared.disks.IdCount.{IdCount}
 use Rattle.log_facts.specs.declared.disks.DiskFacts.{DiskFacts}
 use Rattle.log_facts.specs.Disks.{count_after, count_of, AreCounts, IsLastReset, IsDisk, AreDisks}
-use Rattle.log_facts.proofs.PlaceLemmas.{taken_more}
 
 -- ---- how far the numbers have come
 
@@ -45,7 +44,7 @@ pub count_more : (d : ℕ) (log : List Entry) (i : ℕ) (count : IdCount) (e : E
     → count_after d count e ≡ count_of d (take (i + 1) log)
 count_more d log i count e less is at =
     ap (λ (x : IdCount). count_after d x e) at ∙ count_last d (take i log) e
-    ∙ ap (count_of d) (sym (taken_more log i e less is))
+    ∙ ap (count_of d) (sym (take-next_read log i e less is))
 
 -- ---- at each snapshot
 

@@ -2,8 +2,8 @@
 use Rattle.std.proofs.Common.{◌≡◌, ℕ, ◌+◌, ◌<◌, List, [], ◌∷◌, ◌++◌, length, take, get_or, Bool, true, false, cond, ◌||◌, Some, sym, ap, refl, ◌∙◌, arith, inl, inr}
 use Rattle.std.specs.List.{slice_get}
 use Rattle.std.proofs.lemmas.Bool.{cases_eq}
-use Rattle.std.proofs.lemmas.List.{take_more, length_push, length-take-le}
-use Rattle.basics.proofs.ItemAt.{slice_get-front, slice_get-last}
+use Rattle.std.proofs.lemmas.List.{length_push, length-take-le}
+use Rattle.basics.proofs.ItemAt.{slice_get-front, slice_get-last, take-next_read}
 use Rattle.log_model.specs.declared.entry.Entry.{Entry}
 use Rattle.log_model.specs.Entry.{is_enable}
 use Rattle.log_model.specs.Legal.{is_enabled}
@@ -12,12 +12,6 @@ use Rattle.log_model.proofs.IdsExist.{enabled-last}
 use Rattle.log_model.proofs.OffLaws.{last_off-last}
 use Rattle.log_facts.specs.declared.places.PlaceFacts.{PlaceFacts}
 use Rattle.log_facts.specs.Places.{place_after, place_facts}
-
--- the log up to behind an entry
-pub taken_more : (log : List Entry) (i : ℕ) (e : Entry) → i < length log → e ≡ get_or log i e
-    → take (i + 1) log ≡ take i log ++ e ∷ []
-taken_more log i e less is =
-    take_more log i e less ∙ ap (λ (x : Entry). take i log ++ x ∷ []) (sym is)
 
 or_cond : (x y : Bool) → (x || y) ≡ cond y true x
 or_cond true true = refl
@@ -41,7 +35,7 @@ place_more log i now e less is at =
     ap (λ (p : PlaceFacts). place_after p i e) at
     ∙ ap (λ j. place_after (place_facts (take i log)) j e)
     (sym (length-take-le i log (omega (arith, less))))
-    ∙ place_last (take i log) e ∙ ap place_facts (sym (taken_more log i e less is))
+    ∙ place_last (take i log) e ∙ ap place_facts (sym (take-next_read log i e less is))
 
 -- the first n places
 pub record Kept (log : List Entry) (n : ℕ) (places : List PlaceFacts) : Type 0 where

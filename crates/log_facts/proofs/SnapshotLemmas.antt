@@ -7,7 +7,7 @@ use Rattle.std.proofs.Math.Bool.{or-false}
 use Rattle.std.proofs.lemmas.Bool.{cases_eq, eq-eqb, ne_eqb}
 use Rattle.std.proofs.lemmas.Option.{slice_get_within}
 use Rattle.std.proofs.lemmas.List.Folds.{list_any-append}
-use Rattle.basics.proofs.ItemAt.{slice_get-set_same, slice_get-set_other}
+use Rattle.basics.proofs.ItemAt.{slice_get-set_same, slice_get-set_other, take-next_read}
 use Rattle.log_model.specs.declared.entry.Owner.{Owner}
 use Rattle.log_model.specs.declared.entry.Act.{Act}
 use Rattle.log_model.specs.declared.entry.Act.TheVariants.{Write, Snap, Remove, Reset, Enable, Off, On}
@@ -19,7 +19,6 @@ use Rattle.ctl_state.specs.Asks.{is_removed}
 use Rattle.ctl_state.proofs.ListFacts.{length-change_at}
 use Rattle.log_facts.specs.declared.snapshots.SnapshotFacts.{SnapshotFacts}
 use Rattle.log_facts.specs.Snapshots.{with_owner, facts_after, snapshot_fact}
-use Rattle.log_facts.proofs.PlaceLemmas.{taken_more}
 
 -- ---- one number is changed
 
@@ -127,4 +126,4 @@ pub fact_more : (s : ℕ) (log : List Entry) (i : ℕ) (e : Entry) (facts : List
 fact_more s log i e facts less is at =
     followed s e.act facts (snapshot_fact s (take i log)) at
     ∙ ap Some (fact_last s (take i log) e
-    ∙ ap (snapshot_fact s) (sym (taken_more log i e less is)))
+    ∙ ap (snapshot_fact s) (sym (take-next_read log i e less is)))

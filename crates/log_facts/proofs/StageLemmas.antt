@@ -11,6 +11,7 @@ use Rattle.std.proofs.lemmas.List.Folds.{list_any-append}
 use Rattle.std.proofs.lemmas.Map.Views.{All-set_contains}
 use Rattle.std.specs.Cmp.{nat_cmp_total}
 use Rattle.basics.proofs.Truth.{and_or}
+use Rattle.basics.proofs.ItemAt.{take-next_read}
 use Rattle.sector_model.specs.Disk.{Write as Replacement}
 use Rattle.sector_model.specs.declared.run.TheConstants.{BLOCK_SECTORS}
 use Rattle.sector_model.specs.Run.{block_count, meets, touches, touched_blocks, in_blocks, areas_of}
@@ -21,7 +22,6 @@ use Rattle.log_model.specs.declared.entry.Entry.{Entry}
 use Rattle.log_model.specs.Entry.{write_to, writes_of}
 use Rattle.log_model.proofs.TouchedLaws.{writes-append}
 use Rattle.log_facts.specs.Stages.{is_touched_by}
-use Rattle.log_facts.proofs.PlaceLemmas.{taken_more}
 
 -- ---- the blocks that a run meets
 
@@ -102,7 +102,7 @@ touched_more c d b i entries e old new less is was put =
     (is_touched_by d b e)
     ∙ ap (λ x. ltb b (block_count c) && x) (sym (touched_last d b (take i entries) e))
     ∙ ap (λ (l : List Entry). ltb b (block_count c) && list_any (touches b) (writes_of d l))
-    (sym (taken_more entries i e less is))
+    (sym (take-next_read entries i e less is))
 
 -- ---- their areas
 

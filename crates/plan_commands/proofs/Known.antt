@@ -1,12 +1,12 @@
 -- What is known of the machine at a place of a fleet, and by a name: its number is that of its
 -- place, so machines of different names have different numbers.
-use Rattle.std.proofs.Common.{◌≡◌, ℕ, suc, ◌+◌, ◌<◌, Bool, true, false, cond, List, [], ◌∷◌, length, get_or, Option, Some, None, is_some, option_map, refl, ap, ◌∙◌, sym, slice_get, arith}
-use Rattle.std.specs.Prelude.{IsTrue}
+use Rattle.std.proofs.Common.{◌≡◌, ℕ, suc, ◌+◌, ◌<◌, Bool, true, false, cond, List, [], ◌∷◌, length, get_or, Option, Some, None, option_map, refl, ap, ◌∙◌, sym, slice_get, arith}
 use Rattle.std.specs.List.{find}
 use Rattle.std.specs.Str.{bytes_eq}
 use Rattle.std.proofs.lemmas.List.{length-map}
 use Rattle.std.proofs.lemmas.Option.{none-some, same_Some, slice_get-map, slice_get-get_or, some_pair_parts}
 use Rattle.std.proofs.lemmas.Slice.Eq.{bytes_eq-Decides}
+use Rattle.basics.proofs.Options.{some_value}
 use Rattle.log_model.specs.Link.{is_active}
 use Rattle.log_model.specs.Marks.{tracking}
 use Rattle.source_vm.specs.Machine.{MachineState}
@@ -124,15 +124,11 @@ pub number_is : (known : List VmFact) (name : List ℕ) (fact : VmFact)
 number_is known name fact h =
     ap (λ (o : Option VmFact). book.number_of (option_map book.standing_of o)) h
 
-some_there : {X : Type 0} (o : Option X) → IsTrue (is_some o) → (x : X) × (o ≡ Some x)
-some_there None h = absurd (cc)
-some_there (Some x) h = (x, refl)
-
 pub numbers_tell_apart : (fleet : FleetState) (v : CtlValue) → NumbersTellApart (known_of fleet v)
 numbers_tell_apart fleet v a b known_a known_b same =
     let known = known_of fleet v in
-    let fa = some_there (book.fact_of known a) known_a in
-    let fb = some_there (book.fact_of known b) known_b in
+    let fa = some_value (book.fact_of known a) known_a in
+    let fb = some_value (book.fact_of known b) known_b in
     let ka = is_known fleet v a fa.0 fa.1 in
     let kb = is_known fleet v b fb.0 fb.1 in
     let numbers : fa.0.number ≡ fb.0.number =

@@ -1,11 +1,12 @@
 -- What one record that is kept leaves, and what the records up to it do.
 use Rattle.std.proofs.Common.{◌≡◌, ℕ, ◌+◌, ◌<◌, ◌≤◌, Bool, true, false, List, [], ◌∷◌, ◌++◌, length, take, drop, Option, Some, None, Result, Ok, Err, refl, sym, ap, subst, append_assoc, ◌∙◌}
 use Rattle.std.specs.Prelude.{MatchOption, slice_index_or}
-use Rattle.std.proofs.lemmas.List.{append-nil, take-append-drop, take_more, take_all}
+use Rattle.std.proofs.lemmas.List.{append-nil, take_all}
 use Rattle.std.proofs.Math.Seq.{take-append_seam}
 use Rattle.std.proofs.lemmas.List.Elements.{All-cons, All-nil, All-take}
 use Rattle.std.specs.List.{All}
 use Rattle.basics.specs.Faults.{HasRisen}
+use Rattle.basics.proofs.ItemAt.{take-next_read, split_around}
 use Rattle.record_codec.specs.declared.record.Record.{Record}
 use Rattle.record_codec.specs.Record.{KeepsRule}
 use Rattle.journal.specs.Journal.{JournalState, append_refusal, after_append, Appends}
@@ -62,20 +63,6 @@ kept_none added k ready = record {
   };
 }
 
-rest_of : (added : List Record) (at : ℕ) (r : Record) → at < length added
-    → r ≡ slice_index_or added at r
-    → added ≡ take at added ++ r ∷ drop (at + 1) added
-rest_of added at r within is =
-    sym (take-append-drop (at + 1) added)
-    ∙ ap (λ xs. xs ++ drop (at + 1) added) (take_more added at r within)
-    ∙ ap (λ x. (take at added ++ x ∷ []) ++ drop (at + 1) added) (sym is)
-    ∙ append_assoc (take at added) (r ∷ []) (drop (at + 1) added)
-
-more_of : (added : List Record) (at : ℕ) (r : Record) → at < length added
-    → r ≡ slice_index_or added at r → take (at + 1) added ≡ take at added ++ r ∷ []
-more_of added at r within is =
-    take_more added at r within ∙ ap (λ x. take at added ++ x ∷ []) (sym is)
-
 pub kept_more : (added : List Record) (at : ℕ) (r : Record) (start now next : Keeping)
     → at < length added → r ≡ slice_index_or added at r → KeptTo added at start now
     → KeepsOne r now next → KeptTo added (at + 1) start next
@@ -83,7 +70,7 @@ kept_more added at r start now next within is k one = record {
   keeps = record {
     records = (one.0).records ∙ ap (λ xs. xs ++ r ∷ []) (k.keeps).records
         ∙ append_assoc start.journal.records (take at added) (r ∷ [])
-        ∙ ap (λ xs. start.journal.records ++ xs) (sym (more_of added at r within is));
+        ∙ ap (λ xs. start.journal.records ++ xs) (sym (take-next_read added at r within is));
     ready = (one.0).ready;
     opened = (one.0).opened ∙ (k.keeps).opened;
     faults = (one.0).faults ∙ (k.keeps).faults;
@@ -108,7 +95,7 @@ split_at : (base added : List Record) (at : ℕ) (r : Record) → at < length ad
     → r ≡ slice_index_or added at r
     → base ++ added ≡ ((base ++ take at added) ++ r ∷ []) ++ drop (at + 1) added
 split_at base added at r within is =
-    ap (λ xs. base ++ xs) (rest_of added at r within is)
+    ap (λ xs. base ++ xs) (split_around added at r within is)
     ∙ sym (append_assoc base (take at added) (r ∷ drop (at + 1) added))
     ∙ sym (append_assoc (base ++ take at added) (r ∷ []) (drop (at + 1) added))
 
@@ -165,7 +152,7 @@ front_kept why added at r start now next within is k cut =
     record {
       front = take at added ++ cut.front;
       left = cut.left ++ rest;
-      split = rest_of added at r within is
+      split = split_around added at r within is
           ∙ ap (λ xs. take at added ++ (xs ++ rest)) cut.split
           ∙ ap (λ xs. take at added ++ xs) (append_assoc cut.front cut.left rest)
           ∙ sym (append_assoc (take at added) cut.front (cut.left ++ rest));

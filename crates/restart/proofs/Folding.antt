@@ -3,8 +3,9 @@
 use Rattle.std.proofs.Common.{◌≡◌, ℕ, ◌+◌, ◌-◌, ◌==◌, ◌<◌, ◌≤◌, Bool, true, false, cond, List, [], ◌∷◌, ◌++◌, length, take, drop, get_or, Some, None, Result, Ok, refl, ap, subst, sym, ◌∙◌, arith, below_more}
 use Rattle.std.specs.Prelude.{slice_get, IsTrue, ◌↔◌}
 use Rattle.std.proofs.lemmas.Bool.{eqb-true, false≢true}
-use Rattle.std.proofs.lemmas.List.{take_more, take_all, length-take-le}
+use Rattle.std.proofs.lemmas.List.{take_all, length-take-le}
 use Rattle.std.proofs.lemmas.Option.{same_Some, slice_get_within, slice_get_read}
+use Rattle.basics.proofs.ItemAt.{take-next_read, split_around}
 use Rattle.fleet.specs.Fleet.{FleetState}
 use Rattle.record_codec.specs.declared.record.Record.{Record}
 use Rattle.ctl_state.specs.declared.migration.Migration.{Migration}
@@ -14,7 +15,7 @@ use Rattle.ctl_state.proofs.FoldFacts.{goes_on}
 use Rattle.ctl_state.proofs.ListFacts.{numbered_at}
 use Rattle.restart.specs.BorneOut.{IsBorneOut, HasItsSnapshot}
 use Rattle.restart.specs.Standing.{AreBorneOut, StandOver, Accepts, IsRejected, IsFirstStrange, HaveSnapshots, LackASnapshot}
-use Rattle.restart.proofs.Splits.{same, earlier, later, two_splits, nothing_splits, none_behind, split_at}
+use Rattle.restart.proofs.Splits.{same, earlier, later, two_splits, nothing_splits, none_behind}
 
 -- ---- records that stand
 
@@ -65,7 +66,7 @@ pub stand_to_more : (fleet : FleetState) (records : List Record) (place : ℕ) (
     → StandTo fleet records (place + 1) next
 stand_to_more fleet records place v next r within is to new =
     let longer : take (place + 1) records ≡ take place records ++ r ∷ [] =
-    take_more records place r within ∙ ap (λ x. take place records ++ x ∷ []) (sym is) in
+    take-next_read records place r within is in
     record {
       stand = subst (λ (xs : List Record). StandOver fleet xs next) (sym longer)
           (stand_more fleet (take place records) v next r to.stand new);
@@ -88,7 +89,7 @@ strange_at fleet records place v r within is to denied =
       strange = r;
       rest = drop (place + 1) records;
       value = v;
-      split = split_at records place r within is;
+      split = split_around records place r within is;
       counted = ap (λ n. n + 1) (sym long);
       before = to.stand;
       rejected = denied;

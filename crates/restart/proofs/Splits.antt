@@ -1,6 +1,5 @@
 -- A list that is split at two of its items: it is the same split, or one stands before the other.
-use Rattle.std.proofs.Common.{◌≡◌, ℕ, ◌+◌, ◌<◌, List, [], ◌∷◌, ◌++◌, length, take, drop, get_or, refl, ap, sym, ◌∙◌, arith, append_assoc, length-append}
-use Rattle.std.proofs.lemmas.List.{take-append-drop, take_more}
+use Rattle.std.proofs.Common.{◌≡◌, ◌+◌, List, [], ◌∷◌, ◌++◌, length, refl, ap, sym, arith, length-append}
 
 pub data Order {X : Type 0} (front : List X) (x : X) (other : List X) (y : X) : Type 0 where
   same : front ≡ other → x ≡ y → Order front x other y
@@ -37,12 +36,3 @@ none_behind xs rest between front x y e is =
     let four : length (xs ++ x ∷ []) ≡ length (front ++ y ∷ rest) = ap length e in
     let five : length front ≡ length (xs ++ x ∷ between) = ap length is in
     omega (arith, one, two, three, four, five)
-
--- a list at one of its places
-pub split_at : {X : Type 0} (xs : List X) (place : ℕ) (x : X) → place < length xs
-    → x ≡ get_or xs place x → xs ≡ take place xs ++ x ∷ drop (place + 1) xs
-split_at xs place x within is =
-    sym (take-append-drop (place + 1) xs)
-    ∙ ap (λ ys. ys ++ drop (place + 1) xs) (take_more xs place x within)
-    ∙ ap (λ y. (take place xs ++ y ∷ []) ++ drop (place + 1) xs) (sym is)
-    ∙ append_assoc (take place xs) (x ∷ []) (drop (place + 1) xs)

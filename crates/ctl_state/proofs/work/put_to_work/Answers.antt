@@ -3,10 +3,11 @@ use Rattle.std.specs.BTreeMap.{get, is_at}
 use Rattle.std.specs.Map.{lookup}
 use Rattle.std.specs.Ordering.{nat_cmp}
 use Rattle.basics.specs.Refusal.{IsRefusedOr}
+use Rattle.basics.proofs.ItemAt.{take-drop_rest}
 use Rattle.ctl_state.specs.MayStand.{has_double}
 use Rattle.ctl_state.specs.Value.{is_listed}
 use Rattle.ctl_state.specs.Work.{Work}
-use Rattle.ctl_state.proofs.WorkFacts.{join_next, new_differs, old_doubles, listed_twice, none_at, undone, beside, from_on}
+use Rattle.ctl_state.proofs.WorkFacts.{join_next, new_differs, old_doubles, listed_twice, none_at, undone, beside}
 use Rattle.ctl_state.proofs.work.put_to_work.Goals as goal
 
 pub loop-left-preserved : goal.loop-left-preserved
@@ -71,7 +72,7 @@ returns-in-Ok-Some-clause-kept c = λ v.
     undone c.args.work.now c.insert.new.self vms left v
     (get nat_cmp c.take_from_work.new.work v) c.requires (c.take_from_work.ensures v
     ∙ ap (λ (ms : List ℕ). cond (is_listed ms v) None (get nat_cmp c.insert.new.self v))
-    (from_on vms left))
+    (take-drop_rest vms left))
     (λ out. beside vms left x v (get nat_cmp c.args.work.now v) (get nat_cmp work v)
     (get nat_cmp c.insert.new.self v) (c.in-Ok-Some.ensures.updates.0 v) (inv.joined v)
     inside out)
@@ -85,6 +86,6 @@ returns-in-Err-clause-kept c = λ v.
     (get nat_cmp c.take_from_work-in-Err.new.work v) c.requires
     (c.take_from_work-in-Err.ensures v
     ∙ ap (λ (ms : List ℕ). cond (is_listed ms v) None (get nat_cmp c.insert.new.self v))
-    (from_on vms left))
+    (take-drop_rest vms left))
     (λ out. ap (λ es. lookup (is_at (nat_cmp v)) es) c.in-Err.ensures.err ∙ inv.joined v
     ∙ ap (λ b. cond b (Some None) (get nat_cmp c.args.work.now v)) out)

@@ -3,7 +3,8 @@ use Rattle.std.proofs.lemmas.Option.{slice_get-map, slice_get_within}
 use Rattle.fleet.specs.Fleet.{HostState}
 use Rattle.inventory.specs.Rows.{host_row, host_rows}
 use Rattle.inventory.specs.declared.rows.HostRow.{HostRow}
-use Rattle.inventory.proofs.Listing.{more_taken, all_taken}
+use Rattle.basics.proofs.ItemAt.{take-next}
+use Rattle.inventory.proofs.Listing.{all_taken}
 use Rattle.inventory.proofs.rows.hosts.Goals as goal
 
 pub loop-name-preserved : goal.loop-name-preserved
@@ -19,7 +20,7 @@ loop-name-preserved c =
     (sym c.in_ok-name.ensures) in
     record {
       rows = c.in_ok-push.ensures.items ∙ ap (λ rows. rows ++ row ∷ []) c.loop-name.invariant.rows
-          ∙ sym (more_taken (host_rows fleet) place row row_at);
+          ∙ sym (take-next (host_rows fleet) place row row_at);
       within = omega (arith, slice_get_within fleet.hosts place host at);
     }
 

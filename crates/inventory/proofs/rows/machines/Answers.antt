@@ -1,7 +1,8 @@
 use Rattle.std.proofs.Common.{◌≡◌, ◌<◌, false, is_some, List, ℕ, [], ◌∷◌, ◌++◌, None, length, slice_get, option_map, ap, ◌∙◌, sym, arith}
 use Rattle.std.proofs.lemmas.Option.{slice_get_within}
 use Rattle.inventory.specs.Rows.{vm_rows}
-use Rattle.inventory.proofs.Listing.{more_taken, all_taken, none_there, no_row_at, row_count}
+use Rattle.basics.proofs.ItemAt.{take-next}
+use Rattle.inventory.proofs.Listing.{all_taken, none_there, no_row_at, row_count}
 use Rattle.inventory.proofs.rows.machines.Goals as goal
 
 pub loop-alloc-preserved : goal.loop-alloc-preserved
@@ -13,7 +14,7 @@ loop-alloc-preserved c =
     slice_get_within (vm_rows fleet) place row c.in_ok-row.ensures in
     record {
       rows = c.in_ok-push.ensures.items ∙ ap (λ rows. rows ++ row ∷ []) c.loop-alloc.invariant.rows
-          ∙ sym (more_taken (vm_rows fleet) place row c.in_ok-row.ensures);
+          ∙ sym (take-next (vm_rows fleet) place row c.in_ok-row.ensures);
       within = omega (arith, within, row_count fleet);
     }
 

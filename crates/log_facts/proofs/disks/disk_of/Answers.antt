@@ -1,10 +1,10 @@
 -- An entry more: its snapshot has its identifier, and its reset is the last one.
 use Rattle.std.proofs.Common.{◌≡◌, ℕ, List, [], ◌∷◌, ◌++◌, length, take, Option, Vec, Global, subst, sym, ap, ◌∙◌, arith}
 use Rattle.std.proofs.lemmas.List.{length-take-le}
+use Rattle.basics.proofs.ItemAt.{take-next_read}
 use Rattle.log_facts.specs.declared.disks.IdCount.{IdCount}
 use Rattle.log_model.specs.declared.entry.Entry.{Entry}
 use Rattle.log_facts.specs.Disks.{AreCounts, IsLastReset, count_of}
-use Rattle.log_facts.proofs.PlaceLemmas.{taken_more}
 use Rattle.log_facts.proofs.DiskLemmas.{count_more, few_more, counts_pushed, counts_same, reset_here, reset_before}
 use Rattle.log_facts.proofs.disks.disk_of.Goals as goal
 use Rattle.log_facts.proofs.disks.disk_of.Goals.{then-is_snap+in_ok-push, else-is_snap, then-resets, else-resets}
@@ -14,7 +14,7 @@ loop-place-preserved c =
     let log = c.args.log.now in
     let i = c.loop-place.place in
     let e = c.index-log-place.result in
-    let more = taken_more log i e c.loop-place-test.true c.index-log-place.is in
+    let more = take-next_read log i e c.loop-place-test.true c.index-log-place.is in
     let counts = c.after-count.ensures
     ∙ count_more c.args.disk log i c.loop-place.count e c.loop-place-test.true
     c.index-log-place.is c.loop-place.invariant.counts in

@@ -1,6 +1,7 @@
 use Rattle.std.proofs.Common.{◌≡◌, ◌<◌, false, is_some, [], ◌∷◌, ◌++◌, None, length, slice_get, ap, ◌∙◌, sym, arith}
 use Rattle.std.proofs.lemmas.Option.{slice_get_within}
-use Rattle.inventory.proofs.Listing.{more_taken, all_taken, none_there}
+use Rattle.basics.proofs.ItemAt.{take-next}
+use Rattle.inventory.proofs.Listing.{all_taken, none_there}
 use Rattle.plan_commands.specs.Machines.{known_of}
 use Rattle.plan_commands.proofs.Known.{none_known_at, known_count}
 use Rattle.plan_commands.proofs.machines.known_of.Goals as goal
@@ -16,7 +17,7 @@ loop-alloc-preserved c =
     record {
       known = c.in_ok-push.ensures.items
           ∙ ap (λ known. known ++ fact ∷ []) c.loop-alloc.invariant.known
-          ∙ sym (more_taken (known_of fleet v) place fact c.in_ok-fact.ensures);
+          ∙ sym (take-next (known_of fleet v) place fact c.in_ok-fact.ensures);
       within = omega (arith, within, known_count fleet v);
     }
 
