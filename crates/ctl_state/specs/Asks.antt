@@ -13,6 +13,7 @@ use Rattle.log_model.specs.declared.entry.Owner.TheVariants.{Migration as OfMigr
 use Rattle.log_model.specs.declared.entry.Act.TheVariants.{Snap}
 use Rattle.log_model.specs.declared.entry.Entry.{Entry}
 use Rattle.log_model.specs.declared.link.Snapped.{Snapped}
+use Rattle.log_model.specs.Machine.{MachineState}
 use Rattle.log_model.specs.Entry.{removes, resets, contents}
 use Rattle.log_model.specs.Legal.{Legal, all_of, is_enabled, capacity_of}
 use Rattle.log_model.specs.Link.{Owns, is_active}
@@ -41,16 +42,10 @@ use Rattle.ctl_state.specs.Fold.{after}
 use Rattle.ctl_state.specs.MayStand.{goes_on_in}
 use Rattle.ctl_state.specs.Sound.{last_mark}
 
--- the machine of a migration: its number, the capacities of its disks, and its log
-pub record MachineFacts : Type 0 where
-  pub number : ℕ
-  pub capacities : List ℕ
-  pub log : List Entry
-
 -- ---- what it asks of its machine
 
 -- the machine is the one that it was started for, with as many disks, and its changes are tracked
-pub record MachineAsks (at : MachineFacts) (m : Migration) : Type 0 where
+pub record MachineAsks (at : MachineState) (m : Migration) : Type 0 where
   pub numbered : at.number ≡ m.vm
   pub sized : length at.capacities ≡ m.disks
   pub legal : Legal (all_of at.capacities) at.log
@@ -91,7 +86,7 @@ HasStageWritten capacity disk (Some from) mark written log =
     × (written ≤ capacity + changed_sectors capacity disk from mark log))
 
 -- what a record asks, where the migration was so before it
-abbrev pub RecordAsks : MachineFacts → Migration → Record → Type 0
+abbrev pub RecordAsks : MachineState → Migration → Record → Type 0
 RecordAsks at m (PlanMade plan name interval vms) = Unit {0}
 RecordAsks at m (MigrationStarted mig plan vm disks) = Unit {0}
 RecordAsks at m (Chosen mig way moment) = Unit {0}
@@ -114,7 +109,7 @@ RecordAsks at m (CancelAsked mig) = Unit {0}
 RecordAsks at m (Ended mig how place) = Unit {0}
 
 -- what each record of the migration asks, wherever it stands among the records
-abbrev pub RecordsAsk : (mig : ℕ) → MachineFacts → List Record → Type 0
+abbrev pub RecordsAsk : (mig : ℕ) → MachineState → List Record → Type 0
 RecordsAsk mig at records = (front rest : List Record) (r : Record) (v : CtlValue) (m : Migration)
     → records ≡ front ++ r ∷ rest → migration_of r ≡ Some mig
     → after front ≡ Ok v → migration_in v mig ≡ Some m → RecordAsks at m r
@@ -168,21 +163,21 @@ snapped_in log m = option_map
     (λ snap. record { id = snap; mark = m.mark; off_place = off_place snap log }) m.snap
 
 -- what is known of the volume of a disk between its stages
-pub record VolumeAgrees (at : MachineFacts) (m : Migration) (disk : ℕ) (copy : DiskCopy)
+pub record VolumeAgrees (at : MachineState) (m : Migration) (disk : ℕ) (copy : DiskCopy)
     (v : VolumeContents) : Type 0 where
   pub sized : IsSized (capacity_of at.capacities disk) v
   pub staged : Staged (capacity_of at.capacities disk) disk at.log
       (base_of_copy at.number disk at.log copy) (snapped_in at.log m) v
 
 -- the volume is of a disk that the migration has, and of its capacity
-pub record IsOfDisk (at : MachineFacts) (m : Migration) (disk : ℕ) (stored : StoredVolume)
+pub record IsOfDisk (at : MachineState) (m : Migration) (disk : ℕ) (stored : StoredVolume)
     : Type 0 where
   pub known : disk < m.disks
   pub sized : stored.capacity ≡ capacity_of at.capacities disk
 
 -- what a completed migration's volume holds: what the disk's writes before the power-off place
 -- left, and nothing of it is loose
-abbrev pub final_contents : MachineFacts → Migration → (disk : ℕ) → VolumeContents
+abbrev pub final_contents : MachineState → Migration → (disk : ℕ) → VolumeContents
 final_contents at m disk = record {
   sectors = contents (capacity_of at.capacities disk) disk (take (stored_place m) at.log);
   loose = replicate (capacity_of at.capacities disk) false;
@@ -191,7 +186,7 @@ final_contents at m disk = record {
 -- while the migration is live, each of its disks has its volume, at home and as it has to be, from
 -- the record on that says so; once it is completed, each holds its disk; and whatever stands under
 -- its name is of a disk of its
-pub record VolumesAsk (mig : ℕ) (at : MachineFacts) (m : Migration)
+pub record VolumesAsk (mig : ℕ) (at : MachineState) (m : Migration)
     (told : List (VolumeName × StoredVolume)) : Type 0 where
   pub each_disk : is_live m ≡ true → m.volumes ≡ true → (disk : ℕ) (copy : DiskCopy)
       → copy_of m disk ≡ Some copy → IsSomeAnd (find_volume (Disk mig disk) told)
@@ -203,7 +198,7 @@ pub record VolumesAsk (mig : ℕ) (at : MachineFacts) (m : Migration)
 
 -- ---- all of it, of one migration; what its volumes hold is asked where the store tells that
 
-pub record AsksOf (mig : ℕ) (at : MachineFacts) (records : List Record) (m : Migration)
+pub record AsksOf (mig : ℕ) (at : MachineState) (records : List Record) (m : Migration)
     (told : Option (List (VolumeName × StoredVolume))) : Type 0 where
   pub of_machine : MachineAsks at m
   pub of_log : RecordsAsk mig at records
@@ -224,7 +219,7 @@ is_naming m = goes_on_in m Phases.StoreInitialIds || goes_on_in m Phases.StoreId
 
 -- where identifiers are to be stored, the snapshot is there
 abbrev pub NamedSnapshotsLive : Type 0
-NamedSnapshotsLive = (mig : ℕ) (at : MachineFacts) (records : List Record) (m : Migration)
+NamedSnapshotsLive = (mig : ℕ) (at : MachineState) (records : List Record) (m : Migration)
     (told : Option (List (VolumeName × StoredVolume))) (snap : ℕ)
     → AsksOf mig at records m told → is_live m ≡ true → is_naming m ≡ true → m.snap ≡ Some snap
     → Owns (OfMigration mig) snap at.log

@@ -5,7 +5,6 @@ use Rattle.log_model.specs.Legal.{Legal, all_of}
 use Rattle.log_model.specs.Link.{is_active}
 use Rattle.log_model.specs.Marks.{tracking}
 use Rattle.source_vm.specs.Machine.{MachineState}
-use Rattle.ctl_state.specs.Asks.{MachineFacts}
 use Rattle.log_facts.specs.declared.places.PlaceFacts.{PlaceFacts}
 use Rattle.log_facts.specs.declared.snapshots.SnapshotFacts.{SnapshotFacts}
 use Rattle.log_facts.specs.declared.disks.DiskFacts.{DiskFacts}
@@ -13,12 +12,8 @@ use Rattle.log_facts.specs.Places.{ArePlaces}
 use Rattle.log_facts.specs.Snapshots.{AreSnapshots}
 use Rattle.log_facts.specs.Disks.{AreDisks}
 
--- the machine whose log is read
-abbrev pub facts_of : MachineState → MachineFacts
-facts_of m = record { number = m.number; capacities = m.capacities; log = m.log }
-
 -- what is kept is what the log says, which is legal
-pub record AreRead (at : MachineFacts) (active : Bool) (places : List PlaceFacts)
+pub record AreRead (at : MachineState) (active : Bool) (places : List PlaceFacts)
     (snapshots : List SnapshotFacts) (disks : List DiskFacts) : Type 0 where
   pub legal : Legal (all_of at.capacities) at.log
   pub tracked : active ≡ is_active (tracking at.log)

@@ -9,9 +9,9 @@ ghost use Rattle.log_model.specs.Link.{is_active, Owns};
 ghost use Rattle.log_model.specs.Marks.{tracking, through, id_at};
 ghost use Rattle.log_model.specs.Frozen.{off_place};
 ghost use Rattle.ctl_state.specs.Migration.{same_phase};
+ghost use Rattle.log_model.specs.Machine.{MachineState};
 ghost use Rattle.ctl_state.specs.Asks.{IsItsSnapshot, AreIdsAt, HasStageWritten, WasResetFrom, RecordAsks, SnapshotAsks, is_removed, is_removing, meets_volumes, may_lack};
 ghost use Rattle.log_facts.specs.Disks.{count_of};
-ghost use Rattle.log_facts.specs.LogFacts.{facts_of};
 
 use crate::disks::{DiskFacts, IdCount, disks_of};
 use crate::places::{PlaceFacts, places_of};
@@ -42,14 +42,14 @@ pub struct LogFacts {
 }
 
 impl Model for LogFacts {
-    ghost use Rattle.ctl_state.specs.Asks.{MachineFacts};
-    ghost use Rattle.log_facts.specs.LogFacts.{facts_of, AreRead};
+    ghost use Rattle.ctl_state.specs.Asks.{MachineState};
+    ghost use Rattle.log_facts.specs.LogFacts.{AreRead};
 
-    ghost Value = { MachineFacts };
+    ghost Value = { MachineState };
 
-    ghost view = { λ a. facts_of a.machine.value };
+    ghost view = { λ a. a.machine.value };
 
-    ghost invariant = { λ a. AreRead (facts_of a.machine.value)
+    ghost invariant = { λ a. AreRead a.machine.value
         a.active a.places.items a.snapshots.items a.disks.items };
 }
 
@@ -57,7 +57,7 @@ impl LogFacts {
     /// Reads the log of a machine, in three passes and one for each of its disks. It answers only
     /// want of memory.
     pub fn of(alloc: Global, machine: &Machine) -> Result<LogFacts, NoMemory>
-        ensures { IfOk result (λ facts. facts ≡ facts_of machine.now) }
+        ensures { IfOk result (λ facts. facts ≡ machine.now) }
     {
         let log = machine.log();
         Ok(LogFacts {
@@ -80,7 +80,7 @@ impl LogFacts {
     /// Whether the log of the machine, which was read, bears out what a record says of a migration
     /// that was so before it. It answers only want of memory.
     pub fn bears_out(&self, machine: &Machine, m: &Migration, r: &Record) -> Result<bool, NoMemory>
-        requires { self.now ≡ facts_of machine.now }
+        requires { self.now ≡ machine.now }
         ensures { IfOk result (λ said. IsTrue said ↔ RecordAsks self.now m.now r.now) }
     {
         match r {
@@ -157,7 +157,7 @@ impl LogFacts {
 
     /// Whether the snapshot was taken at that mark for the migration, with tracking enabled before.
     fn is_its_snapshot(&self, machine: &Machine, mig: u32, snap: u32, mark: u64) -> bool
-        requires { self.now ≡ facts_of machine.now }
+        requires { self.now ≡ machine.now }
         ensures { IsTrue result ↔ IsItsSnapshot mig snap mark self.now.log }
     {
         match (machine.entry(mark), self.places.get(mark as usize)) {
@@ -168,7 +168,7 @@ impl LogFacts {
 
     /// Whether it was taken so, after the machine was powered off at that place.
     fn is_its_final(&self, machine: &Machine, mig: u32, snap: u32, mark: u64, place: u64) -> bool
-        requires { self.now ≡ facts_of machine.now }
+        requires { self.now ≡ machine.now }
         ensures { IsTrue result
             ↔ (IsItsSnapshot mig snap mark self.now.log
             × (off_place snap self.now.log ≡ Some place)) }
@@ -182,7 +182,7 @@ impl LogFacts {
 
     /// Whether these are the identifiers of so many disks at the snapshot.
     fn are_ids_at(&self, machine: &Machine, disks: u32, snap: u32, ids: &[ChangeId]) -> bool
-        requires { self.now ≡ facts_of machine.now }
+        requires { self.now ≡ machine.now }
         ensures { IsTrue result
             ↔ AreIdsAt self.now.number disks snap ids.now self.now.log }
     {
@@ -200,7 +200,7 @@ impl LogFacts {
     /// The identifier of a disk at a snapshot. That of a snapshot that wasn't taken, or of a disk
     /// that there isn't, is looked for in the log.
     fn id_at(&self, machine: &Machine, disk: u32, snap: u32) -> Option<ChangeId>
-        requires { self.now ≡ facts_of machine.now }
+        requires { self.now ≡ machine.now }
         ensures { result ≡ id_at self.now.number disk snap self.now.log }
     {
         match self.count_at(disk, snap) {
@@ -229,7 +229,7 @@ impl LogFacts {
         mark: u64,
         written: u64,
     ) -> Result<bool, NoMemory>
-        requires { self.now ≡ facts_of machine.now }
+        requires { self.now ≡ machine.now }
         ensures { IfOk result (λ said. IsTrue said ↔ HasStageWritten
             (capacity_of self.now.capacities disk) disk base mark written self.now.log) }
     {
@@ -251,7 +251,7 @@ impl LogFacts {
     /// Whether the disk was reset from the place on. Resets of a disk that there isn't are looked
     /// for in the log.
     fn was_reset_from(&self, machine: &Machine, disk: u32, place: u64) -> bool
-        requires { self.now ≡ facts_of machine.now }
+        requires { self.now ≡ machine.now }
         ensures { IsTrue result ↔ WasResetFrom place disk self.now.log }
     {
         match self.disks.get(disk as usize) {

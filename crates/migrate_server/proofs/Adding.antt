@@ -21,14 +21,13 @@ use Rattle.record_codec.specs.declared.record.Record.TheVariants.{PlanMade, Migr
 use Rattle.record_codec.specs.Record.{migration_of}
 use Rattle.ctl_state.specs.declared.migration.Migration.{Migration}
 use Rattle.ctl_state.specs.declared.plans.PlanCourse.{PlanCourse}
-use Rattle.ctl_state.specs.Asks.{MachineFacts, SnapshotAsks}
+use Rattle.ctl_state.specs.Asks.{SnapshotAsks}
 use Rattle.ctl_state.specs.Fold.{IsStateOf, after, after_record}
 use Rattle.ctl_state.specs.MayStand.{may_step, record_may_stand}
 use Rattle.ctl_state.specs.Steps.{new_migration}
 use Rattle.ctl_state.specs.Value.{CtlValue, course_in, migration_in, numbered, plan_in, plan_named, waiting}
 use Rattle.ctl_state.proofs.Came.{Came, made, stepped, stayed, came}
 use Rattle.ctl_state.proofs.SoundValues.{numbered-past}
-use Rattle.log_facts.specs.LogFacts.{facts_of}
 use Rattle.plan_commands.specs.Laws.{PlansListTracked}
 use Rattle.plan_commands.specs.Machines.{disks_of, known_of}
 use Rattle.plan_commands.specs.commands.Cutover.{cutover_records, seconds_of}
@@ -37,7 +36,7 @@ use Rattle.plan_commands.specs.commands.Start.{begun_by, new_numbers, start_reco
 use Rattle.plan_commands.specs.declared.plan.TheConstants.{DEFAULT_INTERVAL}
 use Rattle.restart.specs.Agrees.{PlansAsk}
 use Rattle.restart.specs.BorneOut.{IsBorneOut, HasItsSnapshot, migration_before, names_machines}
-use Rattle.restart.specs.Machines.{facts_at, has_tracking, is_tracked, is_tracked_with}
+use Rattle.restart.specs.Machines.{has_tracking, is_tracked, is_tracked_with}
 use Rattle.restart.specs.Standing.{Accepts, AreTaken, HaveSnapshots, StandOver}
 use Rattle.restart.proofs.Folding.{stand_more}
 use Rattle.restart.proofs.StrangeNumbers.{next_may}
@@ -88,16 +87,16 @@ new_accepted fleet v r new may = record {
 }
 
 -- a migration that begins has no snapshot
-machine_there : (fleet : FleetState) (vm disks : ℕ) (P : MachineFacts → Type 0)
-    → is_tracked_with fleet vm disks ≡ true → ((at : MachineFacts) → P at)
-    → IsSomeAnd (facts_at vm fleet) P
+machine_there : (fleet : FleetState) (vm disks : ℕ) (P : MachineState → Type 0)
+    → is_tracked_with fleet vm disks ≡ true → ((at : MachineState) → P at)
+    → IsSomeAnd (machine_of vm fleet) P
 machine_there fleet vm disks P tracked all = by (machine_of vm fleet) tracked
   where
     by : (o : Option MachineState)
         → option_map_or (λ machine. has_tracking machine && length machine.capacities == disks)
-        o false ≡ true → IsSomeAnd (option_map facts_of o) P
+        o false ≡ true → IsSomeAnd o P
     by None h = absurd (false≢true h)
-    by (Some m) h = all (facts_of m)
+    by (Some m) h = all m
 
 came_snapshot : (fleet : FleetState) (v : CtlValue) (r : Record) (mig : ℕ) (n : Migration)
     → IsNew fleet r → HaveSnapshots fleet v → Came v r mig n → HasItsSnapshot fleet n

@@ -38,7 +38,7 @@ use Rattle.phase_table.specs.Phases.{is_end}
 use Rattle.record_codec.specs.declared.record.Record.{Record}
 use Rattle.record_codec.specs.declared.record.Record.TheVariants.{PlanMade, MigrationStarted, Chosen, SnapTaken, IdsStored, VolumesMade, CheckpointAdded, StageBegun, StageDone, Paused, SnapRemoved, CutoverSet, PowerStored, PoweredOff, OffSeen, FinalSnapTaken, CancelAsked, Ended}
 use Rattle.ctl_state.specs.declared.migration.Migration.{Migration}
-use Rattle.ctl_state.specs.Asks.{MachineFacts, IsItsSnapshot, AreIdsAt, HasStageWritten, WasResetFrom, RecordAsks, SnapshotAsks, changed_sectors, is_removed, is_removing, meets_volumes, may_lack}
+use Rattle.ctl_state.specs.Asks.{IsItsSnapshot, AreIdsAt, HasStageWritten, WasResetFrom, RecordAsks, SnapshotAsks, changed_sectors, is_removed, is_removing, meets_volumes, may_lack}
 use Rattle.ctl_state.specs.declared.migration.How.{How}
 use Rattle.ctl_state.specs.Fold.{IsStateOf, after, after_record}
 use Rattle.ctl_state.specs.MayStand.{goes_on_in, may_store, record_may_stand}
@@ -53,10 +53,9 @@ use Rattle.ctl_state.proofs.ListFacts.{none-numbered}
 use Rattle.ctl_state.proofs.SoundMoves.{lives}
 use Rattle.ctl_state.proofs.SoundSteps.{goes-on}
 use Rattle.ctl_state.proofs.SoundValues.{step-same, values_are_sound}
-use Rattle.log_facts.specs.LogFacts.{facts_of}
 use Rattle.record_codec.specs.Record.{migration_of}
 use Rattle.restart.specs.BorneOut.{IsBorneOut, IsInLog, migration_before, names_machines}
-use Rattle.restart.specs.Machines.{facts_at, has_tracking, is_tracked, is_tracked_with}
+use Rattle.restart.specs.Machines.{has_tracking, is_tracked, is_tracked_with}
 use Rattle.restart.specs.Standing.{AreBorneOut, AreTaken, StandOver}
 use Rattle.restart.proofs.StrangeNumbers.{next_may}
 use Rattle.restart.proofs.TakenOnes.{before_is, front_borne}
@@ -155,7 +154,7 @@ pub record IsKnown (log : List Entry) (m : Migration) : Type 0 where
   pub marked : m.mark ≤ length log
   pub taken : ForSome m.snap (λ snap. IsThere snap m.mark log)
 
-abbrev pub with_more : (at : MachineFacts) (more : List Entry) → MachineFacts
+abbrev pub with_more : (at : MachineState) (more : List Entry) → MachineState
 with_more at more = record at { log = at.log ++ more }
 
 -- where identifiers may be stored, the migration has a snapshot
@@ -185,7 +184,7 @@ naming_has_snapshot m ids sound may =
       | inr next ↦ snapshot_in m StoreIds (goes-on m StoreIds next).phase refl refl sound
     ]
 
-ids_asked : (at : MachineFacts) (more : List Entry) (m : Migration) (ids : List ChangeId)
+ids_asked : (at : MachineState) (more : List Entry) (m : Migration) (ids : List ChangeId)
     (snap : Option ℕ) → m.snap ≡ snap → IsSome snap → IsKnown at.log m
     → AreIdsAt at.number m.disks (current_snapshot m) ids at.log
     → AreIdsAt at.number m.disks (current_snapshot m) ids (at.log ++ more)
@@ -201,7 +200,7 @@ abbrev pub MayName : Migration → Record → Type 0
 MayName m r = (k : ℕ) (ids : List ChangeId) → r ≡ IdsStored k ids → may_store m ids ≡ true
 
 -- what a record asks of a log is so of a longer one
-pub asks_later : (at : MachineFacts) (more : List Entry) (m : Migration) (r : Record)
+pub asks_later : (at : MachineState) (more : List Entry) (m : Migration) (r : Record)
     → Legal (all_of at.capacities) at.log → IsKnown at.log m → IsSound m → MayName m r
     → RecordAsks at m r → RecordAsks (with_more at more) m r
 asks_later at more m (SnapTaken mig snap place) legal known sound may asks =
@@ -297,7 +296,7 @@ end_known : (log : List Entry) (m : Migration) (how : Option How) → IsKnown lo
 end_known log m None known = known
 end_known log m (Some how) known = known_without log (with_end how m) refl refl
 
-step_known : (at : MachineFacts) (m : Migration) (r : Record) → Legal (all_of at.capacities) at.log
+step_known : (at : MachineState) (m : Migration) (r : Record) → Legal (all_of at.capacities) at.log
     → IsKnown at.log m → RecordAsks at m r → IsKnown at.log (after_step m r)
 step_known at m (PlanMade plan name interval vms) legal known asks = known
 step_known at m (MigrationStarted mig plan vm disks) legal known asks = known
@@ -333,17 +332,17 @@ legal_machine number m fleet is found =
 
 -- the machine of the migration has what its fields say, where it is there
 abbrev Knows : FleetState → Migration → Type 0
-Knows fleet m = ForSome (facts_at m.vm fleet) (λ at. IsKnown at.log m)
+Knows fleet m = ForSome (machine_of m.vm fleet) (λ at. IsKnown at.log m)
 
-legal_facts : (fleet : FleetState) (vm : ℕ) (at : MachineFacts) → IsFleet fleet
-    → facts_at vm fleet ≡ Some at → Legal (all_of at.capacities) at.log
+legal_facts : (fleet : FleetState) (vm : ℕ) (at : MachineState) → IsFleet fleet
+    → machine_of vm fleet ≡ Some at → Legal (all_of at.capacities) at.log
 legal_facts fleet vm at is found = by (machine_of vm fleet) refl found
   where
-    by : (o : Option MachineState) → machine_of vm fleet ≡ o → option_map facts_of o ≡ Some at
+    by : (o : Option MachineState) → machine_of vm fleet ≡ o → o ≡ Some at
         → Legal (all_of at.capacities) at.log
     by None there e = absurd (none-some at e)
-    by (Some m) there e = subst (λ (x : MachineFacts). Legal (all_of x.capacities) x.log)
-        (same_Some (facts_of m) at e) (legal_machine vm m fleet is there)
+    by (Some m) there e = subst (λ (x : MachineState). Legal (all_of x.capacities) x.log)
+        (same_Some m at e) (legal_machine vm m fleet is there)
 
 came_known : (fleet : FleetState) (v : CtlValue) (r : Record) (mig : ℕ) (n : Migration)
     → IsFleet fleet
@@ -354,8 +353,8 @@ came_known fleet v r mig n is old borne (made plan vm disks which may new) = λ 
     (known_without at.log (new_migration mig plan vm disks) refl refl)
 came_known fleet v r mig n is old borne (stepped m there may new of) = λ at found.
     let vm : m.vm ≡ n.vm = sym (ap (λ (x : Migration). x.vm) new ∙ (step-same m r).vm) in
-    let here = ap (λ (k : ℕ). facts_at k fleet) vm ∙ found in
-    let asks = told_some (facts_at m.vm fleet) (λ a. RecordAsks a m r) at
+    let here = ap (λ (k : ℕ). machine_of k fleet) vm ∙ found in
+    let asks = told_some (machine_of m.vm fleet) (λ a. RecordAsks a m r) at
     (borne.logged m (before_is v r mig m of there)) here in
     subst (IsKnown at.log) (sym new)
     (step_known at m r (legal_facts fleet m.vm at is here) (old mig m there at here) asks)
@@ -437,19 +436,19 @@ names_later old new (MigrationStarted mig plan vm disks) grows h =
 names_later old new _ grows h = refl
 
 -- what is said of the machine of a migration is said of it as it has grown
-facts_later : (old new : FleetState) (vm : ℕ) (P Q : MachineFacts → Type 0) → Grows old new
-    → ((at : MachineFacts) (more : List Entry) → facts_at vm old ≡ Some at
+facts_later : (old new : FleetState) (vm : ℕ) (P Q : MachineState → Type 0) → Grows old new
+    → ((at : MachineState) (more : List Entry) → machine_of vm old ≡ Some at
     → StaysOwned at.log more → P at → Q (with_more at more))
-    → IsSomeAnd (facts_at vm old) P → IsSomeAnd (facts_at vm new) Q
+    → IsSomeAnd (machine_of vm old) P → IsSomeAnd (machine_of vm new) Q
 facts_later old new vm P Q grows later h = by (machine_of vm old) refl h
   where
-    by : (o : Option MachineState) → machine_of vm old ≡ o → IsSomeAnd (option_map facts_of o) P
-        → IsSomeAnd (facts_at vm new) Q
+    by : (o : Option MachineState) → machine_of vm old ≡ o → IsSomeAnd o P
+        → IsSomeAnd (machine_of vm new) Q
     by None is p = absurd p
     by (Some m) is p =
         let g = grows vm m is in
-        subst (λ (o : Option MachineState). IsSomeAnd (option_map facts_of o) Q) (sym g.there)
-        (later (facts_of m) g.more (ap (option_map facts_of) is) g.owned p)
+        subst (λ (o : Option MachineState). IsSomeAnd o Q) (sym g.there)
+        (later m g.more is g.owned p)
 
 -- where a record that stores identifiers may stand, its migration may store them
 stores : (v : CtlValue) (r : Record) (mig : ℕ) (m : Migration) → migration_of r ≡ Some mig

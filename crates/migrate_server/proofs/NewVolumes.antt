@@ -12,10 +12,10 @@ use Rattle.target_volume.specs.declared.store_refused.StoreRefused.{StoreRefused
 use Rattle.target_volume.specs.declared.store_refused.StoreRefused.TheVariants.{Failed}
 use Rattle.target_volume.specs.VolumeStore.{StoreState, StoreFails, StoredVolume, Loan, Lends, IsFresh, IsLentOut, find_loan, lent_out, at_home, after_taking_back}
 use Rattle.target_volume.specs.declared.volume_name.VolumeName.{VolumeName}
-use Rattle.target_volume.proofs.NameLemmas.{find-with_same, with-with, without-with}
+use Rattle.target_volume.proofs.NameLemmas.{find-with_same, without-with}
 use Rattle.migrate_server.specs.Copy.{after_copy, copied_contents, CopyFails}
 use Rattle.migrate_server.specs.NewVolume.{IsFree, FailsInCopy, with_new_volume, copied_volume}
-use Rattle.target_volume.proofs.StoreLemmas.{and_implied}
+use Rattle.target_volume.proofs.StoreLemmas.{and_implied, told_back}
 
 abbrev pub Volumes : Type 0
 Volumes = List (VolumeName × StoredVolume)
@@ -87,12 +87,6 @@ same_store a b l m f g s t p q r u =
     ap (λ x. store_with x l f s) p ∙ ap (λ x. store_with b x f s) q ∙ ap (λ x. store_with b m x s) r
     ∙ ap (λ x. store_with b m g x) u
 
-put_twice : (name : VolumeName) (x y : StoredVolume) (volumes : Option Volumes)
-    → option_map (with_volume name y) (option_map (with_volume name x) volumes)
-    ≡ option_map (with_volume name y) volumes
-put_twice name x y None = refl
-put_twice name x y (Some volumes) = ap Some (with-with name x y volumes)
-
 home_of : (a b : ℕ) (c d : Option VolumeContents) (m n : ℕ) → a ≡ b → c ≡ d → m ≡ n
     → ◌≡◌ {A = StoredVolume} (record { capacity = a; contents = c; written = m })
     (record { capacity = b; contents = d; written = n })
@@ -122,7 +116,7 @@ volumes_are : (name : VolumeName) (disk : List Sector) (sectors : ℕ) (volume a
     ≡ option_map (with_volume name (copied_volume disk sectors)) volumes
 volumes_are name disk sectors volume after lent None long sized copied fresh = refl
 volumes_are name disk sectors volume after lent (Some volumes) long sized copied fresh =
-    put_twice name lent (at_home after) (Some volumes)
+    told_back name lent (at_home after) (Some volumes)
     ∙ ap (λ x. Some (with_volume name x volumes))
     (home_is disk sectors volume after long sized copied volume.contents refl (fresh refl))
 
@@ -178,7 +172,7 @@ failed_home name sectors volume after old mid new lends free fails back later =
           at_home after,
           keeps ∙ lends.sized,
           volumes
-              ∙ put_twice name (lent_out sectors) (at_home after) old.volumes,
+              ∙ told_back name (lent_out sectors) (at_home after) old.volumes,
         ),
       );
       kept = whole ∙ same_store _ _ _ _ _ _ _ _ (sym volumes)

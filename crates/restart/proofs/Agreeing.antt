@@ -6,14 +6,13 @@ use Rattle.std.proofs.lemmas.Bool.{eqb-true, eq-eqb, and_parts}
 use Rattle.std.proofs.lemmas.Option.{option_and_then_some}
 use Rattle.source_vm.specs.Machine.{MachineState}
 use Rattle.fleet.specs.Fleet.{FleetState, machine_of}
-use Rattle.log_facts.specs.LogFacts.{facts_of}
 use Rattle.record_codec.specs.declared.record.Record.{Record}
 use Rattle.record_codec.specs.declared.record.Record.TheVariants.{PlanMade, MigrationStarted, Chosen, SnapTaken, IdsStored, VolumesMade, CheckpointAdded, StageBegun, StageDone, Paused, SnapRemoved, CutoverSet, PowerStored, PoweredOff, OffSeen, FinalSnapTaken, CancelAsked, Ended}
 use Rattle.record_codec.specs.Record.{migration_of}
 use Rattle.target_volume.specs.declared.volume_name.VolumeName.{VolumeName}
 use Rattle.target_volume.specs.VolumeStore.{StoredVolume}
 use Rattle.ctl_state.specs.declared.migration.Migration.{Migration}
-use Rattle.ctl_state.specs.Asks.{MachineFacts, RecordAsks, SnapshotAsks, AsksOf}
+use Rattle.ctl_state.specs.Asks.{RecordAsks, SnapshotAsks, AsksOf}
 use Rattle.ctl_state.specs.Steps.{new_migration}
 use Rattle.ctl_state.specs.Fold.{IsStateOf, after, after_record, plan_of}
 use Rattle.ctl_state.specs.MayStand.{record_may_stand, may_start}
@@ -21,7 +20,7 @@ use Rattle.ctl_state.specs.Value.{CtlValue, numbered, migration_in}
 use Rattle.ctl_state.proofs.FoldFacts.{goes_on}
 use Rattle.ctl_state.proofs.ListFacts.{numbered-added}
 use Rattle.ctl_state.proofs.SoundValues.{values_are_sound}
-use Rattle.restart.specs.Machines.{facts_at, has_tracking, is_tracked, is_tracked_with}
+use Rattle.restart.specs.Machines.{has_tracking, is_tracked, is_tracked_with}
 use Rattle.restart.specs.BorneOut.{names_machines, migration_before, IsInLog, IsBorneOut, HasItsSnapshot}
 use Rattle.restart.specs.Agrees.{PlansAsk, MigrationAsks, Agrees}
 use Rattle.restart.specs.Laws.{AgreeingAreNotStrange, AgreeingAreTaken, TakenAreNotStrange}
@@ -37,7 +36,7 @@ asked_machine : (fleet : FleetState) (records : List Record)
 asked_machine fleet records told mig m asks = by (machine_of m.vm fleet) asks
   where
     by : (o : Option MachineState)
-        → IsSomeAnd (option_map facts_of o) (λ at. AsksOf mig at records m told)
+        → IsSomeAnd o (λ at. AsksOf mig at records m told)
         → option_map_or (λ machine. has_tracking machine && length machine.capacities == m.disks)
         o false ≡ true
     by None h = absurd h
@@ -110,15 +109,15 @@ logged fleet records told agree front rest r v m split come before =
     (sym (ap after split) ∙ agree.come_to) in
     let on = goes.migrations mig m there in
     let asks = agree.migrations mig on.now on.there in
-    by mig of there on.now on.same.vm (facts_at on.now.vm fleet) refl asks)
+    by mig of there on.now on.same.vm (machine_of on.now.vm fleet) refl asks)
   where
     by : (mig : ℕ) → migration_of r ≡ Some mig → migration_in v mig ≡ Some m → (now : Migration)
-        → now.vm ≡ m.vm → (o : Option MachineFacts) → facts_at now.vm fleet ≡ o
+        → now.vm ≡ m.vm → (o : Option MachineState) → machine_of now.vm fleet ≡ o
         → IsSomeAnd o (λ at. AsksOf mig at records now told) → IsInLog fleet m r
     by mig of there now vm None found asks = absurd asks
     by mig of there now vm (Some at) found asks =
-        some_told (facts_at m.vm fleet) (λ here. RecordAsks here m r) at
-        (ap (λ (k : ℕ). facts_at k fleet) (sym vm) ∙ found)
+        some_told (machine_of m.vm fleet) (λ here. RecordAsks here m r) at
+        (ap (λ (k : ℕ). machine_of k fleet) (sym vm) ∙ found)
         (asks.of_log front rest r v m split of come there)
 
 borne : (fleet : FleetState) (records : List Record)
@@ -136,9 +135,9 @@ borne fleet records told agree front rest r v split come may = record {
 has_snapshot : (fleet : FleetState) (records : List Record)
     (told : Option (List (VolumeName × StoredVolume))) (mig : ℕ) (m : Migration)
     → MigrationAsks fleet records told mig m → m.number ≡ mig → HasItsSnapshot fleet m
-has_snapshot fleet records told mig m asks is = by (facts_at m.vm fleet) asks
+has_snapshot fleet records told mig m asks is = by (machine_of m.vm fleet) asks
   where
-    by : (o : Option MachineFacts) → IsSomeAnd o (λ at. AsksOf mig at records m told)
+    by : (o : Option MachineState) → IsSomeAnd o (λ at. AsksOf mig at records m told)
         → IsSomeAnd o (λ at. SnapshotAsks m.number at.log m)
     by None h = absurd h
     by (Some at) h = subst (λ (k : ℕ). SnapshotAsks k at.log m) (sym is) h.of_snapshot

@@ -15,13 +15,12 @@ use Rattle.fleet.specs.Sound.{IsFleet}
 use Rattle.fleet.proofs.In.{is_in}
 use Rattle.fleet.proofs.Logs.{at_place}
 use Rattle.fleet.proofs.StaysSound.{IsVm-at}
-use Rattle.log_facts.specs.LogFacts.{facts_of}
 use Rattle.plan_model.specs.declared.plan.Plan.{Plan}
 use Rattle.record_codec.specs.declared.record.Record.{Record}
 use Rattle.record_codec.specs.declared.record.Record.TheVariants.{PlanMade, MigrationStarted, Chosen, SnapTaken, IdsStored, VolumesMade, CheckpointAdded, StageBegun, StageDone, Paused, SnapRemoved, CutoverSet, PowerStored, PoweredOff, OffSeen, FinalSnapTaken, CancelAsked, Ended}
 use Rattle.record_codec.specs.Record.{migration_of}
 use Rattle.ctl_state.specs.declared.migration.Migration.{Migration}
-use Rattle.ctl_state.specs.Asks.{MachineFacts, RecordAsks, RecordsAsk, SnapshotAsks, AsksOf}
+use Rattle.ctl_state.specs.Asks.{RecordAsks, RecordsAsk, SnapshotAsks, AsksOf}
 use Rattle.ctl_state.specs.Steps.{after_step}
 use Rattle.ctl_state.specs.Fold.{IsStateOf, after, after_record, plan_of}
 use Rattle.ctl_state.specs.MayStand.{record_may_stand}
@@ -30,7 +29,7 @@ use Rattle.ctl_state.proofs.FoldFacts.{goes_on}
 use Rattle.ctl_state.proofs.Came.{Came, made, stepped, stayed, came, fronts}
 use Rattle.ctl_state.proofs.ListFacts.{none-numbered, numbered-before, numbered-added}
 use Rattle.ctl_state.proofs.SoundValues.{SameOne, step-same, values_are_sound}
-use Rattle.restart.specs.Machines.{facts_at, has_tracking, is_tracked, is_tracked_with}
+use Rattle.restart.specs.Machines.{has_tracking, is_tracked, is_tracked_with}
 use Rattle.restart.specs.BorneOut.{names_machines, migration_before, IsBorneOut}
 use Rattle.restart.specs.Standing.{AreBorneOut, StandOver, AreTaken}
 use Rattle.restart.specs.Agrees.{PlansAsk, MigrationAsks}
@@ -144,8 +143,8 @@ all_there fleet records v stand = (fronts (Front fleet) (one_front fleet)
 
 -- what is known of a machine that is tracked and has so many disks
 pub record IsTrackedAt (fleet : FleetState) (vm disks : ℕ) : Type 0 where
-  pub at : MachineFacts
-  pub found : facts_at vm fleet ≡ Some at
+  pub at : MachineState
+  pub found : machine_of vm fleet ≡ Some at
   pub numbered : at.number ≡ vm
   pub sized : length at.capacities ≡ disks
   pub legal : Legal (all_of at.capacities) at.log
@@ -160,8 +159,8 @@ of_machine fleet vm disks m is found both =
     let legal =
     (IsVm-at (vm - 1) known.0 fleet is (at_place vm known.0 fleet known.1.there)).legal in
     record {
-      at = facts_of m;
-      found = ap (option_map facts_of) found;
+      at = m;
+      found = found;
       numbered = ap (λ (x : MachineState). x.number) known.1.same;
       sized = eqb-true (length m.capacities) disks parts.1;
       legal = subst (λ (x : MachineState). Legal (all_of x.capacities) x.log)
@@ -187,8 +186,8 @@ pub before_is : (v : CtlValue) (r : Record) (mig : ℕ) (m : Migration) → migr
 before_is v r mig m of there = ap (option_and_then (migration_in v)) of ∙ there
 
 log_asks : (fleet : FleetState) (records : List Record) (v : CtlValue) (mig : ℕ) (m : Migration)
-    (at : MachineFacts) → StandOver fleet records v → migration_in v mig ≡ Some m
-    → facts_at m.vm fleet ≡ Some at → RecordsAsk mig at records
+    (at : MachineState) → StandOver fleet records v → migration_in v mig ≡ Some m
+    → machine_of m.vm fleet ≡ Some at → RecordsAsk mig at records
 log_asks fleet records v mig m at stand there found front rest r w earlier split of come known =
     let goes = values_go_on front (r ∷ rest) w v come (sym (ap after split) ∙ stand.come_to) in
     let on = goes.migrations mig earlier known in
@@ -196,8 +195,8 @@ log_asks fleet records v mig m at stand there found front rest r w earlier split
     let vm : m.vm ≡ earlier.vm = ap (λ (x : Migration). x.vm) (sym now) ∙ on.same.vm in
     let borne = (stand.borne_out front rest r w split come).logged earlier
     (before_is w r mig earlier of known) in
-    told_some (facts_at earlier.vm fleet) (λ here. RecordAsks here earlier r) at borne
-    (ap (λ (k : ℕ). facts_at k fleet) (sym vm) ∙ found)
+    told_some (machine_of earlier.vm fleet) (λ here. RecordAsks here earlier r) at borne
+    (ap (λ (k : ℕ). machine_of k fleet) (sym vm) ∙ found)
 
 pub one_asks : (fleet : FleetState) (records : List Record) (v : CtlValue) (mig : ℕ)
     (m : Migration) → IsFleet fleet → AreTaken fleet records v → migration_in v mig ≡ Some m
@@ -205,10 +204,10 @@ pub one_asks : (fleet : FleetState) (records : List Record) (v : CtlValue) (mig 
 one_asks fleet records v mig m is taken there tracked =
     let here = tracked_at fleet m.vm m.disks is tracked in
     let number = (values_are_sound records v taken.stand.come_to).migrations mig m there in
-    let snapshot = told_some (facts_at m.vm fleet)
-    (λ (at : MachineFacts). SnapshotAsks m.number at.log m) here.at
+    let snapshot = told_some (machine_of m.vm fleet)
+    (λ (at : MachineState). SnapshotAsks m.number at.log m) here.at
     (taken.snapshots mig m there) here.found in
-    some_told (facts_at m.vm fleet) (λ at. AsksOf mig at records m None) here.at here.found
+    some_told (machine_of m.vm fleet) (λ at. AsksOf mig at records m None) here.at here.found
     (record {
       of_machine = record {
         numbered = here.numbered;

@@ -5,7 +5,7 @@
 use Rattle.std.specs.Prelude.{◌≡◌, ℕ, Some, Option, true, List, IsSome, IsSomeAnd}
 use Rattle.std.specs.List.{list_all}
 use Rattle.std.specs.Option.{ForSome}
-use Rattle.fleet.specs.Fleet.{FleetState}
+use Rattle.fleet.specs.Fleet.{FleetState, machine_of}
 use Rattle.fleet.specs.Sound.{IsFleet}
 use Rattle.plan_model.specs.declared.plan.Plan.{Plan}
 use Rattle.record_codec.specs.declared.record.Record.{Record}
@@ -17,7 +17,7 @@ use Rattle.target_volume.specs.declared.volume_name.VolumeName.{VolumeName}
 use Rattle.target_volume.specs.declared.volume_name.VolumeName.TheVariants.{Disk}
 use Rattle.target_volume.specs.VolumeName.{find_volume}
 use Rattle.target_volume.specs.VolumeStore.{StoredVolume}
-use Rattle.restart.specs.Machines.{facts_at, is_tracked}
+use Rattle.restart.specs.Machines.{is_tracked}
 
 -- the machines of each plan are there, and tracking is active on them
 abbrev pub PlansAsk : FleetState → CtlValue → Type 0
@@ -28,7 +28,7 @@ PlansAsk fleet v = (number : ℕ) (plan : Plan) → plan_in v number ≡ Some pl
 abbrev pub MigrationAsks : FleetState → List Record → Option (List (VolumeName × StoredVolume))
     → (mig : ℕ) → Migration → Type 0
 MigrationAsks fleet records told mig m =
-    IsSomeAnd (facts_at m.vm fleet) (λ at. AsksOf mig at records m told)
+    IsSomeAnd (machine_of m.vm fleet) (λ at. AsksOf mig at records m told)
 
 -- each volume under a migration's name is of one that the records know
 abbrev pub AreOfMigrations : CtlValue → List (VolumeName × StoredVolume) → Type 0

@@ -4,14 +4,14 @@
 use Rattle.std.specs.Prelude.{◌≡◌, Bool, true, Option, option_and_then, IsSomeAnd}
 use Rattle.std.specs.List.{list_all}
 use Rattle.std.specs.Option.{ForSome}
-use Rattle.fleet.specs.Fleet.{FleetState}
+use Rattle.fleet.specs.Fleet.{FleetState, machine_of}
 use Rattle.record_codec.specs.declared.record.Record.{Record}
 use Rattle.record_codec.specs.declared.record.Record.TheVariants.{PlanMade, MigrationStarted, Chosen, SnapTaken, IdsStored, VolumesMade, CheckpointAdded, StageBegun, StageDone, Paused, SnapRemoved, CutoverSet, PowerStored, PoweredOff, OffSeen, FinalSnapTaken, CancelAsked, Ended}
 use Rattle.record_codec.specs.Record.{migration_of}
 use Rattle.ctl_state.specs.declared.migration.Migration.{Migration}
 use Rattle.ctl_state.specs.Asks.{RecordAsks, SnapshotAsks}
 use Rattle.ctl_state.specs.Value.{CtlValue, migration_in}
-use Rattle.restart.specs.Machines.{facts_at, is_tracked, is_tracked_with}
+use Rattle.restart.specs.Machines.{is_tracked, is_tracked_with}
 
 -- the machines that the record names are there and tracked, and that of a migration that it begins
 -- has as many disks
@@ -41,7 +41,7 @@ migration_before v r = option_and_then (migration_in v) (migration_of r)
 
 -- what the record says stands in the log of the migration's machine
 abbrev pub IsInLog : FleetState → Migration → Record → Type 0
-IsInLog fleet m r = IsSomeAnd (facts_at m.vm fleet) (λ at. RecordAsks at m r)
+IsInLog fleet m r = IsSomeAnd (machine_of m.vm fleet) (λ at. RecordAsks at m r)
 
 -- the fleet bears out a record behind those that came to this value
 pub record IsBorneOut (fleet : FleetState) (v : CtlValue) (r : Record) : Type 0 where
@@ -51,4 +51,4 @@ pub record IsBorneOut (fleet : FleetState) (v : CtlValue) (r : Record) : Type 0 
 -- the current snapshot of the migration is there, if it is live, or may be gone
 abbrev pub HasItsSnapshot : FleetState → Migration → Type 0
 HasItsSnapshot fleet m =
-    IsSomeAnd (facts_at m.vm fleet) (λ at. SnapshotAsks m.number at.log m)
+    IsSomeAnd (machine_of m.vm fleet) (λ at. SnapshotAsks m.number at.log m)

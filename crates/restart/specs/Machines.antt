@@ -1,16 +1,10 @@
 -- What records find of the machines of a fleet. A machine that is out isn't there.
-use Rattle.std.specs.Prelude.{ℕ, ◌==◌, ◌&&◌, Bool, false, length, Option, option_map}
+use Rattle.std.specs.Prelude.{ℕ, ◌==◌, ◌&&◌, Bool, false, length}
 use Rattle.std.specs.Option.{option_map_or}
 use Rattle.log_model.specs.Link.{is_active}
 use Rattle.log_model.specs.Marks.{tracking}
 use Rattle.source_vm.specs.Machine.{MachineState}
 use Rattle.fleet.specs.Fleet.{FleetState, machine_of}
-use Rattle.ctl_state.specs.Asks.{MachineFacts}
-use Rattle.log_facts.specs.LogFacts.{facts_of}
-
--- what the machine of a number tells, where it is there
-abbrev pub facts_at : (vm : ℕ) → FleetState → Option MachineFacts
-facts_at vm fleet = option_map facts_of (machine_of vm fleet)
 
 -- tracking is active on the machine
 abbrev pub has_tracking : MachineState → Bool

@@ -3,20 +3,17 @@ use Rattle.std.specs.Prelude.{◌≡◌, ◌⊎◌, ℕ, Some}
 use Rattle.std.specs.BTreeMap.{BTreeMap, get}
 use Rattle.std.specs.Ordering.{nat_cmp}
 use Rattle.source_vm.specs.Machine.{MachineState}
-use Rattle.fleet.specs.Fleet.{FleetState}
-use Rattle.ctl_state.specs.Asks.{MachineFacts}
-use Rattle.log_facts.specs.LogFacts.{facts_of}
-use Rattle.restart.specs.Machines.{facts_at}
+use Rattle.fleet.specs.Fleet.{FleetState, machine_of}
 
 abbrev pub FactsByVm : Type 0
-FactsByVm = BTreeMap ℕ MachineFacts
+FactsByVm = BTreeMap ℕ MachineState
 
 -- each is that of a machine of the fleet
 abbrev pub AreOf : FleetState → FactsByVm → Type 0
-AreOf fleet facts = (vm : ℕ) (at : MachineFacts) → get nat_cmp facts vm ≡ Some at
-    → facts_at vm fleet ≡ Some at
+AreOf fleet facts = (vm : ℕ) (at : MachineState) → get nat_cmp facts vm ≡ Some at
+    → machine_of vm fleet ≡ Some at
 
 -- what is new is what this machine tells
 abbrev pub GainsOnly : MachineState → (old new : FactsByVm) → Type 0
-GainsOnly machine old new = (vm : ℕ) (at : MachineFacts) → get nat_cmp new vm ≡ Some at
-    → (get nat_cmp old vm ≡ Some at) ⊎ ((vm ≡ machine.number) × (at ≡ facts_of machine))
+GainsOnly machine old new = (vm : ℕ) (at : MachineState) → get nat_cmp new vm ≡ Some at
+    → (get nat_cmp old vm ≡ Some at) ⊎ ((vm ≡ machine.number) × (at ≡ machine))

@@ -4,6 +4,7 @@ use Rattle.std.specs.List.{filter_map, cons_option, list_any, position_or_len}
 use Rattle.std.proofs.lemmas.Bool.{false≢true}
 use Rattle.std.proofs.lemmas.List.Folds.{list_any_at}
 use Rattle.std.proofs.lemmas.List.Sums.{passes_at_first}
+use Rattle.basics.proofs.Options.{some_value}
 use Rattle.sector_model.specs.Disk.{Write as Replacement}
 use Rattle.sector_model.specs.Run.{touches, blocks_where, areas_of}
 use Rattle.sector_model.specs.declared.run.Run.{Run}
@@ -165,10 +166,6 @@ answer_told machine c disk s since log =
 
 -- ---- a live snapshot is known to the tracking
 
-owner_is : (o : Option Owner) → is_some o ≡ true → (owner : Owner) × (o ≡ Some owner)
-owner_is None is = absurd (false≢true is)
-owner_is (Some owner) is = (owner, refl)
-
 known : (s : ℕ) (steps : List TrackStep) → position_or_len (freezes s) steps < length steps
     → list_any (freezes s) steps ≡ true
 known s steps less = list_any_at (freezes s) steps (position_or_len (freezes s) steps) Enabled less
@@ -177,5 +174,5 @@ known s steps less = list_any_at (freezes s) steps (position_or_len (freezes s) 
 pub live_known : (s disk : ℕ) (log : List Entry) → is_live s log ≡ true
     → list_any (freezes s) (steps_of disk log) ≡ true
 live_known s disk log is =
-    let owner = owner_is (owner_of s log) is in
+    let owner = some_value (owner_of s log) is in
     known s (steps_of disk log) (((told disk log).taken s).0 (live_taken log s owner.0 owner.1))

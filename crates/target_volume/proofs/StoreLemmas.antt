@@ -8,7 +8,8 @@ use Rattle.target_volume.specs.VolumeName.{find_volume, with_volume, AreAscendin
 use Rattle.target_volume.specs.VolumeStore.{StoreState, StoredVolume, IsOrderly, at_home, lent_out, after_lending, after_taking_back}
 use Rattle.target_volume.specs.declared.volume_name.VolumeName.{VolumeName}
 
-told_back : (name : VolumeName) (x y : StoredVolume)
+-- a volume under a name, and another one in its place
+pub told_back : (name : VolumeName) (x y : StoredVolume)
     (volumes : Option (List (VolumeName × StoredVolume)))
     → option_map (with_volume name y) (option_map (with_volume name x) volumes)
     ≡ option_map (with_volume name y) volumes

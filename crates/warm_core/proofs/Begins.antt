@@ -3,6 +3,7 @@ use Rattle.std.proofs.Common.{◌≡◌, ℕ, ◌<◌, ◌≤◌, List, [], Bool
 use Rattle.std.specs.Option.{is_none, IfSome}
 use Rattle.std.proofs.lemmas.Bool.{false_from_ne_true, false≢true, ne_eqb, or_left}
 use Rattle.std.proofs.lemmas.Option.{same_Some, none-some}
+use Rattle.basics.proofs.Options.{some_value}
 use Rattle.sector_model.specs.Run.{in_blocks}
 use Rattle.log_model.specs.declared.entry.Entry.{Entry}
 use Rattle.log_model.specs.declared.link.Snapped.{Snapped}
@@ -18,7 +19,6 @@ use Rattle.warm_core.specs.World.{World, IsSnapOf, IsLive, StageIsSound, IsSound
 use Rattle.warm_core.specs.Events.{MayBegin, snapped_of}
 use Rattle.warm_core.specs.Laws.{StageStands, LaterSnapshotsStay}
 use Rattle.warm_core.proofs.Stages.{begun-stands}
-use Rattle.warm_core.proofs.Worlds.{some-parts}
 
 -- the blocks that are open over a snapshot are open over each later one
 open-at : (b : Bool) (blocks : List ℕ) (s : ℕ) → in_blocks (cond b blocks []) s ≡ true
@@ -90,7 +90,7 @@ begun-sound w snapshot last sound may =
     let new : Snapped = snapped_of snapshot w.log in
     let t : StageState = begun w.capacity (is_none w.base) in
     let next : World = record w { snap = Some new; last = last; stage = Some t } in
-    let owner = some-parts (owner_of snapshot w.log) may.live in
+    let owner = some_value (owner_of snapshot w.log) may.live in
     let taken = live_was_taken (only w.disk w.capacity) w.log snapshot owner.0 sound.legal owner.1
     in
     let unfinished : is_unfinished w.base (Some new) ≡ true =

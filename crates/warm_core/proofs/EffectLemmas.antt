@@ -4,6 +4,7 @@ use Rattle.std.specs.List.{slice_range, range_with_len}
 use Rattle.std.specs.Option.{is_some, IsSomeAnd}
 use Rattle.std.proofs.lemmas.Option.{same_Some, get_or_from_slice_get}
 use Rattle.std.proofs.lemmas.List.FromFn.{fill_by_all}
+use Rattle.basics.proofs.Options.{some_value}
 use Rattle.sector_model.specs.Run.{areas_of}
 use Rattle.sector_model.specs.Page.{PageContents, page_from, LiesWithin}
 use Rattle.sector_model.specs.Sector.{zero_sector}
@@ -23,7 +24,7 @@ use Rattle.warm_core.specs.Staged.{blocks_asked, StageFits}
 use Rattle.warm_core.specs.World.{World, IsSound}
 use Rattle.warm_core.specs.Events.{Runs, answer_now, page_end_of, after_page}
 use Rattle.warm_core.specs.Laws.{AnswersTell}
-use Rattle.warm_core.proofs.Worlds.{some-parts, ok-parts, by_stage-is, ground-of}
+use Rattle.warm_core.proofs.Worlds.{ok-parts, by_stage-is, ground-of}
 use Rattle.warm_core.proofs.Answered.{stages_are_answered}
 
 -- ---- the stage of a sound world
@@ -36,7 +37,7 @@ pub record Copies (w : World) (t : StageState) (s : Snapped) : Type 0 where
 pub stage-copies : (w : World) (t : StageState) → IsSound w → w.stage ≡ Some t
     → (s : Snapped) × Copies w t s
 stage-copies w t sound is =
-    let snap = some-parts w.snap
+    let snap = some_value w.snap
     (sound.stage_has_snap (ap (λ (o : Option StageState). is_some o) is)) in
     (snap.0, record { snap = snap.1; fits = (sound.stage_is snap.0 snap.1 t is).fits })
 

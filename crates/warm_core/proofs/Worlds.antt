@@ -4,6 +4,7 @@ use Rattle.std.specs.List.{slice_get}
 use Rattle.std.specs.Option.{is_some, IsSomeAnd, option_map}
 use Rattle.std.proofs.lemmas.Bool.{false≢true, eq-eqb}
 use Rattle.std.proofs.lemmas.Option.{same_Some, none-some}
+use Rattle.basics.proofs.Options.{some_value}
 use Rattle.sector_model.specs.VolumeContents.{VolumeContents, volume_flushed, volume_zeroed}
 use Rattle.sector_model.specs.declared.run.Run.{Run}
 use Rattle.change_id.specs.declared.ChangeId.{ChangeId}
@@ -27,10 +28,6 @@ some-and : {A : Type 0} (o : Option A) (P : A → Type 0) → IsSomeAnd o P
     → (x : A) × (o ≡ Some x) × P x
 some-and None P h = absurd h
 some-and (Some x) P h = (x, refl, h)
-
-pub some-parts : {A : Type 0} (o : Option A) → IsSome o → (x : A) × (o ≡ Some x)
-some-parts None h = absurd (false≢true h)
-some-parts (Some x) h = (x, refl)
 
 pub ok-parts : {A B : Type 0} (r : Result A B) → IsOk r → (x : A) × (r ≡ Ok x)
 ok-parts (Ok x) h = (x, refl)
@@ -294,7 +291,7 @@ done-sound w small sound may =
     let s = parts.0 in
     let t = parts.1 in
     let has = parts.2 in
-    let id = some-parts (id_at w.machine w.disk s.id w.log)
+    let id = some_value (id_at w.machine w.disk s.id w.log)
     ((sound.stage_is s has.snap t has.stage).has_id) in
     let step : Snapped → StageState → World → World =
     λ snap t w. record w {

@@ -1,18 +1,12 @@
-use Rattle.std.proofs.Common.{◌≡◌, ◌≢◌, ℕ, ◌+◌, ◌-◌, ◌⊎◌, inl, inr, List, length, take, drop, get_or, Some, subst, sym, ap, ◌∙◌, arith, rules, length-drop}
+use Rattle.std.proofs.Common.{◌≡◌, ◌≢◌, ℕ, ◌+◌, ◌-◌, ◌⊎◌, inl, inr, List, length, take, drop, get_or, Some, subst, sym, ap, ◌∙◌, arith, rules}
 use Rattle.std.proofs.lemmas.Bool.{cases_eq}
-use Rattle.std.proofs.lemmas.List.{take_all}
 use Rattle.std.proofs.lemmas.Option.{same_Some, slice_get-get_or}
 use Rattle.std.specs.List.{slice_get}
+use Rattle.basics.proofs.ItemAt.{take-drop_rest}
 use Rattle.log_model.specs.declared.entry.Owner.{Owner}
 use Rattle.source_vm.specs.declared.live.LiveSnap.{LiveSnap}
 use Rattle.source_vm.proofs.LiveLemmas.{NoneOf, none_owned, least_owned, snap}
 use Rattle.source_vm.proofs.live.least_owned_in.Goals as goal
-
--- a slice from a place on is all that stands there
-all_of_it : (xs : List LiveSnap) (place : ℕ)
-    → take (length xs - place) (drop place xs) ≡ drop place xs
-all_of_it xs place = take_all (length xs - place) (drop place xs)
-    (omega (arith, length-drop place xs))
 
 -- one place more has another owner
 none_more : (by : Owner) (later : List LiveSnap) (i : ℕ) (x : LiveSnap) → NoneOf by later i
@@ -36,9 +30,9 @@ returns-then-eq c =
     let at : slice_get later i ≡ Some x =
     slice_get-get_or later i (snap 0 Owner.Operator) c.loop-snap-test.true in
     least_owned c.args.owner c.args.from place i xs x c.requires c.place_from.ensures.point
-    (subst (λ (ys : List LiveSnap). NoneOf c.args.owner ys i) (all_of_it xs place)
+    (subst (λ (ys : List LiveSnap). NoneOf c.args.owner ys i) (take-drop_rest xs place)
     c.loop-snap.invariant)
-    (subst (λ (ys : List LiveSnap). slice_get ys i ≡ Some x) (all_of_it xs place) at) has
+    (subst (λ (ys : List LiveSnap). slice_get ys i ≡ Some x) (take-drop_rest xs place) at) has
 
 pub loop-snap-preserved : goal.loop-snap-preserved
 loop-snap-preserved c =
@@ -57,5 +51,5 @@ returns c =
     let place : ℕ = c.place_from.result in
     let later : List LiveSnap = take (length xs - place) (drop place xs) in
     none_owned c.args.owner c.args.from place xs c.place_from.ensures.point
-    (subst (λ (ys : List LiveSnap). NoneOf c.args.owner ys (length ys)) (all_of_it xs place)
+    (subst (λ (ys : List LiveSnap). NoneOf c.args.owner ys (length ys)) (take-drop_rest xs place)
     (λ k x less. c.loop-snap.invariant k x (omega (arith, c.loop-snap-test.false))))

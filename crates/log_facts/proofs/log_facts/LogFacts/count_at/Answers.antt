@@ -4,17 +4,16 @@ use Rattle.std.specs.List.{slice_get}
 use Rattle.std.proofs.lemmas.Option.{slice_get_read}
 use Rattle.log_model.specs.Legal.{all_of}
 use Rattle.log_model.specs.Marks.{through}
-use Rattle.ctl_state.specs.Asks.{MachineFacts}
+use Rattle.log_model.specs.Machine.{MachineState}
 use Rattle.log_facts.specs.declared.disks.DiskFacts.{DiskFacts}
 use Rattle.log_facts.specs.declared.disks.IdCount.{IdCount}
 use Rattle.log_facts.specs.Disks.{count_of}
-use Rattle.log_facts.specs.LogFacts.{facts_of}
 use Rattle.log_facts.proofs.LookupLemmas.{count_is}
 use Rattle.log_facts.proofs.log_facts.LogFacts.count_at.Goals as goal
 
 pub returns : goal.returns
 returns c =
-    let at = facts_of c.self.inside.machine.value in
+    let at = c.self.inside.machine.value in
     let index : c.in_ok-index.index ≡ c.args.snap - 1 = omega (arith, c.in_ok-index.ensures) in
     let from : 1 ≤ c.args.snap = omega (arith, c.in_ok-index.ensures) in
     let disk : slice_get c.self.inside.disks.items c.args.disk ≡ Some c.in_ok-facts.facts.now =
@@ -32,4 +31,4 @@ returns c =
     count_is (all_of at.capacities) c.args.disk c.args.snap at.log
     c.in_ok-facts.facts.now.counts.items c.in_ok-count.count.now c.self.invariant.legal
     (c.self.invariant.by_disk.each c.args.disk c.in_ok-facts.facts.now disk).counts from read
-    ∙ ap (λ (a : MachineFacts). count_of c.args.disk (through c.args.snap a.log)) c.self.view_is
+    ∙ ap (λ (a : MachineState). count_of c.args.disk (through c.args.snap a.log)) c.self.view_is

@@ -3,14 +3,13 @@ use Rattle.std.proofs.Common.{◌<◌, length, ap, ◌∙◌, arith}
 use Rattle.std.proofs.lemmas.Bool.{false≢true}
 use Rattle.log_model.specs.declared.entry.Owner.TheVariants.{Migration as OfMigration}
 use Rattle.log_model.specs.Legal.{all_of, taken, owner_of}
-use Rattle.ctl_state.specs.Asks.{MachineFacts}
-use Rattle.log_facts.specs.LogFacts.{facts_of}
+use Rattle.log_model.specs.Machine.{MachineState}
 use Rattle.log_facts.proofs.LookupLemmas.{no_owner}
 use Rattle.log_facts.proofs.log_facts.LogFacts.is_owned.Goals as goal
 
 pub returns-in-None : goal.returns-in-None
 returns-in-None c =
-    let at = facts_of c.self.inside.machine.value in
+    let at = c.self.inside.machine.value in
     let past : taken at.log < c.args.snap =
     omega (
       arith,
@@ -22,5 +21,5 @@ returns-in-None c =
       λ is. absurd (false≢true is),
       λ owns. absurd (no_owner (all_of at.capacities) c.args.snap (OfMigration c.args.mig) at.log
           c.self.invariant.legal past
-          (ap (λ (a : MachineFacts). owner_of c.args.snap a.log) c.self.view_is ∙ owns)),
+          (ap (λ (a : MachineState). owner_of c.args.snap a.log) c.self.view_is ∙ owns)),
     )
