@@ -9,7 +9,6 @@ ghost use Rattle.log_model.specs.Link.{is_active, Owns};
 ghost use Rattle.log_model.specs.Marks.{tracking, through, id_at};
 ghost use Rattle.log_model.specs.Frozen.{off_place};
 ghost use Rattle.ctl_state.specs.Migration.{same_phase};
-ghost use Rattle.log_model.specs.Machine.{MachineState};
 ghost use Rattle.ctl_state.specs.Asks.{IsItsSnapshot, AreIdsAt, HasStageWritten, WasResetFrom, RecordAsks, SnapshotAsks, is_removed, is_removing, meets_volumes, may_lack};
 ghost use Rattle.log_facts.specs.Disks.{count_of};
 
@@ -42,7 +41,7 @@ pub struct LogFacts {
 }
 
 impl Model for LogFacts {
-    ghost use Rattle.ctl_state.specs.Asks.{MachineState};
+    ghost use Rattle.log_model.specs.Machine.{MachineState};
     ghost use Rattle.log_facts.specs.LogFacts.{AreRead};
 
     ghost Value = { MachineState };
