@@ -1,9 +1,11 @@
 -- One item of a list that was cut, joined, set or made of equal ones; lists with equal items; a
 -- list up to one of its places and from there on.
-use Rattle.std.proofs.Common.{◌≡◌, ◌≢◌, ℕ, zero, suc, ◌+◌, ◌-◌, ◌<◌, ◌≤◌, Bool, true, false, not, cond, List, [], ◌∷◌, ◌++◌, length, get_or, take, drop, set, replicate, Some, ap, refl, sym, unwrap_or, ◌∙◌, arith, append_assoc, length-drop}
+use Rattle.std.proofs.Common.{◌≡◌, ◌≢◌, ℕ, zero, suc, ◌+◌, ◌-◌, ◌<◌, ◌≤◌, ◌⊎◌, inl, inr, Bool, true, false, not, cond, List, [], ◌∷◌, ◌++◌, length, get_or, take, drop, set, replicate, Some, ap, refl, sym, unwrap_or, ◌∙◌, arith, append_assoc, length-append, length-drop}
 use Rattle.std.specs.List.{slice_get, position_or_len}
+use Rattle.std.proofs.lemmas.Bool.{cases_eq}
 use Rattle.std.proofs.lemmas.List.{same_lists, take_more, take_all, take-append-drop}
-use Rattle.std.proofs.lemmas.Option.{unwrap_or-slice_get, slice_get_within, get_or_from_slice_get}
+use Rattle.std.proofs.lemmas.Option.{unwrap_or-slice_get, slice_get_within, get_or_from_slice_get, same_Some}
+use Rattle.std.proofs.Math.Seq.{take-append_seam}
 
 pub slice_get-front : {X : Type 0} (xs ys : List X) (k : ℕ) → k < length xs
     → slice_get (xs ++ ys) k ≡ slice_get xs k
@@ -22,6 +24,23 @@ pub slice_get-last : {X : Type 0} (xs : List X) (x : X)
     → slice_get (xs ++ x ∷ []) (length xs) ≡ Some x
 slice_get-last [] x = refl
 slice_get-last (y ∷ ys) x = slice_get-last ys x
+
+-- an item of a list with one more is an old one, or the new one at the end
+pub slice_get-pushed : {X : Type 0} (xs : List X) (y : X) (k : ℕ) (x : X)
+    → slice_get (xs ++ y ∷ []) k ≡ Some x
+    → ((k < length xs) × (slice_get xs k ≡ Some x)) ⊎ ((k ≡ length xs) × (y ≡ x))
+slice_get-pushed xs y k x read =
+    let inside : k < length xs + 1 =
+    omega (arith, slice_get_within (xs ++ y ∷ []) k x read, length-append xs (y ∷ [])) in
+    elim (cases_eq k (length xs)) [
+      | inl same ↦ inr (
+        same,
+        same_Some y x (sym (slice_get-last xs y)
+            ∙ ap (slice_get (xs ++ y ∷ [])) (sym same) ∙ read),
+      )
+      | inr other ↦ let old : k < length xs = omega arith in
+          inl (old, sym (slice_get-front xs (y ∷ []) k old) ∙ read)
+    ]
 
 pub slice_get-take : {X : Type 0} (xs : List X) (n k : ℕ) → k < n
     → slice_get (take n xs) k ≡ slice_get xs k
@@ -96,6 +115,13 @@ pub take-drop_rest : {X : Type 0} (xs : List X) (place : ℕ)
     → take (length xs - place) (drop place xs) ≡ drop place xs
 take-drop_rest xs place =
     take_all (length xs - place) (drop place xs) (omega (arith, length-drop place xs))
+
+-- the front of a list was written anew, and that is all that is taken
+pub take-written : {X : Type 0} (n : ℕ) (new old : List X) → n ≡ length new
+    → take n (new ++ drop (length new) old) ≡ new
+take-written n new old all =
+    ap (λ k. take k (new ++ drop (length new) old)) all
+    ∙ take-append_seam new (drop (length new) old)
 
 -- ---- the first place of an item that passes a test
 

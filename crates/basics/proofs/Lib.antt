@@ -7,3 +7,4 @@ pub mod Results
 pub mod Options
 pub mod Truth
 pub mod Each
+pub mod Prefix

@@ -1,5 +1,5 @@
 -- Facts of values that may be missing.
-use Rattle.std.proofs.Common.{◌≡◌, Option, Some, None, IsSome, refl, sym}
+use Rattle.std.proofs.Common.{◌≡◌, true, false, Option, Some, None, IsSome, is_some, option_map, refl, sym}
 use Rattle.std.specs.Option.{option_or}
 use Rattle.std.proofs.lemmas.Bool.{false≢true}
 use Rattle.std.proofs.lemmas.Option.{none-some}
@@ -21,3 +21,17 @@ some_value (Some x) is = (x, refl)
 pub none-is_some : {X : Type 0} (o : Option X) → o ≡ None → IsSome o → ⊥
 none-is_some None none is = false≢true is
 none-is_some (Some x) none is = none-some x (sym none)
+
+-- what isn't there is missing
+pub none_is : {X : Type 0} (o : Option X) → is_some o ≡ false → o ≡ None
+none_is None fails = refl
+none_is (Some x) fails = absurd (false≢true (sym fails))
+
+-- of two the first counts where it stands
+pub some_or : {X : Type 0} (o next : Option X) → is_some o ≡ true → option_or o next ≡ o
+some_or None next is = absurd (false≢true is)
+some_or (Some x) next is = refl
+
+pub is_some-map : {X Y : Type 0} (f : X → Y) (o : Option X) → is_some (option_map f o) ≡ is_some o
+is_some-map f None = refl
+is_some-map f (Some x) = refl

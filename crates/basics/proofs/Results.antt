@@ -2,7 +2,7 @@
 -- and which refusal may stand.
 use Rattle.std.proofs.Common.{◌≡◌, Bool, true, false, cond, None, Some, sym}
 use Rattle.std.specs.Prelude.{Result, Ok, Err, OnOk, OnErr}
-use Rattle.std.specs.Result.{IfErr, IsErrAnd, is_err}
+use Rattle.std.specs.Result.{IfErr, IsErrAnd, is_ok, is_err}
 use Rattle.std.proofs.lemmas.Bool.{false≢true}
 use Rattle.basics.specs.Refusal.{IsRefusedOr}
 
@@ -10,6 +10,11 @@ pub on_err : {T E P : Type 0} (r : Result T E) → P → OnErr r P
 on_err (Ok answer) fact = tt
 on_err (Err refusal) fact = fact
 
+pub when_ok : {T E P : Type 0} (r : Result T E) → is_ok r ≡ true → OnOk r P → P
+when_ok (Ok answer) is fact = fact
+when_ok (Err refusal) is fact = absurd (false≢true is)
+
+-- the same, by the other test
 pub where_ok : {T E P : Type 0} (r : Result T E) → is_err r ≡ false → OnOk r P → P
 where_ok (Ok answer) is fact = fact
 where_ok (Err refusal) is fact = absurd (false≢true (sym is))

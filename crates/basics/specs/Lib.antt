@@ -5,3 +5,4 @@ pub mod Spelled
 pub mod Replaced
 pub mod Generator
 pub mod Bits
+pub mod Prefix

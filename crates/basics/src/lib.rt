@@ -18,7 +18,7 @@ pub use calls::Calls;
 pub use generator::{INCREMENT, MULTIPLIER, advance};
 pub use limits::{
     MAX_DISK_SECTORS, MAX_DISKS, MAX_HOST_LIMIT, MAX_INTERVAL, MAX_LOGGED_SECTORS,
-    MAX_WRITE_SECTORS,
+    MAX_WRITE_SECTORS, SECTOR_BYTES,
 };
 pub use name::{MAX_NAME_BYTES, Name};
 pub use number_list::NumberList;

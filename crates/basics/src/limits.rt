@@ -1,4 +1,7 @@
-//! Limits. Whoever tests one of these cites it, so that none has two values.
+//! Sizes and limits. Whoever tests one of these cites it, so that none has two values.
+
+/// Bytes of a sector.
+pub const SECTOR_BYTES: usize = 512;
 
 /// The most disks of a machine.
 pub const MAX_DISKS: usize = 16;

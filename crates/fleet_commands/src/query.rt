@@ -7,12 +7,12 @@ ghost use Rattle.fleet_commands.specs.commands.Query.{AsksSince, QueryAnswers, P
 use crate::machines::take_out;
 use crate::told::link_told;
 use answers::{Answer, Refusal};
-use basics::{Name, NoMemory, Sequence};
+use basics::{Name, NoMemory, SECTOR_BYTES, Sequence};
 use change_id::{ChangeId, IdRefused, Since, parse};
 use fleet::Fleet;
 use log_model::Link;
 use reply_json::{Area, Reply};
-use sector_model::{Page, Run, SECTOR_BYTES};
+use sector_model::{Page, Run};
 use source_vm::PlainLink;
 use std::alloc::Global;
 

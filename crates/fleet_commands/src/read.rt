@@ -8,12 +8,12 @@ ghost use Rattle.fleet_commands.specs.commands.Read.{read_refusal, read_reply, R
 use crate::machines::take_out;
 use crate::told::link_told;
 use answers::{Answer, Refusal};
-use basics::{Name, NoMemory, Sequence};
+use basics::{Name, NoMemory, SECTOR_BYTES, Sequence};
 use cmd_json::MAX_READ_SECTORS;
 use fleet::Fleet;
 use log_model::{Link, LinkRefused};
 use reply_json::Reply;
-use sector_model::{SECTOR_BYTES, Sector};
+use sector_model::Sector;
 use source_vm::PlainLink;
 use std::alloc::Global;
 

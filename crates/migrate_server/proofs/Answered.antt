@@ -11,7 +11,7 @@ use Rattle.fleet_commands.specs.commands.Query.{QueryAnswers, since_refusal}
 use Rattle.answers.specs.declared.refusal.Refusal.{Refusal}
 use Rattle.answers.specs.declared.refusal.Refusal.TheVariants.{UnknownVm}
 use Rattle.reply_json.specs.declared.reply.Reply.{Reply}
-use Rattle.sector_model.specs.declared.sector.TheConstants.{SECTOR_BYTES}
+use Rattle.basics.specs.declared.limits.TheConstants.{SECTOR_BYTES}
 use Rattle.source_vm.specs.Machine.{MachineState}
 use Rattle.record_codec.specs.declared.record.Record.{Record}
 use Rattle.target_volume.specs.VolumeStore.{StoreState}

@@ -27,7 +27,7 @@ use Rattle.log_model.specs.declared.refusals.LinkRefused.{LinkRefused}
 use Rattle.log_model.specs.declared.refusals.LinkRefused.TheVariants as link
 use Rattle.log_model.specs.declared.refusals.WriteRefused.{WriteRefused}
 use Rattle.log_model.specs.declared.refusals.WriteRefused.TheVariants as write
-use Rattle.sector_model.specs.declared.sector.TheConstants.{SECTOR_BYTES}
+use Rattle.basics.specs.declared.limits.TheConstants.{SECTOR_BYTES}
 use Rattle.source_vm.specs.Machine.{MachineState}
 use Rattle.fleet.specs.Fleet.{FleetState}
 use Rattle.fleet.specs.Refusals.{add_host_refusal, add_vm_refusal}

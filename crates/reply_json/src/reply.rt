@@ -1,5 +1,6 @@
 //! What the program answers, each form as plain data.
 use crate::{Sequence, Text};
+use basics::SECTOR_BYTES;
 use change_id::ChangeId;
 
 /// A reply to one command. Each is one object with the member `ok`; the other members have the
@@ -29,7 +30,7 @@ pub enum Reply {
         length: u64,
     },
     /// The contents of sectors, as `sectors`.
-    Sectors(Sequence<[u8; 512]>),
+    Sectors(Sequence<[u8; SECTOR_BYTES]>),
     /// The hosts and the machines of the fleet.
     Inventory {
         hosts: Sequence<HostLine>,

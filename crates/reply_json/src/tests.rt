@@ -2,6 +2,7 @@ use crate::{
     Area, Carried, CheckLine, GuestDone, HostLine, MigLine, Reply, Sequence, Text, VmLine,
     reply_line,
 };
+use basics::SECTOR_BYTES;
 use change_id::{ChangeId, pack};
 use std::alloc::Global;
 use std::process::Abort;
@@ -188,7 +189,7 @@ fn a_query_may_find_no_area(rt: HostRuntime) -> Result<(), Fail> {
 }
 
 fn filled(alloc: Global) -> Result<Reply, Fail> {
-    let sectors = vec![in alloc; [0; 512], [171; 512]]?;
+    let sectors = vec![in alloc; [0; SECTOR_BYTES], [171; SECTOR_BYTES]]?;
     Ok(Reply::Sectors(Sequence::from_vec(sectors)))
 }
 
@@ -199,14 +200,14 @@ fn a_filled_sector_is_one_number(rt: HostRuntime) -> Result<(), Fail> {
 }
 
 fn mixed(alloc: Global) -> Result<Reply, Fail> {
-    let mut sector = [90; 512];
+    let mut sector = [90; SECTOR_BYTES];
     sector[1] = 0xAF;
     Ok(Reply::Sectors(Sequence::from_vec(vec![in alloc; sector]?)))
 }
 
 fn mixed_text(alloc: Global) -> Result<String, Fail> {
     let mut text = String::from_str(alloc, r#"{"ok":true,"sectors":["5aaf"#)?;
-    for _ in 2..512 {
+    for _ in 2..SECTOR_BYTES {
         text.push_str("5a")?;
     }
     text.push_str(r#""]}"#)?;

@@ -5,7 +5,7 @@ ghost use Rattle.reply_json.specs.Values.{snapshot_text as text_of_snapshot};
 
 use crate::Text;
 use crate::to_json::ToJson;
-use basics::NoMemory;
+use basics::{NoMemory, SECTOR_BYTES};
 use change_id::{ChangeId, MAX_ID_BYTES, write_to};
 use json::Writer;
 use std::alloc::Global;
@@ -117,7 +117,7 @@ fn push_number(text: &mut String, number: u64) -> Result<(), NoMemory>
     Ok(())
 }
 
-impl ToJson for [u8; 512] {
+impl ToJson for [u8; SECTOR_BYTES] {
     ghost use Rattle.reply_json.specs.Values.{sector_data};
 
     ghost json = { sector_data };

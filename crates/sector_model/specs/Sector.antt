@@ -3,7 +3,7 @@
 use Rattle.std.specs.Prelude.{ℕ, ◌%◌, map, replicate, slice_index}
 use Rattle.std.specs.List.{range_with_len}
 use Rattle.std.specs.Int.{w64, to_be_bytes}
-use Rattle.sector_model.specs.declared.sector.TheConstants.{SECTOR_BYTES}
+use Rattle.basics.specs.declared.limits.TheConstants.{SECTOR_BYTES}
 use Rattle.sector_model.specs.declared.sector.Sector.{Sector}
 
 -- all bytes the same

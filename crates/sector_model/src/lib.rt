@@ -20,7 +20,7 @@ pub use laws::{
 pub use loose_runs::loose_runs_tell;
 pub use page::{PAGE_AREAS, Page};
 pub use run::{BLOCK_SECTORS, Run, Runs, next_run};
-pub use sector::{SECTOR_BYTES, Sector, SectorList};
+pub use sector::{Sector, SectorList};
 use std::alloc::{AllocError, AllocFailed};
 
 /// Memory ran out. A call that answers it has changed nothing.

@@ -4,11 +4,9 @@ ghost use Rattle.std.specs.Prelude.{◌≡◌, IfOk, List};
 mod replaced;
 
 use crate::NoMemory;
+use basics::SECTOR_BYTES;
 use std::alloc::Global;
 use std::marker::Model;
-
-/// Bytes of a sector.
-pub const SECTOR_BYTES: usize = 512;
 
 /// The 512 bytes of one sector.
 #[derive(Clone, Copy, Debug, PartialEq, Eq)]

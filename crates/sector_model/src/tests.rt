@@ -7,10 +7,11 @@ ghost use Rattle.sector_model.specs.Page.{page_from};
 ghost use Rattle.sector_model.specs.VolumeContents.{volume_written, volume_zeroed, volume_flushed, volume_stopped};
 
 use crate::{
-    Page, Run, Runs, SECTOR_BYTES, Sector, SectorList, broken_volumes, folds_join,
-    loose_sectors_after, pages_join, pages_lie_within, runs_are_exact, touched_blocks_are_met,
-    volume_stops, volumes_keep_their_size,
+    Page, Run, Runs, Sector, SectorList, broken_volumes, folds_join, loose_sectors_after,
+    pages_join, pages_lie_within, runs_are_exact, touched_blocks_are_met, volume_stops,
+    volumes_keep_their_size,
 };
+use basics::SECTOR_BYTES;
 use std::process::Abort;
 use std::test::Fail;
 

@@ -4,7 +4,7 @@
 use Rattle.std.specs.Prelude.{◌≡◌, ℕ, ◌*◌, ◌/◌, List, [], map, codes, Option, Some, None, option_and_then, Result, Ok, Err}
 use Rattle.sector_model.specs.Page.{PageContents, page_from}
 use Rattle.sector_model.specs.declared.run.Run.{Run}
-use Rattle.sector_model.specs.declared.sector.TheConstants.{SECTOR_BYTES}
+use Rattle.basics.specs.declared.limits.TheConstants.{SECTOR_BYTES}
 use Rattle.change_id.specs.ChangeId.{IsAnswer}
 use Rattle.change_id.specs.declared.ChangeId.{ChangeId}
 use Rattle.change_id.specs.declared.IdRefused.{IdRefused}
