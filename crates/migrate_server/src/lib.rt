@@ -17,8 +17,6 @@ mod line_buffer;
 mod reader;
 mod serve;
 mod status;
-#[cfg(test)]
-mod tests;
 mod written_disk;
 
 use crate::serve::{Stop, serve};

@@ -1,7 +1,7 @@
 //! The commands on hosts and machines, over `migrate`: each test is one input with its replies.
 use super::{SOUND, Setting, held, served, served_in, served_over};
-use crate::Status;
 use basics::NoMemory;
+use migrate_server::Status;
 use std::alloc::Global;
 use std::test::Fail;
 

@@ -1,8 +1,8 @@
 //! The commands on plans, and the journal that they keep, over `migrate`.
 use super::machines::{Exchange, HOST, SMALL, lines_of, replies_of};
 use super::{DISK_ROOM, EndedRun, SOUND, held, served, served_on};
-use crate::{Fleet, Status};
 use edge_traits::{Disk, MemDisk, Pick, StopDisk};
+use migrate_server::{Fleet, Status};
 use std::test::Fail;
 
 const OK: &str = r#"{"ok":true}"#;

@@ -4,9 +4,9 @@ ghost use Rattle.fleet.specs.Sound.{AllAreIn};
 mod machines;
 mod plans;
 
-use crate::{Devices, Fleet, Gate, Outcome, Status, migrate};
 use basics::NoMemory;
 use edge_traits::{Disk, Failed, MemDisk, MemSink, MemSource, Source};
+use migrate_server::{Devices, Fleet, Gate, Outcome, Status, migrate};
 use sector_model::Sector;
 use std::alloc::Global;
 use std::test::Fail;
