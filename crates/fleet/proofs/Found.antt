@@ -8,6 +8,7 @@ use Rattle.std.proofs.lemmas.List.Quantifiers.{position-Some}
 use Rattle.std.proofs.Math.Seq.{take-length}
 use Rattle.std.proofs.lemmas.Option.{none-some, same_Some, slice_get-get_or, get_or_from_slice_get}
 use Rattle.std.proofs.lemmas.Slice.Eq.{bytes_eq-Decides}
+use Rattle.basics.specs.Prefix.{IsPrefix}
 use Rattle.log_model.specs.declared.entry.TheConstants.{MIGRATION_CALLER}
 use Rattle.log_model.specs.declared.entry.Entry.{Entry}
 use Rattle.log_model.specs.Link.{LinkState}
@@ -129,7 +130,7 @@ lowers_what_was_lifted number before after fleet out same =
 -- ---- a fleet goes on
 
 pub logs_go_on : (number : ℕ) (log : List Entry) (vm : VmState) (fleet : FleetState)
-    → vm_of number fleet ≡ Some vm → take (length vm.log) log ≡ vm.log
+    → vm_of number fleet ≡ Some vm → IsPrefix vm.log log
     → FleetGoesOn fleet (with_log number log fleet)
 logs_go_on number log vm fleet is longer = rw (log_is number vm fleet is log)
     (changed_goes_on number vm (record vm { log = log }) fleet is

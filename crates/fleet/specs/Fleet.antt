@@ -4,6 +4,7 @@
 use Rattle.std.specs.Prelude.{◌≡◌, ℕ, ◌+◌, ◌-◌, List, [], ◌∷◌, ◌++◌, length, take, slice_get, slice_set, Bool, true, false, nat_le, if◌then◌else◌, Option, Some, None, option_map, option_and_then, position}
 use Rattle.std.specs.Option.{option_map_or}
 use Rattle.std.specs.Str.{bytes_eq}
+use Rattle.basics.specs.Prefix.{IsPrefix}
 use Rattle.log_model.specs.declared.entry.Entry.{Entry}
 use Rattle.source_vm.specs.Machine.{MachineState}
 
@@ -91,9 +92,9 @@ pub record VmGoesOn (old new : VmState) : Type 0 where
   pub name : new.name ≡ old.name
   pub host : new.host ≡ old.host
   pub capacities : new.capacities ≡ old.capacities
-  pub log : take (length old.log) new.log ≡ old.log
+  pub log : IsPrefix old.log new.log
 
 pub record FleetGoesOn (old new : FleetState) : Type 0 where
-  pub hosts : take (length old.hosts) new.hosts ≡ old.hosts
+  pub hosts : IsPrefix old.hosts new.hosts
   pub vms : (place : ℕ) (vm : VmState) → slice_get old.vms place ≡ Some vm
       → (later : VmState) × (slice_get new.vms place ≡ Some later) × VmGoesOn vm later

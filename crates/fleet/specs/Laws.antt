@@ -1,6 +1,7 @@
 -- What holds of every fleet, whatever is called: a fleet goes on, and a machine that is taken out
 -- and put back has its new log and nothing else that is new.
 use Rattle.std.specs.Prelude.{◌≡◌, ℕ, List, length, take, Option, Some}
+use Rattle.basics.specs.Prefix.{IsPrefix}
 use Rattle.log_model.specs.declared.entry.Entry.{Entry}
 use Rattle.log_model.specs.Link.{LinkState, FollowsFrom}
 use Rattle.fleet.specs.Fleet.{VmState, FleetState, empty_fleet, vm_of, vm_in, with_host, with_vm_under, with_log, FleetGoesOn}
@@ -26,7 +27,7 @@ VmsGoOn = (name host capacities : List ℕ) (fleet : FleetState)
 
 abbrev pub LogsGoOn : Type 0
 LogsGoOn = (number : ℕ) (log : List Entry) (vm : VmState) (fleet : FleetState)
-    → vm_of number fleet ≡ Some vm → take (length vm.log) log ≡ vm.log
+    → vm_of number fleet ≡ Some vm → IsPrefix vm.log log
     → FleetGoesOn fleet (with_log number log fleet)
 
 abbrev pub LiftGoesOn : Type 0

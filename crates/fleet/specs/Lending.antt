@@ -3,6 +3,7 @@
 -- goes on from there, goes back in its place.
 use Rattle.std.specs.Prelude.{◌≡◌, ℕ, length, take, Bool, true, false, Option, option_map, IsSomeAnd}
 use Rattle.std.specs.Option.{option_map_or}
+use Rattle.basics.specs.Prefix.{IsPrefix}
 use Rattle.log_model.specs.declared.entry.TheConstants.{MIGRATION_CALLER}
 use Rattle.log_model.specs.Link.{LinkState}
 use Rattle.source_vm.specs.Machine.{link_of}
@@ -21,7 +22,7 @@ after_lift number fleet = option_map_or
 pub record IsOver (vm : VmState) (link : LinkState) : Type 0 where
   pub out : vm.out ≡ true
   pub capacities : link.capacities ≡ vm.capacities
-  pub log : take (length vm.log) link.seen ≡ vm.log
+  pub log : IsPrefix vm.log link.seen
 
 abbrev pub MayGoBack : LinkState → FleetState → Type 0
 MayGoBack link fleet = IsSomeAnd (vm_of link.machine fleet) (λ vm. IsOver vm link)

@@ -77,21 +77,22 @@ sector_at_is disks c d s log has legal less =
     reads_on c d s log (fresh_disk c) zero_sector (length-replicate c zero_sector)
     (writes_fit disks c d log has legal) (slice_get-replicate c s zero_sector less)
 
-pub read_is : (capacities : List ℕ) (d first count : ℕ) (log : List Entry)
-    → Legal (all_of capacities) log → is_on_disk capacities d first count ≡ true
+-- a range of the sectors that a log leaves
+pub slice_is : (disks : Disks) (c d first count : ℕ) (log : List Entry) → HasDisk disks d c
+    → Legal disks log → first + count ≤ c
     → map (λ i. sector_at d (first + i) log) (range_with_len 0 count)
-    ≡ slice_range (contents (capacity_of capacities d) d log) first (first + count)
-read_is capacities d first count log legal within =
-    let c : ℕ = capacity_of capacities d in
+    ≡ slice_range (contents c d log) first (first + count)
+slice_is disks c d first count log has legal fits =
     let disk : List Sector = contents c d log in
-    let on_disk = and_parts (is_known capacities d) (is_within c first count) within in
-    let parts = and_parts (leb 1 count) (leb (first + count) c) on_disk.1 in
-    let has : HasDisk (all_of capacities) d c = (ltb-true d (length capacities) on_disk.0, refl) in
-    let long : length disk ≡ c = length-contents (all_of capacities) c d log legal has in
-    let fits : first + count ≤ c = leb-true (first + count) c parts.1 in
+    let long : length disk ≡ c = length-contents disks c d log legal has in
     let n : length (slice_range disk first (first + count)) ≡ count =
-    omega (arith, length-take (first + count - first) (drop first disk), length-drop first disk)
-    in
+    omega (
+      arith,
+      fits,
+      long,
+      length-take (first + count - first) (drop first disk),
+      length-drop first disk,
+    ) in
     sym (fill_by_all (λ i. sector_at d (first + i) log) (slice_range disk first (first + count))
     count zero_sector n
     (λ k less.
@@ -99,4 +100,16 @@ read_is capacities d first count log legal within =
     get_or_from_slice_get (slice_range disk first (first + count)) k (sector_at d (first + k) log)
     zero_sector
     (slice_get-take (drop first disk) (first + count - first) k inside ∙ slice_get-drop disk first k
-    ∙ sector_at_is (all_of capacities) c d (first + k) log has legal (omega arith))))
+    ∙ sector_at_is disks c d (first + k) log has legal (omega arith))))
+
+-- the same, of a machine's disk
+pub read_is : (capacities : List ℕ) (d first count : ℕ) (log : List Entry)
+    → Legal (all_of capacities) log → is_on_disk capacities d first count ≡ true
+    → map (λ i. sector_at d (first + i) log) (range_with_len 0 count)
+    ≡ slice_range (contents (capacity_of capacities d) d log) first (first + count)
+read_is capacities d first count log legal within =
+    let c : ℕ = capacity_of capacities d in
+    let on_disk = and_parts (is_known capacities d) (is_within c first count) within in
+    let parts = and_parts (leb 1 count) (leb (first + count) c) on_disk.1 in
+    slice_is (all_of capacities) c d first count log (ltb-true d (length capacities) on_disk.0, refl)
+    legal (leb-true (first + count) c parts.1)

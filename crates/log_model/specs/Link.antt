@@ -4,6 +4,7 @@
 -- that a history which several callers share can carry it.
 use Rattle.std.specs.Prelude.{◌≡◌, ℕ, ◌+◌, ◌-◌, ◌<◌, ◌≤◌, ◌==◌, List, [], ◌∷◌, ◌++◌, length, take, drop, Bool, true, false, Option, Some, None, Result, Ok, Err}
 use Rattle.std.specs.List.{filter}
+use Rattle.basics.specs.Prefix.{IsPrefix}
 use Rattle.log_model.specs.declared.entry.Owner.{Owner}
 use Rattle.log_model.specs.declared.entry.Act.{Act}
 use Rattle.log_model.specs.declared.entry.Entry.{Entry}
@@ -41,7 +42,7 @@ pub record IsCall (log added : List Entry) (old new : LinkState) : Type 0 where
   -- only the log as last seen and the caller's own entries change
   pub new_is : new ≡ record old { seen = log ++ added; own = old.own ++ added }
   -- the log begins with what the caller had seen
-  pub goes_on : take (length old.seen) log ≡ old.seen
+  pub goes_on : IsPrefix old.seen log
   -- what else is new is of others
   pub others : filter (is_by old.caller) (drop (length old.seen) log) ≡ []
   -- and where nobody else reaches the machine, nothing is
@@ -86,7 +87,7 @@ pub record FollowsFrom (old new : LinkState) : Type 0 where
   pub caller : new.caller ≡ old.caller
   pub turn : new.turn ≡ old.turn
   pub unshared : new.unshared ≡ old.unshared
-  pub seen : take (length old.seen) new.seen ≡ old.seen
+  pub seen : IsPrefix old.seen new.seen
   pub own : new.own
       ≡ old.own ++ filter (is_by old.caller) (drop (length old.seen) new.seen)
   -- where nobody else reaches the machine, all that is new is the caller's

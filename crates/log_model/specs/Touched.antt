@@ -23,10 +23,13 @@ is_touched disk sector log = list_any (entry_touches disk sector) log
 abbrev pub between : (from end : ℕ) → List Entry → List Entry
 between from end log = drop from (take end log)
 
--- the blocks of the disk of which a write between the places replaces a sector, ascending
+-- the blocks of the disk of which a write among the entries replaces a sector, ascending
+abbrev pub touched_by : (capacity disk : ℕ) → List Entry → List ℕ
+touched_by capacity disk entries = touched_blocks capacity (writes_of disk entries)
+
+-- those that writes between the places touch
 abbrev pub touched : (capacity disk from end : ℕ) → List Entry → List ℕ
-touched capacity disk from end log =
-    touched_blocks capacity (writes_of disk (between from end log))
+touched capacity disk from end log = touched_by capacity disk (between from end log)
 
 -- their areas
 abbrev pub touched_areas : (capacity disk from end : ℕ) → List Entry → List Run

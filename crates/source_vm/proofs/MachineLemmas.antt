@@ -26,10 +26,6 @@ use Rattle.source_vm.specs.Disks.{AreDisks, IsSound, StillDisks, DisksTake}
 
 -- ---- results
 
-pub when_ok : {T E P : Type 0} (r : Result T E) → is_ok r ≡ true → OnOk r P → P
-when_ok (Ok x) is h = h
-when_ok (Err e) is h = absurd (false≢true is)
-
 -- a value that goes on through a change of the error
 pub found_on : {T E D : Type 0} (P : T → Type 0) (Q : E → Type 0) (r : Result T E) (m : Result T D)
     → MatchResult r (λ x. m ≡ Ok x) Q → is_ok r ≡ true → IfOk r P → IfOk m P
@@ -75,13 +71,6 @@ sound_after number log roomy pushed who act old new is pushes fits sound takes =
     })
 
 -- ---- the disks
-
--- a slice of all of a list, changed, is all of the list
-pub all_back : (len : ℕ) (items new : List SourceDiskState) → length new ≡ length items
-    → length items ≡ len → take len (new ++ drop (length new) items) ≡ new
-all_back len items new same is =
-    ap (λ n. take n (new ++ drop (length new) items)) (sym (same ∙ is))
-    ∙ take-append_seam new (drop (length new) items)
 
 -- the disk that was found stands at its place
 pub disk_at : (disks : List SourceDiskState) (place : ℕ) (r : Option (Bor SourceDiskState))

@@ -8,14 +8,10 @@ use Rattle.sector_model.specs.Run.{end_of, in_blocks, touches}
 use Rattle.sector_model.specs.declared.run.Run.{Run}
 use Rattle.log_model.specs.declared.entry.Entry.{Entry}
 use Rattle.log_model.specs.Entry.{write_to}
-use Rattle.log_model.specs.Touched.{is_touched}
+use Rattle.log_model.specs.Touched.{is_touched, touched_by}
 use Rattle.log_model.proofs.AreaLemmas.{in_touched_blocks}
 use Rattle.warm_core.specs.declared.stage_state.StageState.{StageState}
-use Rattle.warm_core.specs.Asked.{blocks_in, AreMet, AreMissed, AllAsked, NothingLeft}
-
-pub in-asked : (c d s : ℕ) (entries : List Entry) → s < c
-    → in_blocks (blocks_in c d entries) s ≡ is_touched d s entries
-in-asked = in_touched_blocks
+use Rattle.warm_core.specs.Asked.{AreMet, AreMissed, AllAsked, NothingLeft}
 
 -- a test that says one thing or the other
 pub both-ways : (b : Bool) (P Q : Type 0) → MatchBool b P Q → (P → Q → ⊥)
@@ -26,14 +22,14 @@ both-ways false P Q h not = (λ is. absurd (false≢true is), λ p. absurd (not 
 -- the range is clear exactly where none of its sectors is asked for
 pub clear-asked : (c d from end : ℕ) (entries : List Entry) (b : Bool) → end ≤ c
     → MatchBool b (AreMissed d from end entries) (AreMet d from end entries)
-    → (IsTrue b → (s : ℕ) → from ≤ s → s < end → in_blocks (blocks_in c d entries) s ≡ false)
-    × (((s : ℕ) → from ≤ s → s < end → in_blocks (blocks_in c d entries) s ≡ false) → IsTrue b)
+    → (IsTrue b → (s : ℕ) → from ≤ s → s < end → in_blocks (touched_by c d entries) s ≡ false)
+    × (((s : ℕ) → from ≤ s → s < end → in_blocks (touched_by c d entries) s ≡ false) → IsTrue b)
 clear-asked c d from end entries true within h =
-    (λ _ s low less. in-asked c d s entries (omega (arith, less, within)) ∙ h s low less, λ _. refl)
+    (λ _ s low less. in_touched_blocks c d s entries (omega (arith, less, within)) ∙ h s low less, λ _. refl)
 clear-asked c d from end entries false within h = (
   λ is. absurd (false≢true is),
   λ none. absurd (false≢true
-      (sym (none h.0 h.1 h.2) ∙ in-asked c d h.0 entries (omega (arith, h.2, within)) ∙ h.3)),
+      (sym (none h.0 h.1 h.2) ∙ in_touched_blocks c d h.0 entries (omega (arith, h.2, within)) ∙ h.3)),
 )
 
 -- and where a partial stage has nothing to write there
@@ -43,14 +39,14 @@ left-at false b is = refl
 
 pub clear-left : (c d from end : ℕ) (entries : List Entry) (t : StageState) (b : Bool) → end ≤ c
     → t.full ≡ false → MatchBool b (AreMissed d from end entries) (AreMet d from end entries)
-    → (IsTrue b → NothingLeft (blocks_in c d entries) t from end)
-    × (NothingLeft (blocks_in c d entries) t from end → IsTrue b)
+    → (IsTrue b → NothingLeft (touched_by c d entries) t from end)
+    × (NothingLeft (touched_by c d entries) t from end → IsTrue b)
 clear-left c d from end entries t b within partial h =
     let ways = clear-asked c d from end entries b within h in (
-      λ is s low less. left-at t.full (in_blocks (blocks_in c d entries) s) partial
+      λ is s low less. left-at t.full (in_blocks (touched_by c d entries) s) partial
           ∙ ways.0 is s low less,
       λ none. ways.1 (λ s low less. sym
-          (left-at t.full (in_blocks (blocks_in c d entries) s) partial) ∙ none s low less),
+          (left-at t.full (in_blocks (touched_by c d entries) s) partial) ∙ none s low less),
     )
 
 -- sectors of one block are touched alike
@@ -64,9 +60,9 @@ pub area-asked : (c d : ℕ) (run : Run) (entries : List Entry) → 1 ≤ run.co
     → end_of run ≤ c
     → is_touched d run.first entries ≡ true
     → is_touched d (run.first + (run.count - 1)) entries ≡ true
-    → AllAsked (blocks_in c d entries) run
+    → AllAsked (touched_by c d entries) run
 area-asked c d run entries some few within first last s low less =
-    in-asked c d s entries (omega (arith, less, within))
+    in_touched_blocks c d s entries (omega (arith, less, within))
     ∙ elim (cases_eq (s / 128) (run.first / 128)) [
       | inl same ↦ same-block d s run.first entries same ∙ first
       | inr other ↦
@@ -76,7 +72,7 @@ area-asked c d run entries some few within first last s low less =
     ]
 
 pub asked-touched : (c d : ℕ) (run : Run) (entries : List Entry) (s : ℕ) → end_of run ≤ c
-    → AllAsked (blocks_in c d entries) run → run.first ≤ s → s < end_of run
+    → AllAsked (touched_by c d entries) run → run.first ≤ s → s < end_of run
     → is_touched d s entries ≡ true
 asked-touched c d run entries s within all low less =
-    sym (in-asked c d s entries (omega (arith, less, within))) ∙ all s low less
+    sym (in_touched_blocks c d s entries (omega (arith, less, within))) ∙ all s low less

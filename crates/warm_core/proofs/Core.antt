@@ -3,6 +3,8 @@ use Rattle.std.proofs.Common.{◌≡◌, ℕ, ◌<◌, ◌≤◌, ◌^◌, List,
 use Rattle.std.proofs.lemmas.Option.{none-some}
 use Rattle.std.proofs.lemmas.List.{take-append-le, take_all, take-take}
 use Rattle.std.proofs.Math.Bool.{or-false}
+use Rattle.basics.specs.Prefix.{IsPrefix}
+use Rattle.basics.proofs.Prefix.{prefix-trans}
 use Rattle.log_model.specs.declared.entry.Entry.{Entry}
 use Rattle.log_model.specs.declared.link.Snapped.{Snapped}
 use Rattle.log_model.specs.Entry.{removes, contents}
@@ -50,7 +52,7 @@ pub record Keeps (old new : World) : Type 0 where
   pub machine : new.machine ≡ old.machine
   pub disk : new.disk ≡ old.disk
   pub capacity : new.capacity ≡ old.capacity
-  pub log : take (length old.log) new.log ≡ old.log
+  pub log : IsPrefix old.log new.log
   pub longer : length old.log ≤ length new.log
 
 keeps-log : (w new : World) → new.machine ≡ w.machine → new.disk ≡ w.disk
@@ -177,14 +179,12 @@ step-stays event old new small sound (inr refused) =
 
 keeps-join : (a b e : World) → Keeps a b → Keeps b e → Keeps a e
 keeps-join a b e one two =
-    let le = one.longer in
     record {
       machine = two.machine ∙ one.machine;
       disk = two.disk ∙ one.disk;
       capacity = two.capacity ∙ one.capacity;
-      log = sym (take-take (length a.log) (length b.log) e.log le)
-          ∙ ap (take (length a.log)) two.log ∙ one.log;
-      longer = (let more = two.longer in omega (arith, le, more));
+      log = prefix-trans a.log b.log e.log one.log two.log;
+      longer = (let first = one.longer in let next = two.longer in omega (arith, first, next));
     }
 
 stays-join : (a b e : World) → Stays a b → Stays b e → Stays a e

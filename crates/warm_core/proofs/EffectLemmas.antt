@@ -111,30 +111,3 @@ page-lies w s t page small sound one two less is =
     subst (λ n. LiesWithin n page) (sym sized)
     (subst (λ (p : PageContents). LiesWithin w.capacity p) (sym is)
     (tells.pages t.covered less))
-
--- ---- a read of what a log leaves
-
-pub read-is : (disks : Disks) (c d first count : ℕ) (log : List Entry) → HasDisk disks d c
-    → Legal disks log → first + count ≤ c
-    → map (λ i. sector_at d (first + i) log) (range_with_len 0 count)
-    ≡ slice_range (contents c d log) first (first + count)
-read-is disks c d first count log has legal fits =
-    let disk : List Sector = contents c d log in
-    let long : length disk ≡ c = length-contents disks c d log legal has in
-    let n : length (slice_range disk first (first + count)) ≡ count =
-    omega (
-      arith,
-      fits,
-      long,
-      length-take (first + count - first) (drop first disk),
-      length-drop
-          first disk,
-    ) in
-    sym (fill_by_all (λ i. sector_at d (first + i) log) (slice_range disk first (first + count))
-    count zero_sector n
-    (λ k less.
-    let inside : k < first + count - first = omega arith in
-    get_or_from_slice_get (slice_range disk first (first + count)) k (sector_at d (first + k) log)
-    zero_sector
-    (slice_get-take (drop first disk) (first + count - first) k inside ∙ slice_get-drop disk first k
-    ∙ sector_at_is disks c d (first + k) log has legal (omega arith))))

@@ -6,6 +6,7 @@ use Rattle.std.proofs.lemmas.Bool.{false≢true, or_parts}
 use Rattle.std.proofs.lemmas.Option.{same_Some, none-some}
 use Rattle.std.proofs.lemmas.List.Sums.{fold-append}
 use Rattle.change_id.specs.declared.ChangeId.{ChangeId}
+use Rattle.change_id.proofs.IdMarks.{stays-has}
 use Rattle.log_model.specs.declared.entry.Act.{Act}
 use Rattle.log_model.specs.declared.entry.Act.TheVariants.{Write, Snap, Remove, Reset, Enable, Off, On}
 use Rattle.log_model.specs.declared.entry.Entry.{Entry}
@@ -13,12 +14,11 @@ use Rattle.log_model.specs.declared.entry.Owner.{Owner}
 use Rattle.log_model.specs.declared.link.Snapped.{Snapped}
 use Rattle.log_model.specs.Entry.{removes}
 use Rattle.log_model.specs.Legal.{owner_of, owner_after, owner_after_act, machine_on}
-use Rattle.log_model.specs.Marks.{mark, before, id_at, HasId}
+use Rattle.log_model.specs.Marks.{mark, before, id_at, reading_of}
 use Rattle.log_model.specs.Frozen.{last_off}
 use Rattle.log_model.specs.Laws.{HasOffPlace}
 use Rattle.log_model.proofs.Later.{later_entries_keep}
 use Rattle.log_model.proofs.LegalLogs.{length-take-le}
-use Rattle.log_model.proofs.Readings.{marks_of_ids}
 use Rattle.log_model.proofs.OffPlace.{off_has_place}
 use Rattle.warm_core.specs.Staged.{is_unfinished}
 use Rattle.warm_core.specs.World.{World, IsSnapOf, IsLive, MayLose, IsCompleteAt, IsSound}
@@ -28,13 +28,6 @@ use Rattle.warm_core.proofs.Stages.{later-stands, staged-later}
 use Rattle.warm_core.proofs.Worlds.{ground-of, stands-of}
 
 -- ---- one fact of a snapshot or a base
-
-has-id-later : (machine d : ℕ) (id : ChangeId) (log more : List Entry) (place : ℕ)
-    → HasId machine d id log place → HasId machine d id (log ++ more) place
-has-id-later machine d id log more place has =
-    (marks_of_ids machine d id (log ++ more)).has place
-    ((marks_of_ids machine d id log).stays place more
-    ((marks_of_ids machine d id log).found place has))
 
 snap-later : (log more : List Entry) (snap : Snapped) → IsSnapOf log snap
     → IsSnapOf (log ++ more) snap
@@ -65,7 +58,7 @@ grounds_stay machine c d log more base snap ground legal =
       ground = record {
         small = ground.small;
         legal = legal;
-        base_is = λ b is. has-id-later machine d b.id log more b.mark (ground.base_is b is);
+        base_is = λ b is. stays-has (reading_of d) machine d b.id log more b.mark (ground.base_is b is);
         from_base = ground.from_base;
         snap_is = snap-later log more snap ground.snap_is;
       };
@@ -169,7 +162,8 @@ entries_keep_sound more w small sound may =
     record {
       legal = may.legal;
       sized = sound.sized;
-      base_is = λ base is. has-id-later w.machine w.disk base.id w.log more base.mark
+      base_is = λ base is. stays-has (reading_of w.disk) w.machine w.disk base.id w.log more
+          base.mark
           (sound.base_is base is);
       base_has_snap = sound.base_has_snap;
       snap_is = λ snap is. snap-later w.log more snap (sound.snap_is snap is);

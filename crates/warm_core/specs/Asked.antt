@@ -1,11 +1,11 @@
 -- Words of the functions that decide whether an event may happen: no promise of the crate.
 use Rattle.std.specs.Prelude.{◌≡◌, ℕ, ◌<◌, ◌≤◌, ◌&&◌, List, Bool, true, false, Option, Some, None, IfSome, IsSome, IsSomeAnd, IsOk, IsErr}
 use Rattle.std.specs.Option.{ForSome}
-use Rattle.sector_model.specs.Run.{end_of, in_blocks, touched_blocks}
+use Rattle.sector_model.specs.Run.{end_of, in_blocks}
 use Rattle.sector_model.specs.declared.run.Run.{Run}
 use Rattle.log_model.specs.declared.entry.Entry.{Entry}
 use Rattle.log_model.specs.declared.link.Snapped.{Snapped}
-use Rattle.log_model.specs.Entry.{writes_of, removes}
+use Rattle.log_model.specs.Entry.{removes}
 use Rattle.log_model.specs.Marks.{mark, id_at}
 use Rattle.log_model.specs.Frozen.{off_place}
 use Rattle.log_model.specs.Touched.{entry_touches, is_touched}
@@ -17,10 +17,6 @@ use Rattle.warm_core.specs.StageState.{has_to_write, MayAsk, MayCopy, MayZero, M
 use Rattle.warm_core.specs.Staged.{is_unfinished, blocks_asked}
 use Rattle.warm_core.specs.World.{World, IsLive, MayLose}
 use Rattle.warm_core.specs.Events.{answer_now}
-
--- the blocks that the writes among the entries touch
-abbrev pub blocks_in : (capacity disk : ℕ) → List Entry → List ℕ
-blocks_in capacity disk entries = touched_blocks capacity (writes_of disk entries)
 
 -- a sector of the range is touched by an entry, or none is
 abbrev pub Meets : (disk from end : ℕ) → Entry → Type 0

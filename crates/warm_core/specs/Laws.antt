@@ -4,6 +4,7 @@
 use Rattle.std.specs.Prelude.{◌≡◌, ℕ, ◌<◌, ◌≤◌, ◌^◌, ◌⊎◌, List, ◌++◌, length, take, Bool, true, false, Option, Some, None, IsSome, is_none, Ok, Err, IsErr}
 use Rattle.std.specs.Option.{ForSome}
 use Rattle.std.specs.List.{list_any}
+use Rattle.basics.specs.Prefix.{IsPrefix}
 use Rattle.sector_model.specs.Run.{areas_of}
 use Rattle.sector_model.specs.Page.{PageContents, page_from, LiesWithin}
 use Rattle.sector_model.specs.VolumeContents.{VolumeContents, IsSized, IsFlushed, IsBrokenAt, DiffersOnlyWhereLoose, volume_flushed, volume_zeroed}
@@ -273,7 +274,7 @@ pub record GoesOn (old new : World) : Type 0 where
   pub machine : new.machine ≡ old.machine
   pub disk : new.disk ≡ old.disk
   pub capacity : new.capacity ≡ old.capacity
-  pub log : take (length old.log) new.log ≡ old.log
+  pub log : IsPrefix old.log new.log
   pub complete : ForSome old.complete (StaysComplete old new)
   pub sound : IsSound new
 

@@ -2,8 +2,8 @@
 //! memory: a range is compared with each entry once.
 ghost use Rattle.std.specs.Prelude.{◌≡◌, ◌+◌, ◌≤◌, ◌<◌, ◌↔◌, IsTrue, MatchBool};
 ghost use Rattle.sector_model.specs.Run.{end_of};
-ghost use Rattle.log_model.specs.Touched.{entry_touches, is_touched};
-ghost use Rattle.warm_core.specs.Asked.{blocks_in, Meets, Misses, AreMet, AreMissed, AllAsked, NoneAsked, NothingLeft};
+ghost use Rattle.log_model.specs.Touched.{entry_touches, is_touched, touched_by};
+ghost use Rattle.warm_core.specs.Asked.{Meets, Misses, AreMet, AreMissed, AllAsked, NoneAsked, NothingLeft};
 ghost use Rattle.warm_core.specs.StageState.{IsInOrder, IsReady, IsPiece, MayAsk, MayCopy, MayZero, MayFlush};
 
 use crate::{MAX_PIECE_SECTORS, StageState};
@@ -41,7 +41,7 @@ fn is_clear(entries: &[Entry], disk: u32, from: u64, end: u64) -> bool
 fn is_ready(asked: &[Entry], disk: u32, stage: &StageState) -> bool
     requires { IsInOrder stage.now }
     ensures { IsTrue result
-        ↔ IsReady (blocks_in stage.now.capacity disk asked.now) stage.now }
+        ↔ IsReady (touched_by stage.now.capacity disk asked.now) stage.now }
 {
     is_next(asked, disk, stage, stage.covered)
 }
@@ -49,7 +49,7 @@ fn is_ready(asked: &[Entry], disk: u32, stage: &StageState) -> bool
 /// Whether a page may be asked for.
 pub(crate) fn may_ask(asked: &[Entry], disk: u32, stage: &StageState) -> bool
     requires { IsInOrder stage.now }
-    ensures { IsTrue result ↔ MayAsk (blocks_in stage.now.capacity disk asked.now) stage.now }
+    ensures { IsTrue result ↔ MayAsk (touched_by stage.now.capacity disk asked.now) stage.now }
 {
     stage.covered < stage.capacity && is_ready(asked, disk, stage)
 }
@@ -57,7 +57,7 @@ pub(crate) fn may_ask(asked: &[Entry], disk: u32, stage: &StageState) -> bool
 /// Whether the volume may be flushed.
 pub(crate) fn may_flush(asked: &[Entry], disk: u32, stage: &StageState) -> bool
     requires { IsInOrder stage.now }
-    ensures { IsTrue result ↔ MayFlush (blocks_in stage.now.capacity disk asked.now) stage.now }
+    ensures { IsTrue result ↔ MayFlush (touched_by stage.now.capacity disk asked.now) stage.now }
 {
     !stage.flushed && stage.covered == stage.capacity && is_ready(asked, disk, stage)
 }
@@ -77,7 +77,7 @@ fn is_piece(run: Run, stage: &StageState) -> bool
 pub(crate) fn may_copy(asked: &[Entry], disk: u32, stage: &StageState, run: Run) -> bool
     requires { IsInOrder stage.now }
     ensures { IsTrue result
-        ↔ MayCopy (blocks_in stage.now.capacity disk asked.now) run stage.now }
+        ↔ MayCopy (touched_by stage.now.capacity disk asked.now) run stage.now }
 {
     is_piece(run, stage)
         && is_in_area(asked, disk, stage.capacity, run)
@@ -90,7 +90,7 @@ fn is_in_area(asked: &[Entry], disk: u32, capacity: u64, run: Run) -> bool
     requires some { 1 ≤ run.count }
     requires few { run.count ≤ MAX_PIECE_SECTORS }
     requires within { end_of run ≤ capacity }
-    ensures { IsTrue result ↔ AllAsked (blocks_in capacity disk asked.now) run }
+    ensures { IsTrue result ↔ AllAsked (touched_by capacity disk asked.now) run }
 {
     is_touched(asked, disk, run.first) && is_touched(asked, disk, run.first + (run.count - 1))
 }
@@ -98,7 +98,7 @@ fn is_in_area(asked: &[Entry], disk: u32, capacity: u64, run: Run) -> bool
 /// Whether the entries touch no block of the run.
 fn is_in_gap(asked: &[Entry], disk: u32, capacity: u64, run: Run) -> bool
     requires { end_of run ≤ capacity }
-    ensures { IsTrue result ↔ NoneAsked (blocks_in capacity disk asked.now) run }
+    ensures { IsTrue result ↔ NoneAsked (touched_by capacity disk asked.now) run }
 {
     is_clear(asked, disk, run.first, run.first + run.count)
 }
@@ -107,7 +107,7 @@ fn is_in_gap(asked: &[Entry], disk: u32, capacity: u64, run: Run) -> bool
 fn is_next(asked: &[Entry], disk: u32, stage: &StageState, first: u64) -> bool
     requires from { stage.now.at ≤ first }
     requires within { first ≤ stage.now.capacity }
-    ensures { IsTrue result ↔ NothingLeft (blocks_in stage.now.capacity disk asked.now) stage.now
+    ensures { IsTrue result ↔ NothingLeft (touched_by stage.now.capacity disk asked.now) stage.now
         stage.now.at first }
 {
     if stage.full {
@@ -121,7 +121,7 @@ fn is_next(asked: &[Entry], disk: u32, stage: &StageState, first: u64) -> bool
 pub(crate) fn may_zero(asked: &[Entry], disk: u32, stage: &StageState, run: Run) -> bool
     requires { IsInOrder stage.now }
     ensures { IsTrue result
-        ↔ MayZero (blocks_in stage.now.capacity disk asked.now) run stage.now }
+        ↔ MayZero (touched_by stage.now.capacity disk asked.now) run stage.now }
 {
     stage.full
         && run.first == stage.at

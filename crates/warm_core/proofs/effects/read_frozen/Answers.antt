@@ -7,7 +7,7 @@ use Rattle.log_model.specs.Legal.{only}
 use Rattle.log_model.specs.Marks.{before}
 use Rattle.log_model.specs.PlainMachine.{sector_at}
 use Rattle.log_model.proofs.LegalLogs.{prefixes_are_legal}
-use Rattle.warm_core.proofs.EffectLemmas.{read-is}
+use Rattle.log_model.proofs.SectorAt.{slice_is}
 use Rattle.warm_core.proofs.effects.read_frozen.Goals as goal
 
 pub loop-at-preserved : goal.loop-at-preserved
@@ -40,7 +40,7 @@ returns c =
     let long : c.loop-at.at - run.first ≡ run.count = omega arith in
     c.loop-at.invariant ∙ ap (λ n. map (sector frozen) (range_with_len 0 n)) long
     ∙ ap (λ (xs : List Entry). map (sector xs) (range_with_len 0 run.count)) is
-    ∙ read-is (only w.disk w.capacity) w.capacity w.disk run.first run.count
+    ∙ slice_is (only w.disk w.capacity) w.capacity w.disk run.first run.count
     (take c.args.snap.mark w.log) (refl, refl)
     (prefixes_are_legal (only w.disk w.capacity) w.log c.args.snap.mark c.requires.legal)
     c.requires.within

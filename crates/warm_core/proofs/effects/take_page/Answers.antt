@@ -5,7 +5,7 @@ use Rattle.log_model.specs.declared.entry.Entry.{Entry}
 use Rattle.warm_core.specs.declared.stage_state.StageState.{StageState}
 use Rattle.warm_core.specs.StageState.{MayAsk}
 use Rattle.warm_core.specs.Staged.{blocks_asked}
-use Rattle.warm_core.specs.Asked.{blocks_in}
+use Rattle.log_model.specs.Touched.{touched_by}
 use Rattle.warm_core.specs.DiskWorld.{world_of}
 use Rattle.warm_core.specs.World.{World}
 use Rattle.warm_core.specs.Events.{answer_now}
@@ -45,7 +45,7 @@ area_page-requires-clause-lies c =
     c.in-Some-Some.is-1 (omega (arith, sized, more))
     (c.answer_page.ensures
     ∙ ap (λ (entries : List Entry). page_from w.capacity
-    (areas_of w.capacity (blocks_in w.capacity w.disk entries)) t.covered)
+    (areas_of w.capacity (touched_by w.capacity w.disk entries)) t.covered)
     c.entries_asked.ensures)
 
 pub area_page-requires-clause-ready : goal.area_page-requires-clause-ready
@@ -72,7 +72,7 @@ returns-clause-ok c =
           c.in-Some-Some.is-0 c.in-Some-Some.is-1 may.1
           (c.answer_page.ensures
           ∙ ap (λ (entries : List Entry). page_from w.capacity
-          (areas_of w.capacity (blocks_in w.capacity w.disk entries)) t.covered)
+          (areas_of w.capacity (touched_by w.capacity w.disk entries)) t.covered)
           c.entries_asked.ensures);
       within = c.requires.sound.within;
     }

@@ -6,8 +6,9 @@ use Rattle.log_model.proofs.Accepted.{enable_stands}
 use Rattle.source_disk.specs.SourceDisk.{SourceDiskState}
 use Rattle.source_vm.specs.Disks.{IsSound, DisksTake}
 use Rattle.source_vm.specs.MachineLog.{LogState}
+use Rattle.basics.proofs.ItemAt.{take-written}
 use Rattle.basics.proofs.Results.{where_ok}
-use Rattle.source_vm.proofs.MachineLemmas.{sound_after, all_back}
+use Rattle.source_vm.proofs.MachineLemmas.{sound_after}
 use Rattle.source_vm.proofs.machine.Machine.enable.Goals as goal
 
 pub invariant_of-self-2 : goal.invariant_of-self-2
@@ -25,9 +26,8 @@ invariant_of-self-2 c =
     subst (λ (xs : List SourceDiskState). DisksTake Enable xs new) c.deref_mut.ensures.value
     c.enable_all.ensures in
     let back : take c.self.inside.disks.len (new ++ drop (length new) disks) ≡ new =
-    all_back c.self.inside.disks.len disks new
-    (c.enable_all.auto.disks ∙ ap length c.deref_mut.ensures.value)
-    (sym (ap length c.deref_mut.ensures.value) ∙ c.deref_mut.ensures.len) in
+    take-written c.self.inside.disks.len new disks
+    (sym (c.enable_all.auto.disks ∙ c.deref_mut.ensures.len)) in
     subst (λ (xs : List SourceDiskState). IsSound c.self.inside.number c.push.new.self.capacities
     c.push.new.self.entries xs) (sym back)
     (sound_after c.self.inside.number log c.reserve.new.self c.push.new.self c.args.who Enable disks

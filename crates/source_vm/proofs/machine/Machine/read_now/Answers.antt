@@ -1,5 +1,6 @@
 use Rattle.std.proofs.Common.{◌≡◌, ℕ, ◌+◌, List, length, true, false, cond, Some, None, Ok, Err, slice_range, subst, sym, ap, refl, ◌∙◌}
 use Rattle.std.specs.List.{slice_get}
+use Rattle.basics.proofs.Results.{when_ok}
 use Rattle.basics.specs.Refusal.{IsRefusedBy}
 use Rattle.sector_model.specs.declared.sector.Sector.{Sector}
 use Rattle.sector_model.specs.Run.{is_within}
@@ -13,7 +14,7 @@ use Rattle.source_vm.specs.Disks.{IsDisk}
 use Rattle.source_vm.specs.MachineLog.{LogState}
 use Rattle.source_vm.specs.Machine.{MachineState}
 use Rattle.source_vm.specs.Refusals.{read_now_refusal}
-use Rattle.source_vm.proofs.MachineLemmas.{disk_at, known_at, lies_as, read_within, read_outside, when_ok}
+use Rattle.source_vm.proofs.MachineLemmas.{disk_at, known_at, lies_as, read_within, read_outside}
 use Rattle.source_vm.proofs.machine.Machine.read_now.Goals as goal
 
 pub returns-in-Some-clause-refused : goal.returns-in-Some-clause-refused

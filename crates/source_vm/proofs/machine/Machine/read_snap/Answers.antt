@@ -1,5 +1,6 @@
 use Rattle.std.proofs.Common.{◌≡◌, ℕ, ◌+◌, List, length, Bool, true, false, not, cond, Option, Some, None, is_none, Result, Ok, Err, slice_range, subst, sym, ap, refl, ◌∙◌}
 use Rattle.std.specs.List.{slice_get}
+use Rattle.basics.proofs.Results.{when_ok}
 use Rattle.basics.specs.Refusal.{IsRefusedBy}
 use Rattle.sector_model.specs.declared.sector.Sector.{Sector}
 use Rattle.snapshot_chain.specs.declared.chain.ChainRefused.{ChainRefused}
@@ -15,7 +16,7 @@ use Rattle.source_disk.proofs.Holding.{holds_the_log}
 use Rattle.source_vm.specs.Disks.{IsDisk}
 use Rattle.source_vm.specs.MachineLog.{LogState}
 use Rattle.source_vm.specs.Machine.{MachineState}
-use Rattle.source_vm.proofs.MachineLemmas.{disk_at, known_at, lies_as, read_within, read_outside, when_ok}
+use Rattle.source_vm.proofs.MachineLemmas.{disk_at, known_at, lies_as, read_within, read_outside}
 use Rattle.source_vm.proofs.machine.Machine.read_snap.Goals as goal
 
 -- a live snapshot is refused for its range alone

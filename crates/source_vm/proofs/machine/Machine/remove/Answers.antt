@@ -13,8 +13,9 @@ use Rattle.source_disk.proofs.Holding.{holds_the_log}
 use Rattle.source_vm.specs.Disks.{IsSound, DisksTake, StillDisks, HasSnap}
 use Rattle.source_vm.specs.MachineLog.{LogState}
 use Rattle.source_vm.proofs.DiskLemmas.{all_have}
+use Rattle.basics.proofs.ItemAt.{take-written}
 use Rattle.basics.proofs.Results.{where_ok}
-use Rattle.source_vm.proofs.MachineLemmas.{sound_after, sound_still, all_back}
+use Rattle.source_vm.proofs.MachineLemmas.{sound_after, sound_still}
 use Rattle.source_vm.proofs.machine.Machine.remove.Goals as goal
 
 -- a snapshot whose removal isn't refused is live
@@ -47,9 +48,8 @@ invariant_of-self-then-is_err-2 c =
     subst (λ (xs : List SourceDiskState). StillDisks xs new) c.deref_mut.ensures.value
     c.reserve_merges.ensures.still in
     let back : take c.self.inside.disks.len (new ++ drop (length new) disks) ≡ new =
-    all_back c.self.inside.disks.len disks new (c.reserve_merges.auto.disks
-    ∙ ap length c.deref_mut.ensures.value) (sym (ap length c.deref_mut.ensures.value)
-    ∙ c.deref_mut.ensures.len) in
+    take-written c.self.inside.disks.len new disks
+    (sym (c.reserve_merges.auto.disks ∙ c.deref_mut.ensures.len)) in
     subst (λ (xs : List SourceDiskState). IsSound c.self.inside.number c.reserve.new.self.capacities
     c.reserve.new.self.entries xs) (sym back)
     (sound_still c.self.inside.number log c.reserve.new.self disks new roomy c.self.invariant still)
@@ -63,7 +63,7 @@ merge_all-requires c =
     let same : length roomed ≡ length disks =
     c.reserve_merges.auto.disks ∙ ap length c.deref_mut.ensures.value in
     let met : c.deref_mut-2.result.now ≡ roomed =
-    c.deref_mut-2.ensures.value ∙ all_back c.self.inside.disks.len disks roomed same len_is in
+    c.deref_mut-2.ensures.value ∙ take-written c.self.inside.disks.len roomed disks (sym (same ∙ len_is)) in
     subst (λ (xs : List SourceDiskState). All (HasMergeRoom c.args.id) xs) (sym met)
     (where_ok c.reserve_merges.result (sym c.is_err-else-is_err.ensures.value ∙ c.if-is_err-2.false)
     c.reserve_merges.ensures.room)
@@ -88,7 +88,7 @@ invariant_of-self-2 c =
     let same : length roomed ≡ length disks =
     c.reserve_merges.auto.disks ∙ ap length c.deref_mut.ensures.value in
     let back : take c.self.inside.disks.len (roomed ++ drop (length roomed) disks) ≡ roomed =
-    all_back c.self.inside.disks.len disks roomed same len_is in
+    take-written c.self.inside.disks.len roomed disks (sym (same ∙ len_is)) in
     let met : c.deref_mut-2.result.now ≡ roomed = c.deref_mut-2.ensures.value ∙ back in
     let takes : DisksTake (Remove c.args.id) roomed new =
     subst (λ (xs : List SourceDiskState). DisksTake (Remove c.args.id) xs new) met
@@ -98,8 +98,8 @@ invariant_of-self-2 c =
     (take c.self.inside.disks.len (roomed ++ drop (length roomed) disks))) ≡ new =
     ap (λ (xs : List SourceDiskState). take c.self.inside.disks.len (new ++ drop (length new) xs))
     back
-    ∙ all_back c.self.inside.disks.len roomed new (c.merge_all.auto.disks ∙ ap length met)
-    (same ∙ len_is) in
+    ∙ take-written c.self.inside.disks.len new roomed
+    (sym (c.merge_all.auto.disks ∙ ap length met ∙ same ∙ len_is)) in
     subst (λ (xs : List SourceDiskState). IsSound c.self.inside.number c.push.new.self.capacities
     c.push.new.self.entries xs) (sym whole)
     (sound_after c.self.inside.number log c.reserve.new.self c.push.new.self c.args.who

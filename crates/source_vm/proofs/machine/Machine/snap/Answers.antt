@@ -10,8 +10,9 @@ use Rattle.source_disk.proofs.Holding.{next_is_free}
 use Rattle.source_vm.specs.Disks.{IsSound, DisksTake, StillDisks, CanFreeze}
 use Rattle.source_vm.specs.MachineLog.{LogState}
 use Rattle.source_vm.proofs.DiskLemmas.{all_can_freeze}
+use Rattle.basics.proofs.ItemAt.{take-written}
 use Rattle.basics.proofs.Results.{where_ok}
-use Rattle.source_vm.proofs.MachineLemmas.{sound_after, sound_still, all_back, IsPushed}
+use Rattle.source_vm.proofs.MachineLemmas.{sound_after, sound_still, IsPushed}
 use Rattle.source_vm.proofs.machine.Machine.snap.Goals as goal
 
 pub invariant_of-self-then-is_err-2 : goal.invariant_of-self-then-is_err-2
@@ -26,9 +27,8 @@ invariant_of-self-then-is_err-2 c =
     subst (λ (xs : List SourceDiskState). StillDisks xs new) c.deref_mut.ensures.value
     c.reserve_freezes.ensures.still in
     let back : take c.self.inside.disks.len (new ++ drop (length new) disks) ≡ new =
-    all_back c.self.inside.disks.len disks new (c.reserve_freezes.auto.disks
-    ∙ ap length c.deref_mut.ensures.value) (sym (ap length c.deref_mut.ensures.value)
-    ∙ c.deref_mut.ensures.len) in
+    take-written c.self.inside.disks.len new disks
+    (sym (c.reserve_freezes.auto.disks ∙ c.deref_mut.ensures.len)) in
     subst (λ (xs : List SourceDiskState). IsSound c.self.inside.number c.reserve.new.self.capacities
     c.reserve.new.self.entries xs) (sym back)
     (sound_still c.self.inside.number log c.reserve.new.self disks new roomy c.self.invariant still)
@@ -49,7 +49,7 @@ freeze_all-requires c =
     let same : length roomed ≡ length disks =
     c.reserve_freezes.auto.disks ∙ ap length c.deref_mut.ensures.value in
     let back : take c.self.inside.disks.len (roomed ++ drop (length roomed) disks) ≡ roomed =
-    all_back c.self.inside.disks.len disks roomed same len_is in
+    take-written c.self.inside.disks.len roomed disks (sym (same ∙ len_is)) in
     let met : c.deref_mut-2.result.now ≡ roomed = c.deref_mut-2.ensures.value ∙ back in
     let room : All (λ d. has_freeze_room d ≡ true) roomed =
     where_ok c.reserve_freezes.result (sym c.is_err-else-is_err.ensures.value
@@ -84,7 +84,7 @@ invariant_of-self-2 c =
     let same : length roomed ≡ length disks =
     c.reserve_freezes.auto.disks ∙ ap length c.deref_mut.ensures.value in
     let back : take c.self.inside.disks.len (roomed ++ drop (length roomed) disks) ≡ roomed =
-    all_back c.self.inside.disks.len disks roomed same len_is in
+    take-written c.self.inside.disks.len roomed disks (sym (same ∙ len_is)) in
     let met : c.deref_mut-2.result.now ≡ roomed = c.deref_mut-2.ensures.value ∙ back in
     let id_is : c.snapped-snapped.result.id ≡ taken log.entries + 1 =
     ap (λ s. s.id) c.snapped-snapped.ensures
@@ -101,8 +101,8 @@ invariant_of-self-2 c =
     (take c.self.inside.disks.len (roomed ++ drop (length roomed) disks))) ≡ new =
     ap (λ (xs : List SourceDiskState). take c.self.inside.disks.len (new ++ drop (length new) xs))
     back
-    ∙ all_back c.self.inside.disks.len roomed new (c.freeze_all.auto.disks ∙ ap length met)
-    (same ∙ len_is) in
+    ∙ take-written c.self.inside.disks.len new roomed
+    (sym (c.freeze_all.auto.disks ∙ ap length met ∙ same ∙ len_is)) in
     subst (λ (xs : List SourceDiskState). IsSound c.self.inside.number c.push.new.self.capacities
     c.push.new.self.entries xs) (sym whole)
     (sound_after c.self.inside.number log c.reserve.new.self c.push.new.self c.args.who act roomed
