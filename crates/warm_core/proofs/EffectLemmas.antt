@@ -1,23 +1,12 @@
 -- What a world in memory owes its steps, and what they leave of what it stands for.
-use Rattle.std.proofs.Common.{◌≡◌, ℕ, ◌+◌, ◌-◌, ◌<◌, ◌≤◌, ◌^◌, List, length, drop, map, Option, Some, None, Ok, IsOk, sym, ap, subst, ◌∙◌, arith, length-take, length-drop}
-use Rattle.std.specs.List.{slice_range, range_with_len}
+use Rattle.std.proofs.Common.{◌≡◌, ℕ, ◌+◌, ◌<◌, ◌^◌, List, Option, Some, None, Ok, IsOk, sym, ap, subst, ◌∙◌}
 use Rattle.std.specs.Option.{is_some, IsSomeAnd}
-use Rattle.std.proofs.lemmas.Option.{same_Some, get_or_from_slice_get}
-use Rattle.std.proofs.lemmas.List.FromFn.{fill_by_all}
+use Rattle.std.proofs.lemmas.Option.{same_Some}
 use Rattle.basics.proofs.Options.{some_value}
 use Rattle.sector_model.specs.Run.{areas_of}
 use Rattle.sector_model.specs.Page.{PageContents, page_from, LiesWithin}
-use Rattle.sector_model.specs.Sector.{zero_sector}
 use Rattle.sector_model.specs.declared.run.Run.{Run}
-use Rattle.sector_model.specs.declared.sector.Sector.{Sector}
-use Rattle.basics.proofs.ItemAt.{slice_get-take, slice_get-drop}
-use Rattle.log_model.specs.declared.entry.Entry.{Entry}
 use Rattle.log_model.specs.declared.link.Snapped.{Snapped}
-use Rattle.log_model.specs.Entry.{contents}
-use Rattle.log_model.specs.Legal.{Disks, HasDisk, Legal}
-use Rattle.log_model.specs.PlainMachine.{sector_at}
-use Rattle.log_model.proofs.SectorAt.{sector_at_is}
-use Rattle.log_model.proofs.TouchedLaws.{length-contents}
 use Rattle.warm_core.specs.declared.stage_state.StageState.{StageState}
 use Rattle.warm_core.specs.StageState.{IsInOrder, with_page}
 use Rattle.warm_core.specs.Staged.{blocks_asked, StageFits}

@@ -1,5 +1,5 @@
 -- What each event leaves of a sound world.
-use Rattle.std.proofs.Common.{◌≡◌, ℕ, ◌+◌, ◌<◌, ◌^◌, List, take, true, false, not, Option, Some, None, Result, Ok, Err, IsOk, IsErr, refl, sym, ap, subst, ◌∙◌, arith, ◌⊎◌, inl, inr, IsSome}
+use Rattle.std.proofs.Common.{◌≡◌, ℕ, ◌+◌, ◌<◌, ◌^◌, List, take, true, false, not, Option, Some, None, Result, Ok, Err, IsOk, IsErr, refl, sym, ap, subst, ◌∙◌, arith, ◌⊎◌, inl, inr}
 use Rattle.std.specs.List.{slice_get}
 use Rattle.std.specs.Option.{is_some, IsSomeAnd, option_map}
 use Rattle.std.proofs.lemmas.Bool.{false≢true, eq-eqb}

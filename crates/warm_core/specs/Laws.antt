@@ -1,7 +1,7 @@
 -- What the definitions say together. Each law is the contract of a public function of laws.rt whose
 -- body does nothing. Those on stages speak of one stage and its volume at a log, so that whoever
 -- has only these can use them; those on worlds are made of them.
-use Rattle.std.specs.Prelude.{◌≡◌, ℕ, ◌<◌, ◌≤◌, ◌^◌, ◌⊎◌, List, ◌++◌, length, take, Bool, true, false, Option, Some, None, IsSome, is_none, Ok, Err, IsErr}
+use Rattle.std.specs.Prelude.{◌≡◌, ℕ, ◌<◌, ◌≤◌, ◌^◌, ◌⊎◌, List, ◌++◌, length, Bool, true, false, Option, Some, None, IsSome, is_none, Ok, Err, IsErr}
 use Rattle.std.specs.Option.{ForSome}
 use Rattle.std.specs.List.{list_any}
 use Rattle.basics.specs.Prefix.{IsPrefix}
