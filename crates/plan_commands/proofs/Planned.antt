@@ -6,9 +6,11 @@ use Rattle.std.specs.Option.{option_or}
 use Rattle.std.proofs.lemmas.Bool.{eqb-true, eqb-false, eq-eqb, ne_eqb, false≢true}
 use Rattle.std.proofs.lemmas.List.{length-map}
 use Rattle.std.proofs.lemmas.List.Elements.{All-from_recursion, recursion_from_All}
+use Rattle.std.proofs.lemmas.List.Folds.{list_any_none}
 use Rattle.std.proofs.lemmas.Map.Steps.{length-le_from_distinct_below}
 use Rattle.std.proofs.lemmas.Option.{none-some, slice_get_within, get_or_from_slice_get}
 use Rattle.basics.specs.declared.limits.TheConstants.{MAX_INTERVAL}
+use Rattle.basics.proofs.Each.{each}
 use Rattle.cmd_json.specs.Range.{IsWithin}
 use Rattle.answers.specs.declared.refusal.Refusal.TheVariants as told
 use Rattle.log_model.specs.Link.{is_active}
@@ -101,10 +103,11 @@ listed_within fleet v (other ∷ vms) vm idle h =
 
 unlisted : (vm : ℕ) (vms : List ℕ) → AllByRecursion (λ other. (vm == other) ≡ false) vms
     → is_listed vms vm ≡ false
-unlisted vm [] h = refl
-unlisted vm (other ∷ vms) h =
-    ap (λ b. b || is_listed vms vm) (ne_eqb other vm (λ same. eqb-false vm other h.0 (sym same)))
-    ∙ unlisted vm vms h.1
+unlisted vm vms h =
+    list_any_none (λ other. other == vm) vms
+    (All-from_recursion (λ other. (other == vm) ≡ false) vms
+    (each {P = λ other. (vm == other) ≡ false} {Q = λ other. (other == vm) ≡ false}
+    (λ other apart. ne_eqb other vm (λ same. eqb-false vm other apart (sym same))) vms h))
 
 none_doubled : (vms : List ℕ) → IsDistinct ◌==◌ vms → has_double vms ≡ false
 unfolding IsDistinct
