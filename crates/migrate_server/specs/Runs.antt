@@ -2,8 +2,9 @@
 -- lines over it; or the controller isn't opened, and no line is served. What stands on that disk at
 -- the end of a run is what the next one needs of it, so that a chain of runs, with a crash behind
 -- any of them, is one induction.
-use Rattle.std.specs.Prelude.{◌≡◌, ◌⊎◌, ℕ, ◌≤◌, List, [], ◌∷◌, length, take, None, IsSome, IfSome}
+use Rattle.std.specs.Prelude.{◌≡◌, ◌⊎◌, ℕ, ◌≤◌, List, [], ◌∷◌, length, None, IsSome, IfSome}
 use Rattle.std.specs.List.{AllByRecursion}
+use Rattle.basics.specs.Prefix.{IsPrefix}
 use Rattle.edge_traits.specs.Disk.{IsCrashOf, settled}
 use Rattle.journal.specs.Journal.{JournalState, IsKept, LeavesOneOf, outcomes}
 use Rattle.journal.specs.Laws.{IsOneOf}
@@ -90,7 +91,7 @@ FreshHoldsTogether = (world : World)
 -- the records begin with one of these lists
 abbrev pub GoesOnFrom : List (List Record) → List Record → Type 0
 GoesOnFrom lists records = (found : List Record)
-    × IsOneOf found lists × (take (length found) records ≡ found)
+    × IsOneOf found lists × IsPrefix found records
 
 -- a run whose controller isn't opened leaves a world that holds together with the same lists
 abbrev pub UnopenedHoldTogether : Type 0
