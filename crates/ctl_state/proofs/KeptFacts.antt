@@ -12,7 +12,7 @@ use Rattle.std.proofs.lemmas.Bool.{or_parts, eqb-true, eq-eqb, ltb-true, lt-ltb}
 use Rattle.std.proofs.lemmas.Bool.Decides.{nat_tests, eqb_tells}
 use Rattle.std.proofs.lemmas.List.Sums.{sum_by-cons, sum_by_push}
 use Rattle.std.proofs.lemmas.List.Folds.{find-append}
-use Rattle.log_model.proofs.Options.{none_is}
+use Rattle.basics.proofs.Options.{none_is}
 use Rattle.plan_model.specs.declared.plan.Plan.{Plan}
 use Rattle.ctl_state.specs.declared.migration.Migration.{Migration}
 use Rattle.ctl_state.specs.declared.plans.PlanCourse.{PlanCourse}
