@@ -23,8 +23,8 @@ abbrev pub count_of : (disk : ℕ) → List Entry → IdCount
 count_of disk log = record { resets = epoch disk log; counted = counted disk log }
 
 -- the identifier that is in force
-abbrev pub id_of : (machine disk : ℕ) → IdCount → Option ChangeId
-id_of machine disk count =
+abbrev pub id_in_force : (machine disk : ℕ) → IdCount → Option ChangeId
+id_in_force machine disk count =
     counted_id (packed machine disk count.resets) (unwrap_or count.counted 0)
 
 -- they had come so far at the snapshots, in their order
