@@ -27,7 +27,7 @@ use Rattle.restart.specs.Reopening.{SaysWhy, IsFoundStrange}
 use Rattle.restart.specs.Standing.{AreTaken}
 use Rattle.restart.specs.declared.refusal.ReopenRefused.{ReopenRefused}
 use Rattle.restart.specs.declared.refusal.ReopenRefused.TheVariants.{Journal, Strange, NoMemory}
-use Rattle.migrate_server.specs.Runs.{HoldsTogether, GoesOnFrom, ServesTogether, IsUnopened, Runs, FreshHoldsTogether, UnopenedHoldTogether, ServedHoldTogether, RunsFindOne, CrashesHoldTogether, NoneIsStrange, FleetAgrees, status_unopened}
+use Rattle.migrate_server.specs.Runs.{HoldsTogether, BeginsWithOne, ServesTogether, IsUnopened, Runs, FreshHoldsTogether, UnopenedHoldTogether, ServedHoldTogether, RunsFindOne, CrashesHoldTogether, NoneIsStrange, FleetAgrees, status_unopened}
 use Rattle.migrate_server.specs.Serve.{WouldBeTaken}
 use Rattle.migrate_server.specs.World.{World, with_journal}
 use Rattle.migrate_server.specs.declared.status.Status.{Status}
@@ -66,7 +66,7 @@ told (Some x) P Q is h then = then x h
 
 all_go_on : (lists : List (List Record)) (found records : List Record) (failure : Option Failure)
     → IsOneOf found lists → IsPrefix found records
-    → AllByRecursion (GoesOnFrom lists) (records ∷ with_refused records failure)
+    → AllByRecursion (BeginsWithOne lists) (records ∷ with_refused records failure)
 all_go_on lists found records None its is = ((found, its, is), tt)
 all_go_on lists found records (Some failure) its is =
     ((found, its, is), ((found, its, prefix-append found records (failure.refused ∷ []) is), tt))

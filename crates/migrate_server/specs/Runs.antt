@@ -89,8 +89,8 @@ FreshHoldsTogether = (world : World)
     → HoldsTogether ([] ∷ []) world
 
 -- the records begin with one of these lists
-abbrev pub GoesOnFrom : List (List Record) → List Record → Type 0
-GoesOnFrom lists records = (found : List Record)
+abbrev pub BeginsWithOne : List (List Record) → List Record → Type 0
+BeginsWithOne lists records = (found : List Record)
     × IsOneOf found lists × IsPrefix found records
 
 -- a run whose controller isn't opened leaves a world that holds together with the same lists
@@ -104,7 +104,7 @@ pub record ServesTogether (lists : List (List Record)) (old new : World) (status
     (s : IsServed old new status) : Type 0 where
   pub together : HoldsTogether (outcomes s.closes.closed) new
   pub go_on : IsSome old.disk.contents
-      → AllByRecursion (GoesOnFrom lists) (outcomes s.closes.closed)
+      → AllByRecursion (BeginsWithOne lists) (outcomes s.closes.closed)
 
 abbrev pub ServedHoldTogether : Type 0
 ServedHoldTogether = (lists : List (List Record)) (old new : World) (status : Status)
