@@ -13,7 +13,7 @@ use Rattle.basics.proofs.Options.{none_is}
 use Rattle.plan_model.specs.declared.plan.Plan.{Plan}
 use Rattle.plan_model.specs.Plans.{is_taken}
 use Rattle.ctl_state.specs.Value.{plan_named}
-use Rattle.ctl_state.specs.Kept.{AreNames}
+use Rattle.ctl_state.specs.Lookups.{AreNames}
 use Rattle.ctl_state.proofs.ListFacts.{any-found}
 
 named_by : (b : Bool) (plans : List Plan) (p : Plan) (q : List ℕ) → bytes_eq p.name q ≡ b

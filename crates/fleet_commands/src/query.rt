@@ -5,7 +5,7 @@ ghost use Rattle.sector_model.specs.Run.{end_of};
 ghost use Rattle.fleet_commands.specs.commands.Query.{AsksSince, QueryAnswers, PageAnswers, area_of, page_reply};
 
 use crate::machines::take_out;
-use crate::told::link_told;
+use crate::refusals::link_told;
 use answers::{Answer, Refusal};
 use basics::{Name, NoMemory, SECTOR_BYTES, Sequence};
 use change_id::{ChangeId, IdRefused, Since, parse};

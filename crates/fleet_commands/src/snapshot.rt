@@ -9,7 +9,7 @@ ghost use Rattle.answers.specs.Answer.{AnswersFor};
 ghost use Rattle.fleet_commands.specs.commands.Snapshot.{snap_act, ids_at, snapshot_refusal, snapshot_reply, after_snapshot};
 
 use crate::machines::take_out;
-use crate::told::link_told;
+use crate::refusals::link_told;
 use answers::{Answer, Refusal};
 use basics::{MAX_DISKS, Name, NoMemory, Sequence};
 use change_id::ChangeId;

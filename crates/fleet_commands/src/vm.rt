@@ -4,7 +4,7 @@ ghost use Rattle.basics.specs.Spelled.{IsName};
 ghost use Rattle.answers.specs.Answer.{AnswersFor};
 ghost use Rattle.fleet_commands.specs.commands.Vm.{vm_refusal, vm_reply, after_vm};
 
-use crate::told::fleet_told;
+use crate::refusals::fleet_told;
 use answers::{Answer, Refusal};
 use basics::{Name, NoMemory};
 use fleet::Fleet;

@@ -5,7 +5,7 @@ ghost use Rattle.answers.specs.Answer.{AnswersFor};
 ghost use Rattle.fleet_commands.specs.commands.Write.{write_refusal, write_reply, after_write};
 
 use crate::machines::take_out;
-use crate::told::write_told;
+use crate::refusals::write_told;
 use answers::{Answer, Refusal};
 use basics::{Name, NoMemory};
 use fleet::Fleet;

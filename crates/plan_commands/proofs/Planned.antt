@@ -25,7 +25,7 @@ use Rattle.plan_model.specs.Plans.{plan_refusal as model_refusal, is_taken, is_d
 use Rattle.plan_model.proofs.Accepted.{accepted_is_possible, accepted_machines_differ}
 use Rattle.ctl_state.specs.Value.{CtlValue, is_at_work, is_listed}
 use Rattle.ctl_state.specs.MayStand.{has_double, record_may_stand}
-use Rattle.record_keeping.proofs.Kept.{one_may}
+use Rattle.record_keeping.proofs.KeepLemmas.{one_may}
 use Rattle.plan_commands.specs.Laws.{PlansMayBeKept, PlansListTracked}
 use Rattle.plan_commands.specs.Machines.{known_of}
 use Rattle.plan_commands.specs.commands.Plan.{plan_told, plan_refusal, made_by}
