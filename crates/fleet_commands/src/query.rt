@@ -1,4 +1,5 @@
-//! The command `query`.
+//! The command `query`: it reads the identifier, asks the machine for one page, and tells that in
+//! bytes, as machines count in sectors.
 ghost use Rattle.std.specs.Prelude.{◌≡◌, ◌+◌, ◌≤◌, All, IfOk, OnErr, map, true};
 ghost use Rattle.basics.specs.declared.limits.TheConstants.{MAX_DISK_SECTORS};
 ghost use Rattle.sector_model.specs.Run.{end_of};

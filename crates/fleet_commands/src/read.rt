@@ -1,4 +1,4 @@
-//! The command `read`.
+//! The command `read`: it shows so few sectors that they are read into a buffer of a fixed size.
 ghost use Rattle.std.specs.Prelude.{◌≡◌, IfOk, OnErr, map};
 ghost use Rattle.cmd_json.specs.Range.{IsWithin};
 ghost use Rattle.cmd_json.specs.declared.command.TheConstants.{MAX_READ_SECTORS};

@@ -1,4 +1,5 @@
-//! The command `snapshot`.
+//! The command `snapshot`. The list of identifiers gets its room before the snapshot is taken, so
+//! that want of memory comes before anything has changed.
 ghost use Rattle.std.specs.Prelude.{◌≡◌, ◌+◌, ◌≤◌, [], true, false, IfOk, OnOk, OnErr, length, vec_capacity};
 ghost use Rattle.basics.specs.Refusal.{IsRefusedOr};
 ghost use Rattle.log_model.specs.Legal.{taken};

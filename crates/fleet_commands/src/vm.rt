@@ -1,4 +1,4 @@
-//! The command `vm`.
+//! The command `vm`: it adds a machine on a host, and tells the number that it got.
 ghost use Rattle.std.specs.Prelude.{◌≡◌, IfOk, OnErr};
 ghost use Rattle.basics.specs.Spelled.{IsName};
 ghost use Rattle.answers.specs.Answer.{AnswersFor};

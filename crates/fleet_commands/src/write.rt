@@ -1,4 +1,4 @@
-//! The command `write`.
+//! The command `write`: it makes sectors that are all of one byte, and writes them as a guest does.
 ghost use Rattle.std.specs.Prelude.{◌≡◌, IfOk, OnErr, replicate};
 ghost use Rattle.sector_model.specs.Sector.{filled};
 ghost use Rattle.answers.specs.Answer.{AnswersFor};
