@@ -23,7 +23,6 @@ use Rattle.fleet_commands.specs.commands.Write.{fill_act}
 use Rattle.fleet_commands.specs.declared.deed.Deed.TheVariants as deed
 use Rattle.fleet_commands.specs.declared.host.TheConstants.{DEFAULT_HOST_LIMIT}
 use Rattle.fleet_commands.proofs.Lifting.{vm_here}
-use Rattle.record_codec.specs.declared.record.Record.{Record}
 use Rattle.migrate_server.specs.Session.{State, power_deed, records_of, state_after, Session}
 use Rattle.migrate_server.proofs.EachCommand.{session_keeps}
 
