@@ -34,7 +34,7 @@ use Rattle.ctl_state.specs.declared.task.PhaseTask.{PhaseTask}
 use Rattle.ctl_state.specs.Migration.{same_phase, reached, all_done, is_live, current_snapshot, stored_place, disks_left}
 use Rattle.ctl_state.specs.Value.{CtlValue}
 use Rattle.ctl_state.specs.Ready.{way_due, is_copying, is_waiting, copy_jobs, jobs_of}
-use Rattle.ctl_state.specs.Task.{task_of, end_of}
+use Rattle.ctl_state.specs.Task.{task_of, good_end}
 use Rattle.ctl_state.specs.Steps.{how_number}
 use Rattle.ctl_state.specs.MayStand.{may_step, may_end}
 use Rattle.ctl_state.specs.Sound.{IsSound, FitsPhase, is_open}

@@ -12,14 +12,14 @@ use Rattle.std.proofs.lemmas.Bool.{or_parts, eqb-true, eq-eqb, ltb-true, lt-ltb}
 use Rattle.std.proofs.lemmas.Bool.Decides.{nat_tests, eqb_tells}
 use Rattle.std.proofs.lemmas.List.Sums.{sum_by-cons, sum_by_push}
 use Rattle.std.proofs.lemmas.List.Folds.{find-append}
-use Rattle.log_model.proofs.Options.{none_is}
+use Rattle.basics.proofs.Options.{none_is}
 use Rattle.plan_model.specs.declared.plan.Plan.{Plan}
 use Rattle.ctl_state.specs.declared.migration.Migration.{Migration}
 use Rattle.ctl_state.specs.declared.plans.PlanCourse.{PlanCourse}
 use Rattle.ctl_state.specs.Migration.{is_live, change_at}
 use Rattle.ctl_state.specs.Fold.{with_started}
 use Rattle.ctl_state.specs.Value.{CtlValue, is_at_work, numbered, change_numbered, new_course, waiting, waits_in, works_on, work_on, live_on, is_listed}
-use Rattle.ctl_state.specs.Kept.{AreCourses, AreNames, IsWork, IsKept, work_kept}
+use Rattle.ctl_state.specs.Lookups.{AreCourses, AreNames, IsWork, IsKept, work_kept}
 use Rattle.ctl_state.specs.MayStand.{has_double}
 use Rattle.ctl_state.specs.Work.{Work, is_in, HasNone, HasSame, Joins, Leaves, Begins}
 use Rattle.ctl_state.proofs.ListFacts.{numbered_at, length-change_at, all-change_at, sum-change_at, sum-change_same, sum-zip_change, sum-zip_same, zip-append_one, find-change_same, find-change_passed, find-uncounted, any-counted, any-same}

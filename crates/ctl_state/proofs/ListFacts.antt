@@ -1,6 +1,6 @@
 -- Lists: elements, tests and sums of them, and what an edit of one element leaves, by place and
 -- by number.
-use Rattle.std.proofs.Common.{◌≡◌, ◌≢◌, ℕ, zero, suc, ◌+◌, ◌-◌, ◌==◌, ◌<◌, ◌≤◌, Bool, true, false, cond, ◌||◌, nat_lt, List, [], ◌∷◌, ◌++◌, length, take, drop, set, get_or, Option, Some, None, option_map, is_some, is_none, not, refl, ap, subst, sym, ◌∙◌, arith}
+use Rattle.std.proofs.Common.{◌≡◌, ◌≢◌, ℕ, zero, suc, ◌+◌, ◌-◌, ◌==◌, ◌<◌, ◌≤◌, Bool, true, false, cond, ◌||◌, nat_lt, List, [], ◌∷◌, ◌++◌, length, set, get_or, Option, Some, None, option_map, is_some, is_none, not, refl, ap, subst, sym, ◌∙◌, arith}
 use Rattle.std.specs.Prelude.{slice_get}
 use Rattle.std.specs.List.{sum_by, count_by, find, zip, list_any, AllByRecursion}
 use Rattle.std.specs.Option.{option_map_or}
@@ -13,15 +13,6 @@ use Rattle.plan_model.specs.declared.plan.Plan.{Plan}
 use Rattle.plan_model.specs.Plans.{is_taken}
 use Rattle.ctl_state.specs.Migration.{change_at}
 use Rattle.ctl_state.specs.Value.{numbered, change_numbered, plan_named}
-
--- what a vector holds after all of its elements were written
-pub all_written : {X : Type 0} (n : ℕ) (now old target : List X)
-    → n ≡ length now → now ≡ target → take n (now ++ drop (length now) old) ≡ target
-all_written n now old target h e = rw h (take_front now (drop (length now) old) ∙ e)
-  where
-    take_front : {X : Type 0} (xs ys : List X) → take (length xs) (xs ++ ys) ≡ xs
-    take_front [] ys = refl
-    take_front (x ∷ xs) ys = ap (λ rest. x ∷ rest) (take_front xs ys)
 
 -- an element that is found by number stands at its place
 pub numbered_at : {X : Type 0} (xs : List X) (number : ℕ) (x : X)

@@ -9,11 +9,11 @@ use Rattle.std.specs.Str.{bytes_eq}
 use Rattle.std.proofs.lemmas.List.Folds.{find-append}
 use Rattle.std.proofs.lemmas.Slice.Eq.{bytes_eq-Decides}
 use Rattle.std.proofs.lemmas.Map.Text.{is_eq-slice_cmp}
-use Rattle.log_model.proofs.Options.{none_is}
+use Rattle.basics.proofs.Options.{none_is}
 use Rattle.plan_model.specs.declared.plan.Plan.{Plan}
 use Rattle.plan_model.specs.Plans.{is_taken}
 use Rattle.ctl_state.specs.Value.{plan_named}
-use Rattle.ctl_state.specs.Kept.{AreNames}
+use Rattle.ctl_state.specs.Lookups.{AreNames}
 use Rattle.ctl_state.proofs.ListFacts.{any-found}
 
 named_by : (b : Bool) (plans : List Plan) (p : Plan) (q : List ℕ) → bytes_eq p.name q ≡ b

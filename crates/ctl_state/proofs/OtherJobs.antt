@@ -24,7 +24,7 @@ use Rattle.ctl_state.specs.Value.{CtlValue, numbered, change_numbered, migration
 use Rattle.ctl_state.specs.MayStand.{record_may_stand}
 use Rattle.ctl_state.specs.Fold.{after_record, with_started, with_ended, with_cutover, cutover_of, plan_of_migration}
 use Rattle.ctl_state.specs.Ready.{due_between, way_due, is_copying, copy_jobs, jobs_of}
-use Rattle.ctl_state.specs.Task.{end_of, task_of}
+use Rattle.ctl_state.specs.Task.{good_end, task_of}
 use Rattle.ctl_state.specs.Sound.{IsSoundValue}
 use Rattle.ctl_state.specs.SoundLaws.{cutover_in, CutoversStay, OtherJobsStay}
 use Rattle.ctl_state.proofs.FoldFacts.{others_stay}
@@ -156,7 +156,7 @@ task_by now m w = record {
   way = cond (same_phase m.phase Phases.CopyingPaused) w Ways.Nothing;
   now = now;
   restore = unwrap_or m.power false;
-  how = end_of m;
+  how = good_end m;
   place = stored_place m;
 }
 

@@ -5,6 +5,7 @@ use Rattle.std.specs.List.{list_all, filter_map, range_with_len, cons_option}
 use Rattle.std.specs.Option.{option_map_or}
 use Rattle.std.proofs.lemmas.Bool.{and_from, not-false, not-true, eqb-true, eq-eqb, lt-ltb, false≢true}
 use Rattle.std.proofs.lemmas.Option.{none-some}
+use Rattle.basics.proofs.Options.{none_is}
 use Rattle.change_id.specs.declared.ChangeId.{ChangeId}
 use Rattle.change_id.specs.ChangeId.{packed}
 use Rattle.change_id.specs.History as history
@@ -18,7 +19,6 @@ use Rattle.log_model.specs.Frozen.{last_off}
 use Rattle.log_model.specs.Refusals.{is_spent, is_live as snapshot_is_live}
 use Rattle.log_model.specs.Laws.{HasOffPlace}
 use Rattle.log_model.proofs.OffPlace.{off_has_place}
-use Rattle.log_model.proofs.Options.{none_is}
 use Rattle.phase_table.specs.declared.phases.Phase.{Phase}
 use Rattle.phase_table.specs.declared.phases.Phase.TheVariants.{Started, CreateInitialSnapshot, StoreInitialIds, CreateVolumes, AddFirstCheckpoint, CopyDisks, CopyingPaused, RemovePreviousSnapshot, CreateSnapshot, StoreIds, AddCheckpoint, StorePowerState, PowerOffSource, WaitForPowerOff, RemovePenultimateSnapshot, CreateFinalSnapshot, AddFinalCheckpoint, CopyFinal, RemoveFinalSnapshot, Completed, Cancelled, Failed}
 use Rattle.phase_table.specs.Phases.{is_end}

@@ -3,9 +3,9 @@ use Rattle.std.proofs.Common.{◌≡◌, ℕ, ◌<◌, ◌==◌, List, Bool, tru
 use Rattle.std.specs.Prelude.{is_none, is_some, unwrap_or, nat_lt, nat_le, IsSome}
 use Rattle.std.specs.List.{list_all}
 use Rattle.std.proofs.lemmas.Bool.{and_parts, or_cases, not-true, eqb-true, ltb-true, false≢true}
+use Rattle.basics.proofs.Options.{none_is}
 use Rattle.change_id.specs.declared.ChangeId.{ChangeId}
 use Rattle.checkpoints.specs.DataVolume.{add_refusal}
-use Rattle.log_model.proofs.Options.{none_is}
 use Rattle.phase_table.specs.declared.phases.Phase.{Phase}
 use Rattle.phase_table.specs.declared.phases.Phase.TheVariants.{Started, CreateInitialSnapshot, StoreInitialIds, CreateVolumes, AddFirstCheckpoint, CopyDisks, CopyingPaused, RemovePreviousSnapshot, CreateSnapshot, StoreIds, AddCheckpoint, StorePowerState, PowerOffSource, WaitForPowerOff, RemovePenultimateSnapshot, CreateFinalSnapshot, AddFinalCheckpoint, CopyFinal, RemoveFinalSnapshot, Completed, Cancelled, Failed}
 use Rattle.phase_table.specs.declared.table.Fact.TheVariants as Facts

@@ -6,7 +6,7 @@ use Rattle.std.specs.BTreeMap.{get, is_at}
 use Rattle.std.specs.Ordering.{nat_cmp, is_eq}
 use Rattle.std.proofs.lemmas.Bool.{eqb-true, eq-eqb}
 use Rattle.std.proofs.lemmas.Bool.Decides.{eqb_tells}
-use Rattle.log_model.proofs.Options.{none_is}
+use Rattle.basics.proofs.Options.{none_is}
 use Rattle.ctl_state.specs.Value.{is_listed}
 use Rattle.ctl_state.specs.MayStand.{has_double}
 use Rattle.ctl_state.specs.Work.{Work, is_in, HasNone, Joins}

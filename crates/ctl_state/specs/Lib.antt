@@ -8,7 +8,7 @@ pub mod Task
 pub mod Refusal
 pub mod Laws
 pub mod Work
-pub mod Kept
+pub mod Lookups
 pub mod Sound
 pub mod Effect
 pub mod CleanUp

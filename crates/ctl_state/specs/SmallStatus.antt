@@ -7,6 +7,7 @@ use Rattle.log_model.specs.declared.entry.Owner.TheVariants.{Operator, Migration
 use Rattle.log_model.specs.declared.entry.Act.{Act}
 use Rattle.log_model.specs.declared.entry.Act.TheVariants.{Write, Snap, Remove, Enable, Off}
 use Rattle.log_model.specs.declared.entry.Entry.{Entry}
+use Rattle.log_model.specs.declared.entry.TheConstants.{MIGRATION_CALLER}
 use Rattle.phase_table.specs.declared.phases.Phase.TheVariants as Phases
 use Rattle.ctl_state.specs.declared.migration.Migration.{Migration}
 use Rattle.ctl_state.specs.declared.migration.How.TheVariants as Hows
@@ -15,15 +16,15 @@ use Rattle.ctl_state.specs.Value.{CtlValue, new_course}
 use Rattle.ctl_state.specs.StatusLine.{StatusLine, status_line}
 
 abbrev entry : Act → Entry
-entry act = record { who = 1; act = act }
+entry act = record { who = MIGRATION_CALLER; act = act }
 
 abbrev written : (first fill : ℕ) → Entry
 written first fill = entry (Write 0 first (filled fill ∷ []))
 
 -- tracking is enabled, and a first snapshot of the operator comes and goes; then the migration's
 -- snapshots, between the writes
-abbrev small_log : List Entry
-small_log = entry Enable ∷ entry (Snap 1 Operator) ∷ entry (Remove 1) ∷ written 5 1
+abbrev migrated_log : List Entry
+migrated_log = entry Enable ∷ entry (Snap 1 Operator) ∷ entry (Remove 1) ∷ written 5 1
     ∷ entry (Snap 2 (OfMigration 1)) ∷ written 200 2 ∷ entry (Remove 2)
     ∷ entry (Snap 3 (OfMigration 1)) ∷ written 6 3 ∷ entry Off ∷ entry (Remove 3)
     ∷ entry (Snap 4 (OfMigration 1)) ∷ entry (Remove 4) ∷ []
@@ -138,7 +139,7 @@ failed_line = record complete_line {
 }
 
 abbrev line : Migration → StatusLine
-line m = status_line small_value (codes "a") small_log m
+line m = status_line small_value (codes "a") migrated_log m
 
 pub record SmallLines (copies : List DiskCopy) : Type 0 where
   pub paused : line (paused_one copies) ≡ paused_line

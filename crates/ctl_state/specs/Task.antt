@@ -19,8 +19,8 @@ way_of v now m =
     if same_phase m.phase Phases.CopyingPaused then way_due v now m else Ways.Nothing
 
 -- how it ends where its work goes well: cancelled where that was asked for
-abbrev pub end_of : Migration → How
-end_of m = if m.cancel then Hows.Cancelled else Hows.Completed
+abbrev pub good_end : Migration → How
+good_end m = if m.cancel then Hows.Cancelled else Hows.Completed
 
 abbrev pub task_of : CtlValue → (now : Moment) → Migration → PhaseTask
 task_of v now m = record {
@@ -33,6 +33,6 @@ task_of v now m = record {
   way = way_of v now m;
   now = now;
   restore = unwrap_or m.power false;
-  how = end_of m;
+  how = good_end m;
   place = stored_place m;
 }

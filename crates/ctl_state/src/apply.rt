@@ -5,7 +5,7 @@ ghost use Rattle.std.specs.Bool.{OnTrue};
 ghost use Rattle.std.specs.List.{list_any};
 ghost use Rattle.ctl_state.specs.Value.{is_at_work};
 ghost use Rattle.plan_model.specs.Plans.{is_taken};
-ghost use Rattle.ctl_state.specs.Kept.{HasRoom};
+ghost use Rattle.ctl_state.specs.Lookups.{HasRoom};
 ghost use Rattle.basics.specs.Refusal.{IsRefusedOr};
 ghost use Rattle.record_codec.specs.declared.record.Record.{Record};
 ghost use Rattle.ctl_state.specs.Refusal.{strange_unless};

@@ -5,7 +5,7 @@ ghost use Rattle.plan_model.specs.Plans.{is_taken};
 ghost use Rattle.ctl_state.specs.Value.{change_numbered, new_course};
 ghost use Rattle.ctl_state.specs.MayStand.{is_next_of};
 ghost use Rattle.ctl_state.specs.Fold.{plan_of, with_started, with_ended, with_cutover, cutover_of};
-ghost use Rattle.ctl_state.specs.Kept.{AreCourses, AreNames, HasRoom};
+ghost use Rattle.ctl_state.specs.Lookups.{AreCourses, AreNames, HasRoom};
 
 use basics::NoMemory;
 use plan_model::{Cutover, Moment, Name, NumberList, Plan};

@@ -1,4 +1,4 @@
-//! Why a record is refused.
+//! Why a record is refused, with the number and the text of each reason.
 ghost use Rattle.std.specs.Prelude.{◌≡◌};
 ghost use Rattle.ctl_state.specs.Refusal.{refusal_number};
 

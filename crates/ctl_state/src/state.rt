@@ -25,7 +25,7 @@ impl Model for CtlState {
 
     ghost Value = { CtlValue };
 
-    ghost use Rattle.ctl_state.specs.Kept.{IsKept};
+    ghost use Rattle.ctl_state.specs.Lookups.{IsKept};
 
     ghost view = { λ s. record {
       plans = s.plans.items;

@@ -1,7 +1,7 @@
 //! What a job is told, what it did, and the controller that a run is given.
 ghost use Rattle.std.specs.Prelude.{◌≡◌, option_map};
 ghost use Rattle.ctl_state.specs.Value.{migration_in};
-ghost use Rattle.ctl_state.specs.Task.{way_of, end_of, task_of};
+ghost use Rattle.ctl_state.specs.Task.{way_of, good_end, task_of};
 
 use crate::{CtlState, How, Migration};
 use edge_traits::Disk;
@@ -62,7 +62,7 @@ impl CtlState {
             way: self.way_of(now, m),
             now,
             restore: m.stored_power().unwrap_or(false),
-            how: m.end_of(),
+            how: m.good_end(),
             place: m.place.unwrap_or(0),
         }
     }
@@ -79,8 +79,8 @@ impl CtlState {
 }
 
 impl Migration {
-    fn end_of(&self) -> How
-        ensures { result ≡ end_of self.now }
+    fn good_end(&self) -> How
+        ensures { result ≡ good_end self.now }
     {
         if self.cancel {
             How::Cancelled

@@ -20,7 +20,7 @@ use Rattle.source_vm.specs.Machine.{MachineState, link_of, may_have_disks}
 use Rattle.fleet.specs.Fleet.{FleetState}
 use Rattle.answers.specs.Answer.{AnswersFor}
 use Rattle.fleet_commands.specs.Machines.{machine_named}
-use Rattle.fleet_commands.specs.Told.{link_told}
+use Rattle.fleet_commands.specs.Refusals.{link_told}
 use Rattle.fleet_commands.specs.commands.Query.{since_refusal, since_reply, page_reply, areas_or_none, query_refusal, query_reply, PageAnswers}
 use Rattle.answers.specs.declared.refusal.Refusal.{Refusal}
 use Rattle.fleet_commands.proofs.Lifting.{refused_as, replied_as}

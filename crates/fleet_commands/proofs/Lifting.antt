@@ -1,8 +1,9 @@
 -- A machine that is taken out of a fleet by its name, changed through a link that nobody shares,
 -- and put back.
-use Rattle.std.proofs.Common.{◌≡◌, ℕ, Bool, true, false, List, [], ◌∷◌, ◌++◌, length, take, Option, Some, None, option_map, option_and_then, IsSomeAnd, refl, ap, ◌∙◌, sym, subst, if◌then◌else◌}
+use Rattle.std.proofs.Common.{◌≡◌, ℕ, Bool, true, false, List, [], ◌∷◌, ◌++◌, Option, Some, None, option_map, option_and_then, IsSomeAnd, refl, ap, ◌∙◌, sym, subst, if◌then◌else◌}
 use Rattle.std.specs.Option.{option_map_or}
 use Rattle.std.proofs.lemmas.Option.{none-some, same_Some, option_and_then_some}
+use Rattle.basics.specs.Prefix.{IsPrefix}
 use Rattle.reply_json.specs.declared.reply.Reply.{Reply}
 use Rattle.reply_json.specs.declared.reply.Reply.TheVariants.{Done}
 use Rattle.log_model.specs.declared.entry.Act.{Act}
@@ -106,7 +107,7 @@ module _ (vm : List ℕ) (m : MachineState) (fleet : FleetState)
 
   -- with a longer log it may go back
   pub longer_may_go_back : (link : LinkState) → link.machine ≡ m.number
-      → link.capacities ≡ m.capacities → take (length m.log) link.seen ≡ m.log
+      → link.capacities ≡ m.capacities → IsPrefix m.log link.seen
       → MayGoBack link (after_lift m.number fleet)
   longer_may_go_back link number_stays sizes_stay longer =
       let v : VmState = vm_here.0 in
@@ -124,7 +125,7 @@ module _ (vm : List ℕ) (m : MachineState) (fleet : FleetState)
       subst (λ (o : Option VmState). IsSomeAnd o (λ w. IsOver w link)) (sym found) (record {
         out = refl;
         capacities = sizes_stay ∙ sizes;
-        log = subst (λ (log : List Entry). take (length log) link.seen ≡ log) entries longer;
+        log = subst (λ (log : List Entry). IsPrefix log link.seen) entries longer;
       })
 
   -- and so after any calls

@@ -26,7 +26,7 @@ use Rattle.log_model.proofs.AnswerPages.{answers_are_areas}
 use Rattle.log_model.proofs.LinkLaws.{adds-alone, met-alone}
 use Rattle.log_model.proofs.OwnedLaws.{owner_of-last}
 use Rattle.source_vm.specs.Machine.{may_have_disks, is_capacity}
-use Rattle.fleet_commands.specs.Told.{link_told}
+use Rattle.fleet_commands.specs.Refusals.{link_told}
 use Rattle.fleet_commands.specs.commands.Query.{areas_or_none}
 use Rattle.fleet_commands.specs.commands.Snapshot.{snap_act}
 

@@ -16,7 +16,7 @@ use Rattle.fleet.specs.Fleet.{FleetState}
 use Rattle.fleet.specs.Lending.{after_lift, after_lower, MayGoBack}
 use Rattle.answers.specs.Answer.{AnswersFor}
 use Rattle.fleet_commands.specs.Machines.{machine_named, entry_of}
-use Rattle.fleet_commands.specs.Told.{link_told}
+use Rattle.fleet_commands.specs.Refusals.{link_told}
 use Rattle.fleet_commands.specs.commands.Snapshot.{snap_act, ids_at, next_snapshot, snapshot_refusal, snapshot_reply, after_snapshot}
 use Rattle.answers.specs.declared.refusal.Refusal.{Refusal}
 use Rattle.fleet_commands.proofs.Lifting.{refused_as, replied_as, longer_may_go_back, goes_back_same, goes_back_after}

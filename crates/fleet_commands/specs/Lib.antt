@@ -1,4 +1,4 @@
-pub mod Told
+pub mod Refusals
 pub mod Machines
 pub mod commands
 pub mod Logs

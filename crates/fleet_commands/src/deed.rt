@@ -8,7 +8,7 @@ ghost use Rattle.answers.specs.Answer.{AnswersFor};
 ghost use Rattle.fleet_commands.specs.commands.Deed.{act_of, refusal_by, deed_refusal, deed_reply, after_deed};
 
 use crate::machines::take_out;
-use crate::told::link_told;
+use crate::refusals::link_told;
 use answers::{Answer, Refusal};
 use basics::{Name, NoMemory};
 use fleet::Fleet;

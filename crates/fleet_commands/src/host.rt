@@ -1,4 +1,4 @@
-//! The command `host`.
+//! The command `host`, with the limit that a host has where the line names none.
 ghost use Rattle.std.specs.Prelude.{◌≡◌, IfOk, IfSome, OnErr};
 ghost use Rattle.basics.specs.Spelled.{IsName};
 ghost use Rattle.basics.specs.declared.limits.TheConstants.{MAX_HOST_LIMIT};
@@ -6,7 +6,7 @@ ghost use Rattle.cmd_json.specs.Range.{IsWithin};
 ghost use Rattle.answers.specs.Answer.{AnswersFor};
 ghost use Rattle.fleet_commands.specs.commands.Host.{host_refusal, host_reply, after_host};
 
-use crate::told::fleet_told;
+use crate::refusals::fleet_told;
 use answers::{Answer, Refusal};
 use basics::{Name, NoMemory};
 use fleet::Fleet;

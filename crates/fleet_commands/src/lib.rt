@@ -9,8 +9,8 @@ mod listing;
 mod machines;
 mod query;
 mod read;
+mod refusals;
 mod snapshot;
-mod told;
 mod vm;
 mod write;
 
@@ -20,7 +20,7 @@ pub use laws::{acts_add_one_entry, texts_ask_for_one};
 pub use listing::run_inventory;
 pub use query::{QueryLine, run_query};
 pub use read::{ReadLine, run_read};
+pub use refusals::link_told;
 pub use snapshot::run_snapshot;
-pub use told::link_told;
 pub use vm::run_vm;
 pub use write::{WriteLine, run_write};

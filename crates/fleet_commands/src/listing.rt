@@ -1,4 +1,4 @@
-//! The command `inventory`.
+//! The command `inventory`: each row of the inventory becomes a line of the reply.
 ghost use Rattle.std.specs.Prelude.{◌≡◌, IfOk, map};
 ghost use Rattle.fleet.specs.Sound.{AllAreIn};
 ghost use Rattle.fleet_commands.specs.commands.Inventory.{host_line, vm_line, inventory_reply};

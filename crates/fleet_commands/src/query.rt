@@ -1,11 +1,12 @@
-//! The command `query`.
+//! The command `query`: it reads the identifier, asks the machine for one page, and tells that in
+//! bytes, as machines count in sectors.
 ghost use Rattle.std.specs.Prelude.{◌≡◌, ◌+◌, ◌≤◌, All, IfOk, OnErr, map, true};
 ghost use Rattle.basics.specs.declared.limits.TheConstants.{MAX_DISK_SECTORS};
 ghost use Rattle.sector_model.specs.Run.{end_of};
 ghost use Rattle.fleet_commands.specs.commands.Query.{AsksSince, QueryAnswers, PageAnswers, area_of, page_reply};
 
 use crate::machines::take_out;
-use crate::told::link_told;
+use crate::refusals::link_told;
 use answers::{Answer, Refusal};
 use basics::{Name, NoMemory, SECTOR_BYTES, Sequence};
 use change_id::{ChangeId, IdRefused, Since, parse};

@@ -1,4 +1,4 @@
-//! The command `read`.
+//! The command `read`: it shows so few sectors that they are read into a buffer of a fixed size.
 ghost use Rattle.std.specs.Prelude.{◌≡◌, IfOk, OnErr, map};
 ghost use Rattle.cmd_json.specs.Range.{IsWithin};
 ghost use Rattle.cmd_json.specs.declared.command.TheConstants.{MAX_READ_SECTORS};
@@ -6,7 +6,7 @@ ghost use Rattle.answers.specs.Answer.{AnswersFor};
 ghost use Rattle.fleet_commands.specs.commands.Read.{read_refusal, read_reply, Reads};
 
 use crate::machines::take_out;
-use crate::told::link_told;
+use crate::refusals::link_told;
 use answers::{Answer, Refusal};
 use basics::{Name, NoMemory, SECTOR_BYTES, Sequence};
 use cmd_json::MAX_READ_SECTORS;

@@ -1,4 +1,5 @@
-//! The command `snapshot`.
+//! The command `snapshot`. The list of identifiers gets its room before the snapshot is taken, so
+//! that want of memory comes before anything has changed.
 ghost use Rattle.std.specs.Prelude.{◌≡◌, ◌+◌, ◌≤◌, [], true, false, IfOk, OnOk, OnErr, length, vec_capacity};
 ghost use Rattle.basics.specs.Refusal.{IsRefusedOr};
 ghost use Rattle.log_model.specs.Legal.{taken};
@@ -9,7 +10,7 @@ ghost use Rattle.answers.specs.Answer.{AnswersFor};
 ghost use Rattle.fleet_commands.specs.commands.Snapshot.{snap_act, ids_at, snapshot_refusal, snapshot_reply, after_snapshot};
 
 use crate::machines::take_out;
-use crate::told::link_told;
+use crate::refusals::link_told;
 use answers::{Answer, Refusal};
 use basics::{MAX_DISKS, Name, NoMemory, Sequence};
 use change_id::ChangeId;

@@ -1,10 +1,10 @@
-//! The command `vm`.
+//! The command `vm`: it adds a machine on a host, and tells the number that it got.
 ghost use Rattle.std.specs.Prelude.{◌≡◌, IfOk, OnErr};
 ghost use Rattle.basics.specs.Spelled.{IsName};
 ghost use Rattle.answers.specs.Answer.{AnswersFor};
 ghost use Rattle.fleet_commands.specs.commands.Vm.{vm_refusal, vm_reply, after_vm};
 
-use crate::told::fleet_told;
+use crate::refusals::fleet_told;
 use answers::{Answer, Refusal};
 use basics::{Name, NoMemory};
 use fleet::Fleet;

@@ -1,11 +1,11 @@
-//! The command `write`.
+//! The command `write`: it makes sectors that are all of one byte, and writes them as a guest does.
 ghost use Rattle.std.specs.Prelude.{◌≡◌, IfOk, OnErr, replicate};
 ghost use Rattle.sector_model.specs.Sector.{filled};
 ghost use Rattle.answers.specs.Answer.{AnswersFor};
 ghost use Rattle.fleet_commands.specs.commands.Write.{write_refusal, write_reply, after_write};
 
 use crate::machines::take_out;
-use crate::told::write_told;
+use crate::refusals::write_told;
 use answers::{Answer, Refusal};
 use basics::{Name, NoMemory};
 use fleet::Fleet;

@@ -17,7 +17,7 @@ use Rattle.log_model.specs.Marks.{reading_of, epoch, counted_after}
 use Rattle.log_model.proofs.OwnedLaws.{taken-append}
 use Rattle.log_facts.specs.declared.disks.IdCount.{IdCount}
 use Rattle.log_facts.specs.declared.disks.DiskFacts.{DiskFacts}
-use Rattle.log_facts.specs.Disks.{count_after, count_of, AreCounts, IsLastReset, IsDisk, AreDisks}
+use Rattle.log_facts.specs.Disks.{count_after, id_count_of, AreCounts, IsLastReset, IsDisk, AreDisks}
 
 -- ---- how far the numbers have come
 
@@ -31,7 +31,7 @@ epoch-last d log e = omega
     (arith, sum_by-append (λ (x : Entry). cond (resets d x.act) 1 0) log (e ∷ []))
 
 count_last : (d : ℕ) (log : List Entry) (e : Entry)
-    → count_after d (count_of d log) e ≡ count_of d (log ++ e ∷ [])
+    → count_after d (id_count_of d log) e ≡ id_count_of d (log ++ e ∷ [])
 count_last d log e =
     let resets_are : cond (resets d e.act) (epoch d log + 1) (epoch d log)
     ≡ epoch d (log ++ e ∷ []) =
@@ -40,11 +40,11 @@ count_last d log e =
     cc
 
 pub count_more : (d : ℕ) (log : List Entry) (i : ℕ) (count : IdCount) (e : Entry) → i < length log
-    → e ≡ get_or log i e → count ≡ count_of d (take i log)
-    → count_after d count e ≡ count_of d (take (i + 1) log)
+    → e ≡ get_or log i e → count ≡ id_count_of d (take i log)
+    → count_after d count e ≡ id_count_of d (take (i + 1) log)
 count_more d log i count e less is at =
     ap (λ (x : IdCount). count_after d x e) at ∙ count_last d (take i log) e
-    ∙ ap (count_of d) (sym (take-next_read log i e less is))
+    ∙ ap (id_count_of d) (sym (take-next_read log i e less is))
 
 -- ---- at each snapshot
 
@@ -56,12 +56,12 @@ counts_front : (d : ℕ) (log : List Entry) (e : Entry) (counts : List IdCount)
     → AreCounts d log counts → (place : ℕ) (x : Entry) → place < length log
     → slice_get (log ++ e ∷ []) place ≡ Some x → is_snap x.act ≡ true
     → slice_get counts (taken (take place (log ++ e ∷ [])))
-    ≡ Some (count_of d (take (place + 1) (log ++ e ∷ [])))
+    ≡ Some (id_count_of d (take (place + 1) (log ++ e ∷ [])))
 counts_front d log e counts are place x less at snaps =
     ap (λ (l : List Entry). slice_get counts (taken l))
     (take-append-le place log (e ∷ []) (omega (arith, less)))
     ∙ are.each place x (read-front log (e ∷ []) place x less at) snaps
-    ∙ ap (λ (l : List Entry). Some (count_of d l))
+    ∙ ap (λ (l : List Entry). Some (id_count_of d l))
     (sym (take-append-le (place + 1) log (e ∷ []) (omega (arith, less))))
 
 at_end : (log : List Entry) (e x : Entry) (place : ℕ) → length log ≤ place
@@ -76,7 +76,7 @@ is_last log e x place past at =
 
 pub counts_pushed : (d : ℕ) (log : List Entry) (e : Entry) (counts : List IdCount) (count : IdCount)
     → is_snap e.act ≡ true
-    → count ≡ count_of d (log ++ e ∷ []) → AreCounts d log counts
+    → count ≡ id_count_of d (log ++ e ∷ []) → AreCounts d log counts
     → AreCounts d (log ++ e ∷ []) (counts ++ count ∷ [])
 counts_pushed d log e counts count snap is are = record {
   one_each = omega (
@@ -100,7 +100,7 @@ counts_pushed d log e counts count snap is are = record {
         take_all (place + 1) (log ++ e ∷ []) (omega (arith, length_push log e, here)) in
         ap (λ (l : List Entry). slice_get (counts ++ count ∷ []) (taken l)) front
         ∙ ap (slice_get (counts ++ count ∷ [])) (sym are.one_each) ∙ slice_get-last counts count
-        ∙ ap Some is ∙ ap (λ (l : List Entry). Some (count_of d l)) (sym whole)
+        ∙ ap Some is ∙ ap (λ (l : List Entry). Some (id_count_of d l)) (sym whole)
   ];
 }
 

@@ -23,12 +23,12 @@ use Rattle.log_model.proofs.Readings.{snap-takes}
 use Rattle.log_model.proofs.SnapMarks.{snaps_have_their_marks, each_was_taken}
 use Rattle.ctl_state.specs.Asks.{IsItsSnapshot, is_removed}
 use Rattle.log_facts.specs.declared.disks.IdCount.{IdCount}
-use Rattle.log_facts.specs.Disks.{AreCounts, count_of}
+use Rattle.log_facts.specs.Disks.{AreCounts, id_count_of}
 
 -- what stands at a snapshot's number
 pub count_is : (disks : Disks) (d snap : ℕ) (log : List Entry) (counts : List IdCount)
     (count : IdCount) → Legal disks log → AreCounts d log counts
-    → 1 ≤ snap → slice_get counts (snap - 1) ≡ Some count → count ≡ count_of d (through snap log)
+    → 1 ≤ snap → slice_get counts (snap - 1) ≡ Some count → count ≡ id_count_of d (through snap log)
 count_is disks d snap log counts count legal are from at =
     let upto : snap ≤ taken log =
     omega (arith, from, slice_get_within counts (snap - 1) count at, are.one_each) in
@@ -36,7 +36,7 @@ count_is disks d snap log counts count legal are from at =
     let takes_it : takes snap here.0.act ≡ true = takes-at_mark takes_in snap log here.0 here.1 in
     let its = snaps_have_their_marks disks log snap (mark snap log) here.0 legal here.1 takes_it in
     let number : snap - 1 ≡ taken (take (mark snap log) log) = omega (arith, its.next) in
-    same_Some count (count_of d (through snap log)) (sym at ∙ ap (slice_get counts) number
+    same_Some count (id_count_of d (through snap log)) (sym at ∙ ap (slice_get counts) number
     ∙ are.each (mark snap log) here.0 here.1 (snap-takes snap here.0.act takes_it))
 
 -- the power-off place of a snapshot is that of the entries before its mark

@@ -21,7 +21,6 @@ use Rattle.sector_model.proofs.Among.{in_set}
 use Rattle.log_model.specs.declared.entry.Entry.{Entry}
 use Rattle.log_model.specs.Entry.{write_to, writes_of}
 use Rattle.log_model.proofs.TouchedLaws.{writes-append}
-use Rattle.log_facts.specs.Stages.{is_touched_by}
 
 -- ---- the blocks that a run meets
 
@@ -85,7 +84,7 @@ touched_one b (Some w) = or-false (touches b w)
 
 touched_last : (d b : ℕ) (log : List Entry) (e : Entry)
     → list_any (touches b) (writes_of d (log ++ e ∷ []))
-    ≡ (list_any (touches b) (writes_of d log) || is_touched_by d b e)
+    ≡ (list_any (touches b) (writes_of d log) || option_map_or (touches b) (write_to d e.act) false)
 touched_last d b log e =
     ap (list_any (touches b)) (writes-append d log (e ∷ []))
     ∙ list_any-append (touches b) (writes_of d log) (writes_of d (e ∷ []))
@@ -94,12 +93,12 @@ touched_last d b log e =
 pub touched_more : (c d b i : ℕ) (entries : List Entry) (e : Entry) (old new : Bool)
     → i < length entries → e ≡ get_or entries i e
     → old ≡ (ltb b (block_count c) && list_any (touches b) (writes_of d (take i entries)))
-    → new ≡ (old || (ltb b (block_count c) && is_touched_by d b e))
+    → new ≡ (old || (ltb b (block_count c) && option_map_or (touches b) (write_to d e.act) false))
     → new ≡ (ltb b (block_count c) && list_any (touches b) (writes_of d (take (i + 1) entries)))
 touched_more c d b i entries e old new less is was put =
-    put ∙ ap (λ x. x || (ltb b (block_count c) && is_touched_by d b e)) was
+    put ∙ ap (λ x. x || (ltb b (block_count c) && option_map_or (touches b) (write_to d e.act) false)) was
     ∙ and_or (ltb b (block_count c)) (list_any (touches b) (writes_of d (take i entries)))
-    (is_touched_by d b e)
+    (option_map_or (touches b) (write_to d e.act) false)
     ∙ ap (λ x. ltb b (block_count c) && x) (sym (touched_last d b (take i entries) e))
     ∙ ap (λ (l : List Entry). ltb b (block_count c) && list_any (touches b) (writes_of d l))
     (sym (take-next_read entries i e less is))

@@ -19,19 +19,19 @@ count_after disk count e = record {
 }
 
 -- behind all entries of a log
-abbrev pub count_of : (disk : ℕ) → List Entry → IdCount
-count_of disk log = record { resets = epoch disk log; counted = counted disk log }
+abbrev pub id_count_of : (disk : ℕ) → List Entry → IdCount
+id_count_of disk log = record { resets = epoch disk log; counted = counted disk log }
 
 -- the identifier that is in force
-abbrev pub id_of : (machine disk : ℕ) → IdCount → Option ChangeId
-id_of machine disk count =
+abbrev pub id_in_force : (machine disk : ℕ) → IdCount → Option ChangeId
+id_in_force machine disk count =
     counted_id (packed machine disk count.resets) (unwrap_or count.counted 0)
 
 -- they had come so far at the snapshots, in their order
 pub record AreCounts (disk : ℕ) (log : List Entry) (counts : List IdCount) : Type 0 where
   pub one_each : length counts ≡ taken log
   pub each : (place : ℕ) (e : Entry) → slice_get log place ≡ Some e → is_snap e.act ≡ true
-      → slice_get counts (taken (take place log)) ≡ Some (count_of disk (take (place + 1) log))
+      → slice_get counts (taken (take place log)) ≡ Some (id_count_of disk (take (place + 1) log))
 
 -- the last place is that one or a later one
 abbrev pub reaches : (place : ℕ) → (last : Option ℕ) → Bool

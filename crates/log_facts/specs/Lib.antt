@@ -1,5 +1,4 @@
 pub mod Places
 pub mod Snapshots
 pub mod Disks
-pub mod Stages
 pub mod LogFacts

@@ -1,6 +1,6 @@
 //! What a log says of the tracking of each disk.
 ghost use Rattle.std.specs.Prelude.{◌≡◌, ◌+◌, ◌<◌, ◌≤◌, ◌^◌, length, unwrap_or, IfOk};
-ghost use Rattle.log_facts.specs.Disks.{count_after, id_of, reaches, IsDisk, AreDisks};
+ghost use Rattle.log_facts.specs.Disks.{count_after, id_in_force, reaches, IsDisk, AreDisks};
 
 use basics::NoMemory;
 use change_id::{ChangeId, counted_id, pack};
@@ -67,7 +67,7 @@ impl IdCount {
 
     /// The identifier that is in force.
     pub fn id(self, machine: u32, disk: u32) -> Option<ChangeId>
-        ensures { result ≡ id_of machine disk self }
+        ensures { result ≡ id_in_force machine disk self }
     {
         let uuid = pack(machine, disk, u64::from(self.resets));
         counted_id(uuid, u64::from(self.counted.unwrap_or(0)))

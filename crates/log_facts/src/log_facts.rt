@@ -10,7 +10,7 @@ ghost use Rattle.log_model.specs.Marks.{tracking, through, id_at};
 ghost use Rattle.log_model.specs.Frozen.{off_place};
 ghost use Rattle.ctl_state.specs.Migration.{same_phase};
 ghost use Rattle.ctl_state.specs.Asks.{IsItsSnapshot, AreIdsAt, HasStageWritten, WasResetFrom, RecordAsks, SnapshotAsks, is_removed, is_removing, meets_volumes, may_lack};
-ghost use Rattle.log_facts.specs.Disks.{count_of};
+ghost use Rattle.log_facts.specs.Disks.{id_count_of};
 
 use crate::disks::{DiskFacts, IdCount, disks_of};
 use crate::places::{PlaceFacts, places_of};
@@ -210,7 +210,7 @@ impl LogFacts {
 
     /// How far the numbers of the disk's identifiers had come at a snapshot, if there are both.
     fn count_at(&self, disk: u32, snap: u32) -> Option<IdCount>
-        ensures { IfSome result (λ count. count ≡ count_of disk (through snap self.now.log)) }
+        ensures { IfSome result (λ count. count ≡ id_count_of disk (through snap self.now.log)) }
     {
         let index = (snap as usize).checked_sub(1)?;
         let facts = self.disks.get(disk as usize)?;

@@ -1,11 +1,11 @@
 //! How many sectors of a disk may differ between two places of a log.
-ghost use Rattle.std.specs.Prelude.{◌≡◌, ◌+◌, ◌*◌, ◌<◌, ◌≤◌, ◌&&◌, ◌||◌, ◌^◌, ℕ, nat_lt, length, IfOk, OnOk};
+ghost use Rattle.std.specs.Prelude.{◌≡◌, ◌+◌, ◌*◌, ◌<◌, ◌≤◌, ◌&&◌, ◌||◌, ◌^◌, ℕ, false, nat_lt, length, IfOk, OnOk};
 ghost use Rattle.std.specs.BTreeSet.{contains, IsOrdered};
+ghost use Rattle.std.specs.Option.{option_map_or};
 ghost use Rattle.std.specs.Ordering.{nat_cmp};
-ghost use Rattle.sector_model.specs.Run.{meets, block_count, areas_of, touched_blocks};
-ghost use Rattle.log_model.specs.Entry.{writes_of};
+ghost use Rattle.sector_model.specs.Run.{meets, touches, block_count, areas_of, touched_blocks};
+ghost use Rattle.log_model.specs.Entry.{write_to, writes_of};
 ghost use Rattle.ctl_state.specs.Asks.{changed_sectors};
-ghost use Rattle.log_facts.specs.Stages.{is_touched_by};
 
 use basics::NoMemory;
 use log_model::{Act, Entry, between};
@@ -73,7 +73,8 @@ fn touch(
 ) -> Result<(), NoMemory>
     ensures { OnOk result ((block : ℕ) → contains nat_cmp blocks.new block
         ≡ (contains nat_cmp blocks.old block
-        || (nat_lt block (block_count capacity) && is_touched_by disk block entry.now))) }
+        || (nat_lt block (block_count capacity)
+        && option_map_or (touches block) (write_to disk entry.now.act) false))) }
 {
     match &entry.act {
         Act::Write {

@@ -1,4 +1,4 @@
-//! Standard input as a source.
+//! Standard input as a source, which counts each error of the reader as a fault.
 ghost use Rattle.std.specs.Prelude.{◌≡◌};
 
 use edge_traits::{Failed, Source};

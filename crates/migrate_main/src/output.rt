@@ -1,4 +1,4 @@
-//! Standard output as a sink.
+//! Standard output as a sink: what is put is written whole and flushed, or the call has failed.
 ghost use Rattle.std.specs.Prelude.{◌≡◌, OnOk, OnErr};
 ghost use Rattle.std.specs.Io.KnownBytes.{Appends};
 ghost use Rattle.edge_traits.specs.Sink.{AppendsPrefix};

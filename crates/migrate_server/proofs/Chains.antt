@@ -1,10 +1,11 @@
 -- Runs one after another: what a crash may leave of the journal's disk behind a run is what the
 -- next run may find.
-use Rattle.std.proofs.Common.{◌≡◌, ℕ, ◌≤◌, true, List, [], ◌∷◌, ◌++◌, length, take, Option, Some, None, inl, inr, refl, sym, ap, subst, ◌∙◌, arith}
+use Rattle.std.proofs.Common.{◌≡◌, ℕ, ◌≤◌, true, List, [], ◌∷◌, length, Option, Some, None, inl, inr, refl, sym, ap, subst, ◌∙◌}
 use Rattle.std.specs.Prelude.{IfSome, IsSome, IsTrue}
 use Rattle.std.specs.List.{AllByRecursion}
 use Rattle.std.proofs.lemmas.Bool.{false≢true}
-use Rattle.std.proofs.lemmas.List.{take-append-le, length-take}
+use Rattle.basics.specs.Prefix.{IsPrefix}
+use Rattle.basics.proofs.Prefix.{prefix-append}
 use Rattle.edge_traits.specs.Disk.{DiskContents, DiskState, IsImage, WhereTold, settled}
 use Rattle.edge_traits.proofs.Images.{settled_image}
 use Rattle.fleet.specs.Fleet.{FleetState}
@@ -26,7 +27,7 @@ use Rattle.restart.specs.Reopening.{SaysWhy, IsFoundStrange}
 use Rattle.restart.specs.Standing.{AreTaken}
 use Rattle.restart.specs.declared.refusal.ReopenRefused.{ReopenRefused}
 use Rattle.restart.specs.declared.refusal.ReopenRefused.TheVariants.{Journal, Strange, NoMemory}
-use Rattle.migrate_server.specs.Runs.{HoldsTogether, GoesOnFrom, ServesTogether, IsUnopened, Runs, FreshHoldsTogether, UnopenedHoldTogether, ServedHoldTogether, RunsFindOne, CrashesHoldTogether, NoneIsStrange, FleetAgrees, status_unopened}
+use Rattle.migrate_server.specs.Runs.{HoldsTogether, BeginsWithOne, ServesTogether, IsUnopened, Runs, FreshHoldsTogether, UnopenedHoldTogether, ServedHoldTogether, RunsFindOne, CrashesHoldTogether, NoneIsStrange, FleetAgrees, status_unopened}
 use Rattle.migrate_server.specs.Serve.{WouldBeTaken}
 use Rattle.migrate_server.specs.World.{World, with_journal}
 use Rattle.migrate_server.specs.declared.status.Status.{Status}
@@ -63,19 +64,12 @@ told (Some x) P Q is h then = then x h
 
 -- ---- what was found goes on
 
-longer : (found records : List Record) (r : Record) → take (length found) records ≡ found
-    → take (length found) (records ++ r ∷ []) ≡ found
-longer found records r is =
-    let long : length found ≤ length records =
-    let e = ap length is in let s = length-take (length found) records in omega (arith, e, s) in
-    take-append-le (length found) records (r ∷ []) long ∙ is
-
 all_go_on : (lists : List (List Record)) (found records : List Record) (failure : Option Failure)
-    → IsOneOf found lists → take (length found) records ≡ found
-    → AllByRecursion (GoesOnFrom lists) (records ∷ with_refused records failure)
+    → IsOneOf found lists → IsPrefix found records
+    → AllByRecursion (BeginsWithOne lists) (records ∷ with_refused records failure)
 all_go_on lists found records None its is = ((found, its, is), tt)
 all_go_on lists found records (Some failure) its is =
-    ((found, its, is), ((found, its, longer found records failure.refused is), tt))
+    ((found, its, is), ((found, its, prefix-append found records (failure.refused ∷ []) is), tt))
 
 pub runs_find_one : RunsFindOne
 runs_find_one lists old new status h tells s = told old.disk.contents

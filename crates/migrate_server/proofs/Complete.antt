@@ -34,7 +34,7 @@ use Rattle.fleet.specs.Refusals.{add_host_refusal, add_vm_refusal}
 use Rattle.fleet.specs.declared.refusals.FleetRefused.{FleetRefused}
 use Rattle.fleet.specs.declared.refusals.FleetRefused.TheVariants as refused
 use Rattle.fleet_commands.specs.Machines.{machine_named}
-use Rattle.fleet_commands.specs.Told.{fleet_told, link_told, write_told}
+use Rattle.fleet_commands.specs.Refusals.{fleet_told, link_told, write_told}
 use Rattle.fleet_commands.specs.commands.Deed.{refusal_by, deed_refusal}
 use Rattle.fleet_commands.specs.commands.Query.{since_refusal}
 use Rattle.fleet_commands.specs.commands.Read.{refusal_at as refusal_at_read}

@@ -1,16 +1,15 @@
 -- The fleet and the records go on with each command, and so with a session.
-use Rattle.std.proofs.Common.{◌≡◌, ℕ, ◌≤◌, false, List, [], ◌∷◌, ◌++◌, length, take, Option, Some, None, refl, sym, ap, subst, ◌∙◌, arith}
+use Rattle.std.proofs.Common.{◌≡◌, ℕ, false, List, [], ◌∷◌, ◌++◌, Option, Some, None, refl, ap, subst, ◌∙◌}
 use Rattle.std.specs.Prelude.{unwrap_or}
 use Rattle.std.specs.Option.{option_map_or}
-use Rattle.std.proofs.Math.Seq.{take-length}
-use Rattle.std.proofs.lemmas.List.{length-take, take-take, take_at}
 use Rattle.std.proofs.lemmas.Option.{slice_get_within}
+use Rattle.basics.specs.Prefix.{IsPrefix}
 use Rattle.basics.proofs.ItemAt.{slice_get-front}
+use Rattle.basics.proofs.Prefix.{prefix-self, prefix-appended, prefix-trans}
 use Rattle.cmd_json.specs.declared.command.Command.{Command}
 use Rattle.cmd_json.specs.declared.command.Command.TheVariants.{Host, Vm, Enable, Write, Snapshot, Remove, Power, Reset, Plan, Start, Cutover}
 use Rattle.log_model.specs.declared.entry.Act.{Act}
 use Rattle.log_model.specs.declared.entry.Entry.{Entry}
-use Rattle.log_model.proofs.LinkLaws.{prefix-join}
 use Rattle.source_vm.specs.Machine.{MachineState}
 use Rattle.fleet.specs.Fleet.{HostState, VmState, FleetState, host_place, with_vm, with_log, VmGoesOn, FleetGoesOn}
 use Rattle.fleet.specs.Laws.{GoesOnFurther, HostsGoOn, VmsGoOn}
@@ -24,7 +23,6 @@ use Rattle.fleet_commands.specs.commands.Write.{fill_act}
 use Rattle.fleet_commands.specs.declared.deed.Deed.TheVariants as deed
 use Rattle.fleet_commands.specs.declared.host.TheConstants.{DEFAULT_HOST_LIMIT}
 use Rattle.fleet_commands.proofs.Lifting.{vm_here}
-use Rattle.record_codec.specs.declared.record.Record.{Record}
 use Rattle.migrate_server.specs.Session.{State, power_deed, records_of, state_after, Session}
 use Rattle.migrate_server.proofs.EachCommand.{session_keeps}
 
@@ -36,17 +34,12 @@ vm_further first second third p q = record {
   name = q.name ∙ p.name;
   host = q.host ∙ p.host;
   capacities = q.capacities ∙ p.capacities;
-  log = prefix-join first.log second.log third.log p.log q.log;
+  log = prefix-trans first.log second.log third.log p.log q.log;
 }
 
 goes_on_further : GoesOnFurther
 goes_on_further first second third p q = record {
-  hosts =
-      let count = length first.hosts in
-      let fits : count ≤ length second.hosts =
-      omega (arith, ap length p.hosts, length-take count second.hosts) in
-      sym (take-take count (length second.hosts) third.hosts fits)
-      ∙ ap (take count) q.hosts ∙ p.hosts;
+  hosts = prefix-trans first.hosts second.hosts third.hosts p.hosts q.hosts;
   vms = λ place vm at.
       let mid = p.vms place vm at in
       let last = q.vms place mid.0 mid.1 in
@@ -57,14 +50,14 @@ hosts_go_on : HostsGoOn
 hosts_go_on name limit fleet = record {
   hosts =
       let added : HostState = record { name = name; limit = limit } in
-      take_at fleet.hosts (added ∷ []) (length fleet.hosts) refl;
+      prefix-appended fleet.hosts (added ∷ []);
   vms = (goes_on_itself fleet).vms;
 }
 
 added_goes_on : (added : VmState) (fleet : FleetState)
     → FleetGoesOn fleet (record fleet { vms = fleet.vms ++ added ∷ [] })
 added_goes_on added fleet = record {
-  hosts = take-length fleet.hosts;
+  hosts = prefix-self fleet.hosts;
   vms = λ place vm at.
       let front = slice_get-front fleet.vms (added ∷ []) place
       (slice_get_within fleet.vms place vm at) in
@@ -97,10 +90,10 @@ acts_go_on vm act fleet = by (machine_named vm fleet) refl
         let v : VmState = here.0 in
         let log : List Entry = m.log ++ entry_of (act m.log) ∷ [] in
         let same : m.log ≡ v.log = ap (λ (x : MachineState). x.log) here.1.same in
-        let longer : take (length m.log) log ≡ m.log =
-        take_at m.log (entry_of (act m.log) ∷ []) (length m.log) refl in
+        let longer : IsPrefix m.log log =
+        prefix-appended m.log (entry_of (act m.log) ∷ []) in
         logs_go_on m.number log v fleet here.1.there
-        (subst (λ (l : List Entry). take (length l) log ≡ l) same longer)
+        (subst (λ (l : List Entry). IsPrefix l log) same longer)
 
 -- ---- commands
 
@@ -124,29 +117,16 @@ session_goes_on old new lines answers h =
 
 -- ---- the records
 
-abbrev pub GoOn : (old new : List Record) → Type 0
-GoOn old new = take (length old) new ≡ old
-
-pub added_go_on : (records added : List Record) → GoOn records (records ++ added)
-added_go_on records added = take_at records added (length records) refl
-
-records_then : (command : Command) (s : State) → GoOn s.records (state_after command s).records
+records_then : (command : Command) (s : State)
+    → IsPrefix s.records (state_after command s).records
 records_then (Plan name vms interval) s =
-    added_go_on s.records (records_of (Plan name vms interval) s)
-records_then (Start plan) s = added_go_on s.records (records_of (Start plan) s)
-records_then (Cutover plan at) s = added_go_on s.records (records_of (Cutover plan at) s)
-records_then _ s = take-length s.records
-
-pub records_go_further : (first second third : List Record) → GoOn first second
-    → GoOn second third → GoOn first third
-records_go_further first second third h k =
-    let fits : length first ≤ length second =
-    omega (arith, ap length h, length-take (length first) second) in
-    sym (take-take (length first) (length second) third fits)
-    ∙ ap (take (length first)) k ∙ h
+    prefix-appended s.records (records_of (Plan name vms interval) s)
+records_then (Start plan) s = prefix-appended s.records (records_of (Start plan) s)
+records_then (Cutover plan at) s = prefix-appended s.records (records_of (Cutover plan at) s)
+records_then _ s = prefix-self s.records
 
 pub session_keeps_records : (old new : State) (lines : List (List ℕ)) (answers : List Answer)
-    → Session old lines answers new → GoOn old.records new.records
+    → Session old lines answers new → IsPrefix old.records new.records
 session_keeps_records old new lines answers h =
-    session_keeps (λ (s : State). s.records) GoOn take-length records_go_further records_then
+    session_keeps (λ (s : State). s.records) IsPrefix prefix-self prefix-trans records_then
     (λ a b same. same.records) old new lines answers h

@@ -24,7 +24,7 @@ use Rattle.fleet.proofs.Logs.{is_within, log_is_found, others_stay}
 use Rattle.answers.specs.declared.refusal.Refusal.{Refusal}
 use Rattle.answers.specs.declared.refusal.Refusal.TheVariants.{UnknownVm}
 use Rattle.fleet_commands.specs.Machines.{machine_named, entry_of, after_act}
-use Rattle.fleet_commands.specs.Told.{link_told}
+use Rattle.fleet_commands.specs.Refusals.{link_told}
 use Rattle.fleet_commands.specs.commands.Deed.{act_of}
 use Rattle.fleet_commands.specs.commands.Snapshot.{snap_act}
 use Rattle.fleet_commands.specs.commands.Write.{fill_act}

@@ -5,12 +5,13 @@ use Rattle.std.proofs.KnownBytes.{Appends-nil, Appends-trans, Consumes-nil, Cons
 use Rattle.std.proofs.lemmas.Bool.{false≢true, true≢false, false_from_ne_true, and_left, eqb-true, lt-leb, le-leb}
 use Rattle.std.specs.List.{flat_map, list_all}
 use Rattle.std.specs.Io.KnownBytes.{Appends, Consumes, IsAtEnd}
-use Rattle.std.proofs.Math.Seq.{take-length}
 use Rattle.std.proofs.lemmas.List.{append-nil, length-append, take-append-drop, take_at}
 use Rattle.std.proofs.lemmas.List.Elements.{filter-append, All-head, All-tail, All-cons, All-append, All-take}
 use Rattle.std.proofs.lemmas.List.Sums.{sum_by-append, sum_by-cons}
 use Rattle.std.proofs.lemmas.Grind.{flat_map-append}
 use Rattle.basics.specs.Faults.{Rose, HasRisen}
+use Rattle.basics.specs.Prefix.{IsPrefix}
+use Rattle.basics.proofs.Prefix.{prefix-self, prefix-appended, prefix-trans}
 use Rattle.edge_traits.specs.Source.{SourceState}
 use Rattle.fleet.specs.Fleet.{FleetGoesOn}
 use Rattle.fleet.specs.Sound.{AllAreIn}
@@ -51,7 +52,7 @@ use Rattle.migrate_server.specs.Serves.{Serves, TakesFor, NoneQuits, QuitsLast, 
 use Rattle.migrate_server.specs.Session.{State, state_of, serving, LineIsCut, Session, Step}
 use Rattle.migrate_server.specs.World.{Server, Desk}
 use Rattle.migrate_server.proofs.Complete.{all_still, session_complete, session_sound, no_volume}
-use Rattle.migrate_server.proofs.GoingOn.{GoOn, added_go_on, records_go_further, session_goes_on, session_keeps_records}
+use Rattle.migrate_server.proofs.GoingOn.{session_goes_on, session_keeps_records}
 use Rattle.migrate_server.proofs.LogsAfter.{session_log, session_in}
 use Rattle.migrate_server.proofs.Meanings.{means_one}
 
@@ -534,13 +535,14 @@ progress_line old now after reader reader_after buffer p t serves goes =
 record AddsRecords (mid new : State) : Type 0 where
   pub fleet : new.fleet ≡ mid.fleet
   pub store : new.store ≡ mid.store
-  pub records : GoOn mid.records new.records
+  pub records : IsPrefix mid.records new.records
 
 adds_none : (mid new : State) → new ≡ mid → AddsRecords mid new
 adds_none mid new same = record {
   fleet = ap (λ (s : State). s.fleet) same;
   store = ap (λ (s : State). s.store) same;
-  records = subst (λ (s : State). GoOn mid.records s.records) (sym same) (take-length mid.records);
+  records = subst (λ (s : State). IsPrefix mid.records s.records) (sym same)
+      (prefix-self mid.records);
 }
 
 adds_front : (line : List ℕ) (left : List Record) (mid new : State) → LineIsCut line left mid new
@@ -548,8 +550,8 @@ adds_front : (line : List ℕ) (left : List Record) (mid new : State) → LineIs
 adds_front line left mid new h = record {
   fleet = ap (λ (s : State). s.fleet) h.cut.kept;
   store = ap (λ (s : State). s.store) h.cut.kept;
-  records = subst (λ (s : State). GoOn mid.records s.records) (sym h.cut.kept)
-      (added_go_on mid.records h.cut.front);
+  records = subst (λ (s : State). IsPrefix mid.records s.records) (sym h.cut.kept)
+      (prefix-appended mid.records h.cut.front);
 }
 
 adds_next : (more : List (List ℕ)) (left : List Record) (mid new : State)
@@ -614,7 +616,7 @@ serves_by old new status f =
           (session_goes_on start f.mid lines f.replies f.session);
       all_in = λ are. subst AllAreIn (sym adds.fleet)
           (session_in start f.mid lines f.replies f.session are);
-      kept = records_go_further old.server.journal.records f.mid.records
+      kept = prefix-trans old.server.journal.records f.mid.records
           new.server.journal.records
           (session_keeps_records start f.mid lines f.replies f.session) adds.records;
       no_volume = λ sound. no_volume start f.mid lines f.replies f.session sound;

@@ -2,8 +2,9 @@
 -- lines over it; or the controller isn't opened, and no line is served. What stands on that disk at
 -- the end of a run is what the next one needs of it, so that a chain of runs, with a crash behind
 -- any of them, is one induction.
-use Rattle.std.specs.Prelude.{◌≡◌, ◌⊎◌, ℕ, ◌≤◌, List, [], ◌∷◌, length, take, None, IsSome, IfSome}
+use Rattle.std.specs.Prelude.{◌≡◌, ◌⊎◌, ℕ, ◌≤◌, List, [], ◌∷◌, length, None, IsSome, IfSome}
 use Rattle.std.specs.List.{AllByRecursion}
+use Rattle.basics.specs.Prefix.{IsPrefix}
 use Rattle.edge_traits.specs.Disk.{IsCrashOf, settled}
 use Rattle.journal.specs.Journal.{JournalState, IsKept, LeavesOneOf, outcomes}
 use Rattle.journal.specs.Laws.{IsOneOf}
@@ -88,9 +89,9 @@ FreshHoldsTogether = (world : World)
     → HoldsTogether ([] ∷ []) world
 
 -- the records begin with one of these lists
-abbrev pub GoesOnFrom : List (List Record) → List Record → Type 0
-GoesOnFrom lists records = (found : List Record)
-    × IsOneOf found lists × (take (length found) records ≡ found)
+abbrev pub BeginsWithOne : List (List Record) → List Record → Type 0
+BeginsWithOne lists records = (found : List Record)
+    × IsOneOf found lists × IsPrefix found records
 
 -- a run whose controller isn't opened leaves a world that holds together with the same lists
 abbrev pub UnopenedHoldTogether : Type 0
@@ -103,7 +104,7 @@ pub record ServesTogether (lists : List (List Record)) (old new : World) (status
     (s : IsServed old new status) : Type 0 where
   pub together : HoldsTogether (outcomes s.closes.closed) new
   pub go_on : IsSome old.disk.contents
-      → AllByRecursion (GoesOnFrom lists) (outcomes s.closes.closed)
+      → AllByRecursion (BeginsWithOne lists) (outcomes s.closes.closed)
 
 abbrev pub ServedHoldTogether : Type 0
 ServedHoldTogether = (lists : List (List Record)) (old new : World) (status : Status)

@@ -5,6 +5,7 @@
 use Rattle.std.specs.Prelude.{◌≡◌, ◌≢◌, ◌⊎◌, ℕ, ◌+◌, ◌<◌, ◌≤◌, All, List, [], ◌∷◌, ◌++◌, ◌-◌, length, take, drop, Option, Err, Some, None, IfSome, IsSome, IsTrue}
 use Rattle.std.specs.List.{flat_map}
 use Rattle.std.specs.Io.KnownBytes.{Appends, Consumes, IsAtEnd}
+use Rattle.basics.specs.Prefix.{IsPrefix}
 use Rattle.fleet.specs.Fleet.{FleetGoesOn}
 use Rattle.fleet.specs.Sound.{AllAreIn}
 use Rattle.answers.specs.Answer.{Answer, answer_line}
@@ -139,8 +140,7 @@ pub record Serves (old new : Desk) (status : Status) : Type 0 where
   pub goes_on : FleetGoesOn old.server.fleet new.server.fleet
   pub all_in : AllAreIn old.server.fleet → AllAreIn new.server.fleet
   -- no record is lost
-  pub kept : take (length old.server.journal.records) new.server.journal.records
-      ≡ old.server.journal.records
+  pub kept : IsPrefix old.server.journal.records new.server.journal.records
   pub no_volume : IsTrue old.server.store.sound → All (λ reply. reply ≢ Err Volume) replies
   -- the bytes that were written, and those that were not
   pub written : List ℕ

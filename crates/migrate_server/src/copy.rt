@@ -1,4 +1,5 @@
-//! A full copy of a disk to a volume.
+//! A full copy of a disk to a volume: what the disk has allocated is written, the rest is zeroed,
+//! and each sector is written once.
 ghost use Rattle.std.specs.Prelude.{◌≡◌, ◌+◌, ◌-◌, ◌≤◌, ◌<◌, ℕ, true, false, length, All, OnOk, OnErr, min};
 ghost use Rattle.sector_model.specs.Run.{end_of, in_runs, AreSpaced};
 ghost use Rattle.migrate_server.specs.Copy.{after_copy, CopyFails};

@@ -10,7 +10,7 @@ use Rattle.record_codec.specs.declared.record.Record.TheVariants.{CutoverSet}
 use Rattle.ctl_state.specs.declared.plans.PlanCourse.{PlanCourse}
 use Rattle.ctl_state.specs.Value.{CtlValue, course_in, plan_named}
 use Rattle.record_keeping.specs.Keeping.{MayBeKept}
-use Rattle.record_keeping.proofs.Kept.{one_may}
+use Rattle.record_keeping.proofs.KeepLemmas.{one_may}
 use Rattle.plan_commands.specs.Laws.{CutoversMayBeKept}
 use Rattle.plan_commands.specs.commands.Cutover.{course_refusal, cutover_refusal_of, seconds_of}
 

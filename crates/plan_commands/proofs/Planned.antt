@@ -6,9 +6,11 @@ use Rattle.std.specs.Option.{option_or}
 use Rattle.std.proofs.lemmas.Bool.{eqb-true, eqb-false, eq-eqb, ne_eqb, false≢true}
 use Rattle.std.proofs.lemmas.List.{length-map}
 use Rattle.std.proofs.lemmas.List.Elements.{All-from_recursion, recursion_from_All}
+use Rattle.std.proofs.lemmas.List.Folds.{list_any_none}
 use Rattle.std.proofs.lemmas.Map.Steps.{length-le_from_distinct_below}
 use Rattle.std.proofs.lemmas.Option.{none-some, slice_get_within, get_or_from_slice_get}
 use Rattle.basics.specs.declared.limits.TheConstants.{MAX_INTERVAL}
+use Rattle.basics.proofs.Each.{each}
 use Rattle.cmd_json.specs.Range.{IsWithin}
 use Rattle.answers.specs.declared.refusal.Refusal.TheVariants as told
 use Rattle.log_model.specs.Link.{is_active}
@@ -23,7 +25,7 @@ use Rattle.plan_model.specs.Plans.{plan_refusal as model_refusal, is_taken, is_d
 use Rattle.plan_model.proofs.Accepted.{accepted_is_possible, accepted_machines_differ}
 use Rattle.ctl_state.specs.Value.{CtlValue, is_at_work, is_listed}
 use Rattle.ctl_state.specs.MayStand.{has_double, record_may_stand}
-use Rattle.record_keeping.proofs.Kept.{one_may}
+use Rattle.record_keeping.proofs.KeepLemmas.{one_may}
 use Rattle.plan_commands.specs.Laws.{PlansMayBeKept, PlansListTracked}
 use Rattle.plan_commands.specs.Machines.{known_of}
 use Rattle.plan_commands.specs.commands.Plan.{plan_told, plan_refusal, made_by}
@@ -101,10 +103,11 @@ listed_within fleet v (other ∷ vms) vm idle h =
 
 unlisted : (vm : ℕ) (vms : List ℕ) → AllByRecursion (λ other. (vm == other) ≡ false) vms
     → is_listed vms vm ≡ false
-unlisted vm [] h = refl
-unlisted vm (other ∷ vms) h =
-    ap (λ b. b || is_listed vms vm) (ne_eqb other vm (λ same. eqb-false vm other h.0 (sym same)))
-    ∙ unlisted vm vms h.1
+unlisted vm vms h =
+    list_any_none (λ other. other == vm) vms
+    (All-from_recursion (λ other. (other == vm) ≡ false) vms
+    (each {P = λ other. (vm == other) ≡ false} {Q = λ other. (other == vm) ≡ false}
+    (λ other apart. ne_eqb other vm (λ same. eqb-false vm other apart (sym same))) vms h))
 
 none_doubled : (vms : List ℕ) → IsDistinct ◌==◌ vms → has_double vms ≡ false
 unfolding IsDistinct

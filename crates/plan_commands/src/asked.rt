@@ -1,4 +1,5 @@
-//! What a command asks for.
+//! What a command asks for: records, and a reply that is given only once they are kept, so that
+//! nothing is told that a crash could take back.
 ghost use Rattle.std.specs.Prelude.{◌≡◌, [], ◌∷◌, IfOk};
 
 use basics::{NoMemory, Sequence};

@@ -1,4 +1,5 @@
-//! The command `cutover`.
+//! The command `cutover`: it asks for the one record that sets the moment, as long as a migration
+//! of the plan has still to end.
 ghost use Rattle.std.specs.Prelude.{◌≡◌, IfOk};
 ghost use Rattle.plan_commands.specs.Asked.{IsDecidedBy};
 ghost use Rattle.plan_commands.specs.commands.Cutover.{course_refusal, cutover_refusal_of, seconds_of, cutover_refusal, cutover_records, cutover_reply};

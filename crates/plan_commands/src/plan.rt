@@ -1,4 +1,4 @@
-//! The command `plan`.
+//! The command `plan`: it asks for the one record by which a plan is made, or says why none may be.
 ghost use Rattle.std.specs.Prelude.{◌≡◌, ◌<◌, IfOk, IfSome, length};
 ghost use Rattle.basics.specs.Spelled.{IsName};
 ghost use Rattle.basics.specs.declared.limits.TheConstants.{MAX_INTERVAL};

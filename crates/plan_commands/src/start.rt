@@ -1,4 +1,5 @@
-//! The command `start`.
+//! The command `start`: it asks for a record for each machine that still waits in the plan, and
+//! tells the numbers of all of the plan's migrations.
 ghost use Rattle.std.specs.Prelude.{◌≡◌, ◌+◌, ◌≤◌, ◌^◌, ◌++◌, true, IfOk, length, map};
 ghost use Rattle.std.specs.List.{zip, range_with_len};
 ghost use Rattle.plan_commands.specs.Asked.{IsDecidedBy};

@@ -1,4 +1,4 @@
-//! The command `status`.
+//! The command `status`: a line for each migration. What such a line shows is in `line.rt`.
 ghost use Rattle.std.specs.Prelude.{◌≡◌, IfOk};
 ghost use Rattle.fleet.specs.Sound.{AllAreIn};
 ghost use Rattle.plan_commands.specs.commands.Status.{status_reply};

@@ -1,6 +1,6 @@
 -- What an accepted plan is, from the searches that found no reason against it.
 use Rattle.std.proofs.Common.{◌≡◌, ℕ, ◌+◌, ◌*◌, ◌≤◌, Bool, true, false, cond, not, List, [], ◌∷◌, length, Option, Some, None, option_map, nat_lt, nat_le, refl, sym, ap, ◌∙◌, arith}
-use Rattle.std.specs.Prelude.{◌≢◌, ◌==◌, ◌||◌, map, IsTrue, is_some, if◌then◌else◌}
+use Rattle.std.specs.Prelude.{◌≢◌, ◌==◌, map, IsTrue, is_some, if◌then◌else◌}
 use Rattle.std.specs.Bool.{one_answer}
 use Rattle.std.specs.List.{find, list_any, AllByRecursion, IsDistinct}
 use Rattle.std.specs.Str.{bytes_eq}
@@ -8,6 +8,7 @@ use Rattle.std.proofs.lemmas.Bool.{eqb-true, false≢true, not-false, or_parts}
 use Rattle.std.proofs.lemmas.Bool.Decides.{nat_tests}
 use Rattle.std.proofs.lemmas.Slice.Eq.{bytes_eq-Decides}
 use Rattle.std.proofs.lemmas.List.Elements.{All-from_recursion, recursion_from_All}
+use Rattle.std.proofs.lemmas.List.Folds.{list_any_none}
 use Rattle.std.proofs.lemmas.List.Sums.{sum_by-cons}
 use Rattle.basics.proofs.Each.{each, each_both}
 use Rattle.basics.proofs.Options.{neither}
@@ -43,11 +44,6 @@ none_passes test [] none = tt
 none_passes test (x ∷ xs) none =
     let parts = or_parts (test x) (list_any test xs) none in
     (parts.0, none_passes test xs parts.1)
-
-none_any : {X : Type 0} (test : X → Bool) (xs : List X)
-    → AllByRecursion (λ x. test x ≡ false) xs → list_any test xs ≡ false
-none_any test [] all = refl
-none_any test (x ∷ xs) all = rw all.0 (none_any test xs all.1)
 
 -- names
 flips : (a b : List ℕ) → bytes_eq a b ≡ bytes_eq b a
@@ -254,9 +250,10 @@ accepted_where : (name : List ℕ) (vms : List (List ℕ)) (known : List VmFact)
 accepted_where name vms known plans possible =
     let new = recursion_from_All (λ plan. plan.name ≢ name) plans possible.new_name in
     let untaken : is_taken name plans ≡ false =
-    none_any (λ plan. bytes_eq plan.name name) plans
+    list_any_none (λ plan. bytes_eq plan.name name) plans
+    (All-from_recursion (λ plan. bytes_eq plan.name name ≡ false) plans
     (each {P = λ plan. plan.name ≢ name} {Q = λ plan. bytes_eq plan.name name ≡ false}
-    (λ plan apart. is_apart plan.name name apart) plans new) in
+    (λ plan apart. is_apart plan.name name apart) plans new)) in
     let some : (length vms == 0) ≡ false = is_some_of (length vms) possible.some in
     let free = recursion_from_All (IsFree known) vms possible.free in
     let nothing : list_refusal vms known ≡ None = found_nothing vms known (record {

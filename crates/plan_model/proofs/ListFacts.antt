@@ -11,7 +11,7 @@ use Rattle.std.proofs.lemmas.List.{take_more}
 use Rattle.std.proofs.lemmas.List.Folds.{find-append}
 use Rattle.std.proofs.lemmas.List.Sums.{count_by_more_yes, count_by_more_no}
 use Rattle.std.proofs.lemmas.Map.Text.{is_eq-slice_cmp}
-use Rattle.basics.proofs.Options.{or_none}
+use Rattle.basics.proofs.Options.{is_some-map, or_none, some_or}
 use Rattle.basics.specs.Refusal.{IsRefusedWhere}
 use Rattle.basics.specs.declared.number_list.NumberList.{NumberList}
 use Rattle.plan_model.specs.declared.plan.VmFact.{VmFact}
@@ -76,14 +76,6 @@ none_or : (o next : Option VmFact) → is_some o ≡ false → option_or o next 
 none_or None next e = refl
 none_or (Some vm) next e = cc
 
-some_or : (o next : Option VmFact) → is_some o ≡ true → option_or o next ≡ o
-some_or None next e = cc
-some_or (Some vm) next e = refl
-
-some_map : (o : Option VmFact) → is_some (option_map standing_of o) ≡ is_some o
-some_map None = refl
-some_map (Some vm) = refl
-
 -- what the book has of a name, before and after the machine was looked at
 kept_at : (b : Bool) (vm : VmFact) (q : List ℕ) (before : List VmFact) (old new : Option Standing)
     → bytes_eq vm.name q ≡ b → old ≡ standing_in before q
@@ -107,7 +99,7 @@ pub book_step_new : (known : List VmFact) (i : ℕ) (vm : VmFact) (q : List ℕ)
     → new ≡ standing_in (take (i + 1) known) q
 book_step_new known i vm q old new old_at inside here e at absent n =
     let none : is_some (fact_of (take i known) vm.name) ≡ false =
-    sym (some_map (fact_of (take i known) vm.name))
+    sym (is_some-map standing_of (fact_of (take i known) vm.name))
     ∙ ap (λ (x : Option Standing). is_some x) (sym at) ∙ absent in
     kept_at (bytes_eq vm.name q) vm q (take i known) old new refl e none n
     ∙ sym (in_one_more known i vm q inside here)
@@ -128,7 +120,7 @@ pub book_step_same : (known : List VmFact) (i : ℕ) (vm : VmFact) (q : List ℕ
     → is_some old_at ≡ true → old ≡ standing_in (take (i + 1) known) q
 book_step_same known i vm q old old_at inside here e at found =
     let some : is_some (fact_of (take i known) vm.name) ≡ true =
-    sym (some_map (fact_of (take i known) vm.name))
+    sym (is_some-map standing_of (fact_of (take i known) vm.name))
     ∙ ap (λ (x : Option Standing). is_some x) (sym at) ∙ found in
     e ∙ sym (in_one_more known i vm q inside here
     ∙ ap (λ (o : Option VmFact). option_map standing_of o)

@@ -1,4 +1,5 @@
-//! Keeping records, one after another.
+//! Keeping records, one after another: a record is in the journal before the state takes it, so
+//! that the state never says more than the disk.
 ghost use Rattle.std.specs.Prelude.{◌≡◌, true, IfErr, OnOk};
 ghost use Rattle.record_codec.specs.Record.{KeepsRule};
 ghost use Rattle.ctl_state.specs.MayStand.{record_may_stand};

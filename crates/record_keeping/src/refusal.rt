@@ -1,4 +1,4 @@
-//! Why a record isn't kept.
+//! Why a record isn't kept, with the text of each reason.
 use basics::NoMemory;
 use std::error::Error;
 use std::fmt;

@@ -1,5 +1,6 @@
 //! The line of a reply, written in one pass into the caller's buffer.
-ghost use Rattle.std.specs.Prelude.{◌≡◌, ◌++◌, Contains, OnOk, OnErr, Some, length, take};
+ghost use Rattle.std.specs.Prelude.{◌≡◌, ◌++◌, Contains, OnOk, OnErr, Some};
+ghost use Rattle.basics.specs.Prefix.{IsPrefix};
 ghost use Rattle.serde_json.specs.Read.{read};
 ghost use Rattle.serde_json.specs.Written.{compact_text};
 ghost use Rattle.reply_json.specs.Fits.{NumbersFit};
@@ -34,7 +35,7 @@ pub fn reply_line(reply: &Reply, out: &mut Vec<u8>) -> Result<(), NoMemory>
 fn append_line(reply: &Reply, out: &mut Vec<u8>) -> Result<(), NoMemory>
     ensures line { OnOk result (out.new.items ≡ out.old.items ++ line_of reply.now) }
     ensures fits { OnOk result (NumbersFit (reply_data reply.now)) }
-    ensures kept { take (length out.old.items) out.new.items ≡ out.old.items }
+    ensures kept { IsPrefix out.old.items out.new.items }
 {
     let alloc = *out.allocator();
     let mut writer = Writer::new(mem::replace(out, Vec::new(alloc)));

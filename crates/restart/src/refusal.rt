@@ -1,4 +1,4 @@
-//! Why a controller isn't reopened.
+//! Why a controller isn't reopened, with the number and the text of each reason.
 ghost use Rattle.std.specs.Prelude.{◌≡◌};
 ghost use Rattle.restart.specs.Refusal.{refusal_number};
 

@@ -1,4 +1,5 @@
-//! The records of a journal, folded over a fleet.
+//! The records of a journal, folded over a fleet: each of them has to be borne out, and behind the
+//! last one each live migration has to have its current snapshot.
 ghost use Rattle.std.specs.Prelude.{IfOk, MatchBool};
 ghost use Rattle.restart.specs.ReadLogs.{AreOf};
 ghost use Rattle.restart.specs.Standing.{HaveSnapshots, LackASnapshot, IsFolded};

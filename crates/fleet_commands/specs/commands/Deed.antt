@@ -12,7 +12,7 @@ use Rattle.log_model.specs.declared.entry.Entry.{Entry}
 use Rattle.log_model.specs.declared.refusals.LinkRefused.{LinkRefused}
 use Rattle.fleet.specs.Fleet.{FleetState}
 use Rattle.fleet_commands.specs.Machines.{at_machine, after_act}
-use Rattle.fleet_commands.specs.Told.{link_told}
+use Rattle.fleet_commands.specs.Refusals.{link_told}
 use Rattle.fleet_commands.specs.declared.deed.Deed.{Deed}
 use Rattle.fleet_commands.specs.declared.deed.Deed.TheVariants.{Enable, Remove, On, Off, Reset}
 use Rattle.answers.specs.declared.refusal.Refusal.{Refusal}

@@ -4,7 +4,7 @@ use Rattle.reply_json.specs.declared.reply.Reply.{Reply}
 use Rattle.reply_json.specs.declared.reply.Reply.TheVariants.{Done}
 use Rattle.fleet.specs.Fleet.{FleetState, with_host}
 use Rattle.fleet.specs.Refusals.{add_host_refusal}
-use Rattle.fleet_commands.specs.Told.{fleet_told}
+use Rattle.fleet_commands.specs.Refusals.{fleet_told}
 use Rattle.fleet_commands.specs.declared.host.TheConstants.{DEFAULT_HOST_LIMIT}
 use Rattle.answers.specs.declared.refusal.Refusal.{Refusal}
 

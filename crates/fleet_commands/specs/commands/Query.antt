@@ -22,7 +22,7 @@ use Rattle.source_vm.specs.Machine.{MachineState}
 use Rattle.fleet.specs.Fleet.{FleetState}
 use Rattle.answers.specs.Answer.{Answer, AnswersFor}
 use Rattle.fleet_commands.specs.Machines.{at_machine, reply_at}
-use Rattle.fleet_commands.specs.Told.{link_told}
+use Rattle.fleet_commands.specs.Refusals.{link_told}
 use Rattle.answers.specs.declared.refusal.Refusal.{Refusal}
 use Rattle.answers.specs.declared.refusal.Refusal.TheVariants as refusal
 

@@ -13,7 +13,7 @@ use Rattle.source_vm.specs.Machine.{MachineState}
 use Rattle.source_vm.specs.Refusals.{read_now_refusal}
 use Rattle.fleet.specs.Fleet.{FleetState}
 use Rattle.fleet_commands.specs.Machines.{machine_named, at_machine, reply_at}
-use Rattle.fleet_commands.specs.Told.{link_told}
+use Rattle.fleet_commands.specs.Refusals.{link_told}
 use Rattle.answers.specs.declared.refusal.Refusal.{Refusal}
 
 abbrev pub refusal_at : (snapshot : Option ℕ) → (disk first count : ℕ) → MachineState

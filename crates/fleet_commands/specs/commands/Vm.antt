@@ -4,7 +4,7 @@ use Rattle.reply_json.specs.declared.reply.Reply.{Reply}
 use Rattle.reply_json.specs.declared.reply.Reply.TheVariants.{Number}
 use Rattle.fleet.specs.Fleet.{FleetState, with_vm_under}
 use Rattle.fleet.specs.Refusals.{add_vm_refusal}
-use Rattle.fleet_commands.specs.Told.{fleet_told}
+use Rattle.fleet_commands.specs.Refusals.{fleet_told}
 use Rattle.answers.specs.declared.refusal.Refusal.{Refusal}
 
 abbrev pub vm_refusal : (name host disks : List ℕ) → FleetState → Option Refusal

@@ -8,7 +8,7 @@ use Rattle.log_model.specs.declared.entry.Act.{Act}
 use Rattle.log_model.specs.declared.entry.Act.TheVariants.{Write}
 use Rattle.fleet.specs.Fleet.{FleetState}
 use Rattle.fleet_commands.specs.Machines.{at_machine, after_act}
-use Rattle.fleet_commands.specs.Told.{write_told}
+use Rattle.fleet_commands.specs.Refusals.{write_told}
 use Rattle.answers.specs.declared.refusal.Refusal.{Refusal}
 
 abbrev pub fill_act : (disk first count fill : ℕ) → Act

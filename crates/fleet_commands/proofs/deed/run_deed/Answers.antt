@@ -3,7 +3,7 @@ use Rattle.std.proofs.Common.{◌≡◌, Some, refl, ◌∙◌, sym}
 use Rattle.basics.proofs.Results.{on_err}
 use Rattle.log_model.specs.declared.refusals.LinkRefused.TheVariants.{NoMemory}
 use Rattle.source_vm.specs.Machine.{MachineState}
-use Rattle.fleet_commands.specs.Told.{link_told}
+use Rattle.fleet_commands.specs.Refusals.{link_told}
 use Rattle.fleet_commands.specs.Machines.{machine_named}
 use Rattle.fleet_commands.specs.commands.Deed.{act_of, refusal_by}
 use Rattle.fleet_commands.proofs.Telling.{told_none, told_some}

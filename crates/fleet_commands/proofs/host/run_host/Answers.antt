@@ -2,7 +2,7 @@ use Rattle.std.proofs.Common.{Ok, Err, refl, ap, ◌∙◌, sym}
 use Rattle.fleet.specs.Fleet.{with_host}
 use Rattle.fleet.specs.Refusals.{add_host_refusal}
 use Rattle.fleet.specs.declared.refusals.FleetRefused.TheVariants.{NoMemory}
-use Rattle.fleet_commands.specs.Told.{fleet_told}
+use Rattle.fleet_commands.specs.Refusals.{fleet_told}
 use Rattle.fleet_commands.proofs.Telling.{told_none, told_some}
 use Rattle.fleet_commands.proofs.host.run_host.Goals as goal
 

@@ -2,7 +2,7 @@ use Rattle.std.proofs.Common.{ℕ, Ok, Err, refl, ap, ◌∙◌, sym}
 use Rattle.reply_json.specs.declared.reply.Reply.TheVariants.{Number}
 use Rattle.fleet.specs.Refusals.{add_vm_refusal}
 use Rattle.fleet.specs.declared.refusals.FleetRefused.TheVariants.{NoMemory}
-use Rattle.fleet_commands.specs.Told.{fleet_told}
+use Rattle.fleet_commands.specs.Refusals.{fleet_told}
 use Rattle.fleet_commands.proofs.Telling.{told_none, told_some}
 use Rattle.fleet_commands.proofs.vm.run_vm.Goals as goal
 

@@ -6,7 +6,7 @@ use Rattle.sector_model.specs.Sector.{filled}
 use Rattle.log_model.specs.declared.refusals.WriteRefused.TheVariants.{NoMemory}
 use Rattle.log_model.specs.Refusals.{write_refusal}
 use Rattle.source_vm.specs.Machine.{MachineState}
-use Rattle.fleet_commands.specs.Told.{write_told}
+use Rattle.fleet_commands.specs.Refusals.{write_told}
 use Rattle.fleet_commands.specs.Machines.{machine_named}
 use Rattle.fleet_commands.specs.commands.Write.{fill_act}
 use Rattle.fleet_commands.proofs.Telling.{told_none, told_some}

@@ -4,7 +4,7 @@ use Rattle.std.proofs.lemmas.List.{length-take-le}
 use Rattle.basics.proofs.ItemAt.{take-next_read}
 use Rattle.log_facts.specs.declared.disks.IdCount.{IdCount}
 use Rattle.log_model.specs.declared.entry.Entry.{Entry}
-use Rattle.log_facts.specs.Disks.{AreCounts, IsLastReset, count_of}
+use Rattle.log_facts.specs.Disks.{AreCounts, IsLastReset, id_count_of}
 use Rattle.log_facts.proofs.DiskLemmas.{count_more, few_more, counts_pushed, counts_same, reset_here, reset_before}
 use Rattle.log_facts.proofs.disks.disk_of.Goals as goal
 use Rattle.log_facts.proofs.disks.disk_of.Goals.{then-is_snap+in_ok-push, else-is_snap, then-resets, else-resets}
@@ -23,7 +23,7 @@ loop-place-preserved c =
     in
     let long : length (take i log) ≡ i =
     length-take-le i log (omega (arith, c.loop-place-test.true)) in
-    let here = counts ∙ ap (count_of c.args.disk) more in
+    let here = counts ∙ ap (id_count_of c.args.disk) more in
     record {
       counts = counts;
       few_resets = few.0;

@@ -1,4 +1,4 @@
-use Rattle.record_keeping.proofs.Kept.{acknowledged, keeps_one}
+use Rattle.record_keeping.proofs.KeepLemmas.{acknowledged, keeps_one}
 use Rattle.journal.specs.Journal.{append_refusal}
 use Rattle.record_keeping.proofs.keep.keep.Goals as goal
 

@@ -1,7 +1,7 @@
 use Rattle.std.proofs.Common.{refl, ◌∙◌}
 use Rattle.std.proofs.lemmas.Result.{err_from_is_err_and}
 use Rattle.record_keeping.specs.Keeping.{keeping}
-use Rattle.record_keeping.proofs.Kept.{kept_none, kept_more, kept_all, next_stands, front_kept}
+use Rattle.record_keeping.proofs.KeepLemmas.{kept_none, kept_more, kept_all, next_stands, front_kept}
 use Rattle.record_keeping.proofs.keep.keep_records.Goals as goal
 
 pub loop-record-init : goal.loop-record-init

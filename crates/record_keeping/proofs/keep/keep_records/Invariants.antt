@@ -1,6 +1,6 @@
 use Rattle.std.proofs.Common.{◌≡◌}
 use Rattle.record_keeping.specs.Keeping.{keeping}
-use Rattle.record_keeping.proofs.Kept.{KeptTo}
+use Rattle.record_keeping.proofs.KeepLemmas.{KeptTo}
 use Rattle.record_keeping.proofs.keep.keep_records.Given as goal
 
 abbrev pub invariant-loop-record : goal.invariant-loop-record

@@ -1,7 +1,7 @@
 use Rattle.std.proofs.Common.{◌≡◌, List, length, map, subst, sym, ap, ◌∙◌, arith}
+use Rattle.basics.proofs.ItemAt.{take-written}
 use Rattle.ctl_state.specs.declared.copies.DiskCopy.{DiskCopy}
 use Rattle.ctl_state.specs.Migration.{unnamed_copy}
-use Rattle.ctl_state.proofs.ListFacts.{all_written}
 use Rattle.ctl_state.proofs.CopyFacts.{Holds, unnamed_holds}
 use Rattle.ctl_state.proofs.copies.CopyList.forget_ids.Goals as goal
 
@@ -10,8 +10,8 @@ invariant_of-self c =
     let kept = c.self.inside.copies in
     let now = c.forget_each.new.copies in
     let whole : kept.len ≡ length now = omega arith in
-    let e = all_written kept.len now kept.items (map unnamed_copy kept.items) whole
-    (c.forget_each.ensures
+    let e = take-written kept.len now kept.items whole
+    ∙ (c.forget_each.ensures
     ∙ ap (λ (old : List DiskCopy). map unnamed_copy old) c.deref_mut.ensures.value) in
     let P : List DiskCopy → Type 0 = Holds in
     subst P (sym e) (unnamed_holds kept.items c.self.invariant)

@@ -6,7 +6,7 @@ use Rattle.ctl_state.specs.declared.plans.PlanCourse.{PlanCourse}
 use Rattle.ctl_state.specs.Steps.{end_by}
 use Rattle.ctl_state.specs.Fold.{with_ended}
 use Rattle.ctl_state.specs.Value.{CtlValue, numbered, migration_in, change_numbered}
-use Rattle.ctl_state.specs.Kept.{IsKept}
+use Rattle.ctl_state.specs.Lookups.{IsKept}
 use Rattle.ctl_state.proofs.KeptFacts.{kept_end, kept_course, is_eq-nat_cmp}
 use Rattle.ctl_state.proofs.StepFacts.{may_end_live, end_ends}
 use Rattle.ctl_state.proofs.state.CtlState.end_migration.Goals as goal

@@ -9,7 +9,7 @@ use Rattle.ctl_state.specs.declared.plans.PlanCourse.{PlanCourse}
 use Rattle.ctl_state.specs.Fold.{plan_of}
 use Rattle.ctl_state.specs.Value.{CtlValue, new_course, is_at_work}
 use Rattle.ctl_state.specs.MayStand.{is_new_plan, are_free, has_double}
-use Rattle.ctl_state.specs.Kept.{IsKept, AreNames}
+use Rattle.ctl_state.specs.Lookups.{IsKept, AreNames}
 use Rattle.ctl_state.specs.Work.{HasNone, Joins, Leaves}
 use Rattle.ctl_state.proofs.KeptFacts.{kept_plan, kept_work, kept_names, taken_back, free_in_map}
 use Rattle.ctl_state.proofs.NextFacts.{none_doubled}

@@ -1,7 +1,7 @@
 use Rattle.std.proofs.Common.{List, refl, subst, sym}
 use Rattle.ctl_state.specs.declared.plans.PlanCourse.{PlanCourse}
 use Rattle.ctl_state.specs.Fold.{with_cutover}
-use Rattle.ctl_state.specs.Kept.{IsKept}
+use Rattle.ctl_state.specs.Lookups.{IsKept}
 use Rattle.ctl_state.proofs.KeptFacts.{kept_course}
 use Rattle.ctl_state.proofs.state.CtlState.set_cutover.Goals as goal
 

@@ -7,7 +7,7 @@ use Rattle.ctl_state.specs.Steps.{new_migration}
 use Rattle.ctl_state.specs.Fold.{with_started}
 use Rattle.ctl_state.specs.Value.{CtlValue, change_numbered}
 use Rattle.ctl_state.specs.MayStand.{may_start}
-use Rattle.ctl_state.specs.Kept.{IsKept, HasRoom}
+use Rattle.ctl_state.specs.Lookups.{IsKept, HasRoom}
 use Rattle.ctl_state.proofs.KeptFacts.{kept_start}
 use Rattle.ctl_state.proofs.NextFacts.{next_of_start}
 use Rattle.ctl_state.proofs.state.CtlState.start_migration.Goals as goal

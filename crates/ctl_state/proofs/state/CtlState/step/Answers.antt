@@ -2,7 +2,7 @@ use Rattle.std.proofs.Common.{List}
 use Rattle.ctl_state.specs.declared.migration.Migration.{Migration}
 use Rattle.ctl_state.specs.Steps.{after_step}
 use Rattle.ctl_state.specs.Value.{change_numbered}
-use Rattle.ctl_state.specs.Kept.{IsKept}
+use Rattle.ctl_state.specs.Lookups.{IsKept}
 use Rattle.ctl_state.proofs.KeptFacts.{kept_step}
 use Rattle.ctl_state.proofs.StepFacts.{by_result, step_keeps}
 use Rattle.ctl_state.proofs.state.CtlState.step.Goals as goal

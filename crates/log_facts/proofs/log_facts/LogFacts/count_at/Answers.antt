@@ -7,7 +7,7 @@ use Rattle.log_model.specs.Marks.{through}
 use Rattle.log_model.specs.Machine.{MachineState}
 use Rattle.log_facts.specs.declared.disks.DiskFacts.{DiskFacts}
 use Rattle.log_facts.specs.declared.disks.IdCount.{IdCount}
-use Rattle.log_facts.specs.Disks.{count_of}
+use Rattle.log_facts.specs.Disks.{id_count_of}
 use Rattle.log_facts.proofs.LookupLemmas.{count_is}
 use Rattle.log_facts.proofs.log_facts.LogFacts.count_at.Goals as goal
 
@@ -31,4 +31,4 @@ returns c =
     count_is (all_of at.capacities) c.args.disk c.args.snap at.log
     c.in_ok-facts.facts.now.counts.items c.in_ok-count.count.now c.self.invariant.legal
     (c.self.invariant.by_disk.each c.args.disk c.in_ok-facts.facts.now disk).counts from read
-    ∙ ap (λ (a : MachineState). count_of c.args.disk (through c.args.snap a.log)) c.self.view_is
+    ∙ ap (λ (a : MachineState). id_count_of c.args.disk (through c.args.snap a.log)) c.self.view_is

@@ -1,6 +1,6 @@
 //! What a command is refused as where a fleet, a machine or a write refuses it.
 ghost use Rattle.std.specs.Prelude.{◌≡◌};
-ghost use Rattle.fleet_commands.specs.Told.{link_told, write_told, fleet_told};
+ghost use Rattle.fleet_commands.specs.Refusals.{link_told, write_told, fleet_told};
 
 use answers::Refusal;
 use fleet::FleetRefused;
