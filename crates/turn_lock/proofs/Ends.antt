@@ -8,14 +8,15 @@ use mathlib.Core.Logic.{dite}
 use native.Mathlib.Decide.{ℕ_discrete}
 use lib.ListN.{get_elem?}
 use Rattle.atomic_table.specs.Table.{opening, Final, Seen}
+use Rattle.basics.specs.Prefix.{IsPrefix}
+use Rattle.basics.proofs.Prefix.{prefix-self}
 use Rattle.turn_lock.specs.declared.view.Beginning.{Beginning}
 use Rattle.turn_lock.specs.declared.view.Chief.{Chief}
 use Rattle.turn_lock.specs.declared.view.EndedPass.{EndedPass}
 use Rattle.turn_lock.specs.declared.view.View.{View}
-use Rattle.turn_lock.specs.Story.{GoesOn, added_by, is_by}
+use Rattle.turn_lock.specs.Story.{added_by, is_by}
 use Rattle.turn_lock.specs.View.{is_among, left_by, is_live, waits, spent}
 use Rattle.turn_lock.specs.Rule.{Whereabouts, seated, ended, due, free, beginning_of, first_view, Fits, Leads}
-use Rattle.turn_lock.proofs.Stories.{goes_self}
 use Rattle.turn_lock.proofs.Seats.{put, put_here, put_else, one_place, two_of_them}
 use Rattle.turn_lock.proofs.Steps.{seat_number, kind, K}
 use Rattle.turn_lock.proofs.Numbers.{own_chief}
@@ -54,7 +55,7 @@ module _ {X F E : Type 0} (frame : X → F) (story_of : X → List E) (who : E �
             (count_by waits (v ∷ [])) i z)
             record {
               begun = refl;
-              begins = goes_self (story_of x);
+              begins = prefix-self (story_of x);
               reach = omega arith;
               own = nothing_yet x 0;
               known = nothing_yet x 0;
@@ -140,7 +141,7 @@ module _ {X F E : Type 0} (frame : X → F) (story_of : X → List E) (who : E �
     pub value : X
     pub stands : get_elem? xs 0 ≡ some (Some value)
     pub framed : frame value ≡ b.frame
-    pub goes_on : GoesOn v.seen (story_of value)
+    pub goes_on : IsPrefix v.seen (story_of value)
     pub each : (n : ℕ) → added_by who n b.start (story_of value)
         ≡ cond (eqb n 0) v.mine (left_by n v.chief.ended)
 
@@ -185,7 +186,7 @@ module _ {X F E : Type 0} (frame : X → F) (story_of : X → List E) (who : E �
         value = x;
         stands = end.4 0 (Some x) (ap (λ hs. get_elem? hs 0) home.1);
         framed = home.2;
-        goes_on = subst (λ z. GoesOn v.seen z) (sym whole) f.begins;
+        goes_on = subst (λ z. IsPrefix v.seen z) (sym whole) f.begins;
         each = λ n. ap (added_by who n b.start) whole ∙ elim (r.place n) as (P n) [
           | seated i ↦ λ is.
               let t = r.taken n i is in

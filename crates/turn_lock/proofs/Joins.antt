@@ -7,15 +7,17 @@ use native.Mathlib.Decide.{ℕ_discrete}
 use lib.ListN.{get_elem?}
 use Rattle.atomic_table.specs.Table.{step, keeps, Allows, Joins}
 use Rattle.atomic_table.proofs.Lists.{at_set, set_else}
+use Rattle.basics.specs.Prefix.{IsPrefix}
+use Rattle.basics.proofs.Prefix.{prefix-fits, prefix-self}
 use Rattle.turn_lock.specs.declared.view.Beginning.{Beginning}
 use Rattle.turn_lock.specs.declared.view.Chief.{Chief}
 use Rattle.turn_lock.specs.declared.view.JoinCheck.{JoinCheck}
 use Rattle.turn_lock.specs.declared.view.EndedPass.{EndedPass}
 use Rattle.turn_lock.specs.declared.view.View.{View}
-use Rattle.turn_lock.specs.Story.{GoesOn, longer, added_by}
+use Rattle.turn_lock.specs.Story.{longer, added_by}
 use Rattle.turn_lock.specs.View.{is_among, left_by, united_seen, is_live, waits, start_of, spent, united, checked, Compares}
 use Rattle.turn_lock.specs.Rule.{Whereabouts, seated, ended, how_many, are_different, Fits, Leads}
-use Rattle.turn_lock.proofs.Stories.{goes_short, goes_self, known_between, longer_first, longer_other, longer_both}
+use Rattle.turn_lock.proofs.Stories.{known_between, longer_first, longer_other, longer_both}
 use Rattle.turn_lock.proofs.Seats.{put, put_here, put_else, bit, one_place, count_set, count_same, two_of_them}
 use Rattle.turn_lock.proofs.Steps.{seat_number, kind, heads_lead, taken_set, each_set, not_empty, M, K, first_is, slot_set, fits_place, Goes}
 use Rattle.turn_lock.proofs.Numbers.{own_chief}
@@ -59,10 +61,10 @@ module _ {E : Type 0} where
       [ true ↦ λ h. absurd (let c : true ≡ false = h in cc) | false ↦ λ h. left_none n ls h ] e
 
   -- a story that the other begins is the longer one
-  pub longer_is : (a b : List E) → GoesOn b a → longer a b ≡ a
+  pub longer_is : (a b : List E) → IsPrefix b a → longer a b ≡ a
   longer_is a b h =
       let P : Bool → Type 0 = λ t. nat_lt (length a) (length b) ≡ t → cond t b a ≡ a in
-      let short = goes_short b a h in
+      let short = prefix-fits b a h in
       elim (nat_lt (length a) (length b)) as P
       [ true ↦ λ e. absurd (grind arith) | false ↦ λ e. refl ] refl
 
@@ -97,17 +99,17 @@ module _ {F E : Type 0} where
       elim v.holds as (λ h. P (cond h v.seen (longer v.seen w.seen)))
       [ true ↦ pv | false ↦ longer_both P v.seen w.seen pv pw ]
 
-  seen_first : (v w : View F E) (story : List E) → GoesOn v.seen story → GoesOn w.seen story
-      → GoesOn v.seen (united_seen v w)
+  seen_first : (v w : View F E) (story : List E) → IsPrefix v.seen story → IsPrefix w.seen story
+      → IsPrefix v.seen (united_seen v w)
   seen_first v w story hv hw =
-      elim v.holds as (λ h. GoesOn v.seen (cond h v.seen (longer v.seen w.seen)))
-      [ true ↦ goes_self v.seen | false ↦ longer_first v.seen w.seen story hv hw ]
+      elim v.holds as (λ h. IsPrefix v.seen (cond h v.seen (longer v.seen w.seen)))
+      [ true ↦ prefix-self v.seen | false ↦ longer_first v.seen w.seen story hv hw ]
 
   -- where the other's story begins it, what a join leaves as seen is the longer of both
-  pub seen_is : (v w : View F E) → GoesOn w.seen (united_seen v w)
+  pub seen_is : (v w : View F E) → IsPrefix w.seen (united_seen v w)
       → united_seen v w ≡ longer v.seen w.seen
   seen_is v w =
-      elim v.holds as (λ h. GoesOn w.seen (cond h v.seen (longer v.seen w.seen))
+      elim v.holds as (λ h. IsPrefix w.seen (cond h v.seen (longer v.seen w.seen))
       → cond h v.seen (longer v.seen w.seen) ≡ longer v.seen w.seen) [
         | true ↦ λ h. sym (longer_is v.seen w.seen h)
         | false ↦ λ h. refl
@@ -129,15 +131,15 @@ module _ {X F E : Type 0} (frame : X → F) (story_of : X → List E) (who : E �
       let f = r.seats id v at live in
       let k = l.keeps j joined in
       let both : List E = longer j.first j.other in
-      let first_on : GoesOn j.first v.seen =
-      subst (λ z. GoesOn j.first z) (sym seen)
-      (elim v.holds as (λ h. GoesOn j.first (cond h j.first both))
-      [ true ↦ goes_self j.first | false ↦ longer_first j.first j.other r.story k.0 k.1 ]) in
-      let Q : Bool → Type 0 = λ h. v.holds ≡ h → GoesOn j.other v.seen in
-      let other_on : GoesOn j.other v.seen =
+      let first_on : IsPrefix j.first v.seen =
+      subst (λ z. IsPrefix j.first z) (sym seen)
+      (elim v.holds as (λ h. IsPrefix j.first (cond h j.first both))
+      [ true ↦ prefix-self j.first | false ↦ longer_first j.first j.other r.story k.0 k.1 ]) in
+      let Q : Bool → Type 0 = λ h. v.holds ≡ h → IsPrefix j.other v.seen in
+      let other_on : IsPrefix j.other v.seen =
       (elim v.holds as Q [
-        | true ↦ λ e. subst (λ z. GoesOn j.other z) (sym (f.holding e).1) k.1
-        | false ↦ λ e. subst (λ z. GoesOn j.other z) (sym (seen ∙ ap (λ h. cond h j.first both) e))
+        | true ↦ λ e. subst (λ z. IsPrefix j.other z) (sym (f.holding e).1) k.1
+        | false ↦ λ e. subst (λ z. IsPrefix j.other z) (sym (seen ∙ ap (λ h. cond h j.first both) e))
             (longer_other j.first j.other r.story k.0 k.1)
       ]) refl in
       let waits_same : count_by waits (set s.views id w) ≡ count_by waits s.views =
@@ -200,8 +202,8 @@ module _ {X F E : Type 0} (frame : X → F) (story_of : X → List E) (who : E �
           refl,
           λ i is.
               let e : j ≡ i = ap (λ o. unwrap_or o j) (sym joined ∙ is) in (
-                subst (λ z. GoesOn z.first v.seen) e first_on,
-                subst (λ z. GoesOn z.other v.seen) e other_on,
+                subst (λ z. IsPrefix z.first v.seen) e first_on,
+                subst (λ z. IsPrefix z.other v.seen) e other_on,
                 subst (λ z. z.out ≡ c.out + 1) e k.2,
                 subst (λ z. z.number ≢ 0) e k.3,
                 subst (λ z. is_among z.number z.ended ≡ false) e k.4,
@@ -257,7 +259,7 @@ module _ {X F E : Type 0} (frame : X → F) (story_of : X → List E) (who : E �
       λ m i ne is. put_else r.place d ended m
       (λ e. ne (ap seat_number (sym is ∙ ap r.place e ∙ g.sits))) in
       let long : List E = united_seen v w in
-      let long_on : GoesOn long r.story = seen_both (λ z. GoesOn z r.story) v w f.begins g.begins in
+      let long_on : IsPrefix long r.story = seen_both (λ z. IsPrefix z r.story) v w f.begins g.begins in
       let P : ℕ → View F E → Type 0 = Fits frame story_of who b r.story r.place r.line r.served n in
       let Q : ℕ → View F E → Type 0 = Fits frame story_of who b r.story place' r.line r.served n' in
       let id_apart : id ≢ other = λ e. apart_seats (sym e) in
@@ -391,8 +393,8 @@ module _ {X F E : Type 0} (frame : X → F) (story_of : X → List E) (who : E �
                     c.ended;
               } in
               let e : kept ≡ j = ap (λ o. unwrap_or o kept) is in (
-                subst (λ y. GoesOn y.first r.story) e f.begins,
-                subst (λ y. GoesOn y.other r.story) e g.begins,
+                subst (λ y. IsPrefix y.first r.story) e f.begins,
+                subst (λ y. IsPrefix y.other r.story) e g.begins,
                 subst (λ y. y.out ≡ (c.out - 1) + 1) e
                     (let h : c.out ≡ (c.out - 1) + 1 = omega arith in h),
                 subst (λ y. y.number ≢ 0) e not_zero,

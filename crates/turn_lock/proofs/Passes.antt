@@ -4,6 +4,7 @@ use mathlib.Core.Option.{some, some-injective}
 use lib.ListN.{get_elem?}
 use Rattle.atomic_table.specs.Seated.{TableId}
 use Rattle.atomic_table.specs.Table.{Me}
+use Rattle.basics.specs.Prefix.{IsPrefix}
 use Rattle.turn_lock.specs.declared.view.Beginning.{Beginning}
 use Rattle.turn_lock.specs.declared.view.TurnState.{TurnState}
 use Rattle.turn_lock.specs.Turn.{name_of, turn_state}
@@ -11,7 +12,7 @@ use Rattle.turn_lock.specs.Pass.{turn_of}
 use Rattle.turn_lock.specs.Rule.{beginning_of}
 use Rattle.turn_lock.specs.declared.view.View.{View}
 use Rattle.turn_lock.specs.declared.view.JoinCheck.{JoinCheck}
-use Rattle.turn_lock.specs.Story.{GoesOn, longer, added_by, AddsUnder}
+use Rattle.turn_lock.specs.Story.{longer, added_by, AddsUnder}
 use Rattle.turn_lock.specs.View.{start_of, united, united_seen, is_among}
 use Rattle.turn_lock.proofs.Stories.{by_parts}
 use Rattle.turn_lock.proofs.Ends.{Closes}
@@ -70,17 +71,17 @@ module _ {X F E : Type 0} (who : E → ℕ) where
   -- what the look after a join told
   pub compared : (v w : View F E) (m : Me (Option X) (View F E)) → m.0 ≡ united v w
       → ((j : JoinCheck E) → m.0.chief.joined ≡ Some j
-      → GoesOn j.first m.0.seen × GoesOn j.other m.0.seen × (j.out ≡ m.0.chief.out + 1)
+      → IsPrefix j.first m.0.seen × IsPrefix j.other m.0.seen × (j.out ≡ m.0.chief.out + 1)
       × (j.number ≢ 0) × (is_among j.number j.ended ≡ false)
       × (added_by who m.0.number (start_of m.0.beginning) m.0.seen ≡ m.0.mine))
-      → GoesOn v.seen (longer v.seen w.seen) × GoesOn w.seen (longer v.seen w.seen)
+      → IsPrefix v.seen (longer v.seen w.seen) × IsPrefix w.seen (longer v.seen w.seen)
       × (v.chief.out ≡ (v.chief.out - 1) + 1)
       × (w.number ≢ 0) × (is_among w.number v.chief.ended ≡ false)
       × (added_by who v.number (start_of v.beginning) (longer v.seen w.seen) ≡ v.mine)
       × (united_seen v w ≡ longer v.seen w.seen)
   compared v w m same told =
       let P : View F E → Type 0 =
-      λ z. GoesOn v.seen z.seen × GoesOn w.seen z.seen × (v.chief.out ≡ z.chief.out + 1)
+      λ z. IsPrefix v.seen z.seen × IsPrefix w.seen z.seen × (v.chief.out ≡ z.chief.out + 1)
       × (w.number ≢ 0) × (is_among w.number v.chief.ended ≡ false)
       × (added_by who z.number (start_of z.beginning) z.seen ≡ z.mine) in
       let k = subst P same (told
@@ -93,8 +94,8 @@ module _ {X F E : Type 0} (who : E → ℕ) where
             v.chief.ended;
       }) (ap (λ z. z.chief.joined) same)) in
       let is = seen_is v w k.1 in (
-        subst (λ z. GoesOn v.seen z) is k.0,
-        subst (λ z. GoesOn w.seen z) is k.1,
+        subst (λ z. IsPrefix v.seen z) is k.0,
+        subst (λ z. IsPrefix w.seen z) is k.1,
         k.2,
         k.3,
         k.4,

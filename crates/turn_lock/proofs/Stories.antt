@@ -1,65 +1,38 @@
 -- Stories that go on, and the entries under a number.
 use Rattle.std.proofs.Common.{◌≡◌, ◌≢◌, ℕ, ◌≤◌, List, [], ◌∷◌, ◌++◌, length, take, drop, Bool, true, false, cond, refl, sym, ap, ◌∙◌, arith, length-append, nat_lt, eqb-true, ne_eqb, eq-eqb}
 use Rattle.std.specs.List.{filter}
-use Rattle.std.proofs.lemmas.List.{append-nil, take-append-drop, drop-append-le, take-append-le, length-take}
+use Rattle.std.proofs.lemmas.List.{append-nil, drop-append-le, nil_from_length}
 use Rattle.std.proofs.lemmas.List.Elements.{filter-append}
-use lib.Seq.{take-length, drop-length, take-take, drop-append_seam}
-use Rattle.turn_lock.specs.Story.{GoesOn, longer, is_by, added_by, AddsUnder}
+use lib.Seq.{drop-length, drop-append_seam}
+use Rattle.basics.specs.Prefix.{IsPrefix}
+use Rattle.basics.proofs.Prefix.{prefix-fits, prefix-append, prefix-self, prefix-between, prefix-parts, prefix-trans}
+use Rattle.turn_lock.specs.Story.{longer, is_by, added_by, AddsUnder}
 
 module _ {E : Type 0} where
-  pub goes_short : (seen story : List E) → GoesOn seen story → length seen ≤ length story
-  goes_short seen story h = omega (arith, length-take (length seen) story, ap length h)
-
-  pub goes_append : (seen story added : List E) → GoesOn seen story → GoesOn seen (story ++ added)
-  goes_append seen story added h =
-      take-append-le (length seen) story added (goes_short seen story h) ∙ h
-
-  pub goes_self : (story : List E) → GoesOn story story
-  goes_self story = take-length story
-
-  -- of two beginnings of one story the shorter begins the other
-  pub goes_between : (a b story : List E) → GoesOn a story → GoesOn b story → length a ≤ length b
-      → GoesOn a b
-  goes_between a b story ha hb le =
-      ap (take (length a)) (sym hb) ∙ take-take (length a) (length b) story le ∙ ha
-
-  pub goes_parts : (seen story : List E) → GoesOn seen story
-      → story ≡ seen ++ drop (length seen) story
-  goes_parts seen story h =
-      sym (take-append-drop (length seen) story) ∙ ap (λ t. t ++ drop (length seen) story) h
-
-  pub goes_trans : (a b c : List E) → GoesOn a b → GoesOn b c → GoesOn a c
-  goes_trans a b c hab hbc = sym (take-take (length a) (length b) c (goes_short a b hab))
-      ∙ ap (take (length a)) hbc ∙ hab
-
   pub nil_left : (xs ys : List E) → xs ++ ys ≡ [] → xs ≡ []
   nil_left [] ys e = refl
   nil_left (x ∷ xs) ys e = absurd (let l : length (x ∷ (xs ++ ys)) ≡ 0 = ap length e in omega arith)
 
-  pub nil_of_length : (ys : List E) → length ys ≡ 0 → ys ≡ []
-  nil_of_length [] e = refl
-  nil_of_length (y ∷ ys) e = absurd (omega arith)
-
   pub nil_right : (xs ys : List E) → xs ++ ys ≡ [] → ys ≡ []
-  nil_right xs ys e = nil_of_length ys (omega (arith, length-append xs ys, ap length e))
+  nil_right xs ys e = nil_from_length ys (omega (arith, length-append xs ys, ap length e))
 
   pub nothing_more : (xs ys : List E) → xs ≡ xs ++ ys → ys ≡ []
-  nothing_more xs ys e = nil_of_length ys (omega (arith, length-append xs ys, ap length e))
+  nothing_more xs ys e = nil_from_length ys (omega (arith, length-append xs ys, ap length e))
 
-  pub longer_first : (a b story : List E) → GoesOn a story → GoesOn b story → GoesOn a (longer a b)
+  pub longer_first : (a b story : List E) → IsPrefix a story → IsPrefix b story → IsPrefix a (longer a b)
   longer_first a b story ha hb =
-      let P : Bool → Type 0 = λ t. nat_lt (length a) (length b) ≡ t → GoesOn a (cond t b a) in
+      let P : Bool → Type 0 = λ t. nat_lt (length a) (length b) ≡ t → IsPrefix a (cond t b a) in
       elim (nat_lt (length a) (length b)) as P [
-        | true ↦ λ e. goes_between a b story ha hb (grind arith)
-        | false ↦ λ e. goes_self a
+        | true ↦ λ e. prefix-between a b story ha hb (grind arith)
+        | false ↦ λ e. prefix-self a
       ] refl
 
-  pub longer_other : (a b story : List E) → GoesOn a story → GoesOn b story → GoesOn b (longer a b)
+  pub longer_other : (a b story : List E) → IsPrefix a story → IsPrefix b story → IsPrefix b (longer a b)
   longer_other a b story ha hb =
-      let P : Bool → Type 0 = λ t. nat_lt (length a) (length b) ≡ t → GoesOn b (cond t b a) in
+      let P : Bool → Type 0 = λ t. nat_lt (length a) (length b) ≡ t → IsPrefix b (cond t b a) in
       elim (nat_lt (length a) (length b)) as P [
-        | true ↦ λ e. goes_self b
-        | false ↦ λ e. goes_between b a story hb ha (grind arith)
+        | true ↦ λ e. prefix-self b
+        | false ↦ λ e. prefix-between b a story hb ha (grind arith)
       ] refl
 
   -- what holds of both holds of the longer
@@ -73,10 +46,10 @@ module _ {E : Type 0} (who : E → ℕ) where
   by_append n start xs ys le = ap (filter (is_by who n)) (drop-append-le start xs ys le)
       ∙ filter-append (is_by who n) (drop start xs) ys
 
-  pub by_parts : (n start : ℕ) (seen story : List E) → GoesOn seen story → start ≤ length seen
+  pub by_parts : (n start : ℕ) (seen story : List E) → IsPrefix seen story → start ≤ length seen
       → added_by who n start story ≡ added_by who n start seen ++ filter (is_by who n)
       (drop (length seen) story)
-  by_parts n start seen story h le = ap (added_by who n start) (goes_parts seen story h)
+  by_parts n start seen story h le = ap (added_by who n start) (prefix-parts seen story h)
       ∙ by_append n start seen (drop (length seen) story) le
 
   filter_other : (m n : ℕ) → m ≢ n → (xs : List E)
@@ -100,7 +73,7 @@ module _ {E : Type 0} (who : E → ℕ) where
   others_add_none m n ne xs all = ap (filter (is_by who m)) (sym all) ∙ filter_other m n ne xs
 
   -- nothing new of the number, where it has seen all that is under it
-  pub none_new : (n start : ℕ) (seen story mine : List E) → GoesOn seen story → start ≤ length seen
+  pub none_new : (n start : ℕ) (seen story mine : List E) → IsPrefix seen story → start ≤ length seen
       → added_by who n start seen ≡ mine → added_by who n start story ≡ mine
       → filter (is_by who n) (drop (length seen) story) ≡ []
   none_new n start seen story mine h le known own =
@@ -108,21 +81,21 @@ module _ {E : Type 0} (who : E → ℕ) where
       (known ∙ sym own ∙ by_parts n start seen story h le)
 
   -- what is between a beginning that has all of it and the story has all of it
-  pub known_between : (n start : ℕ) (a b story mine : List E) → GoesOn a b → GoesOn b story
+  pub known_between : (n start : ℕ) (a b story mine : List E) → IsPrefix a b → IsPrefix b story
       → start ≤ length a
       → added_by who n start a ≡ mine → added_by who n start story ≡ mine
       → added_by who n start b ≡ mine
   known_between n start a b story mine hab hb le known own =
-      let rest = none_new n start a story mine (goes_trans a b story hab hb) le known own in
+      let rest = none_new n start a story mine (prefix-trans a b story hab hb) le known own in
       let ab = by_parts n start a b hab le in
-      let le' : start ≤ length b = omega (arith, goes_short a b hab) in
+      let le' : start ≤ length b = omega (arith, prefix-fits a b hab) in
       let all = by_parts n start b story hb le' in
       let e : added_by who n start a
       ≡ (added_by who n start a ++ filter (is_by who n) (drop (length a) b)) ++ filter
       (is_by who n) (drop (length b) story) =
       known ∙ sym own ∙ all ∙ ap (λ t. t ++ filter (is_by who n) (drop (length b) story)) ab in
       let none : filter (is_by who n) (drop (length a) b) ≡ [] =
-      nil_of_length (filter (is_by who n) (drop (length a) b))
+      nil_from_length (filter (is_by who n) (drop (length a) b))
       (omega (
         arith,
         ap length e,
@@ -134,7 +107,7 @@ module _ {E : Type 0} (who : E → ℕ) where
       )) in
       ab ∙ ap (λ t. added_by who n start a ++ t) none ∙ append-nil (added_by who n start a) ∙ known
 
-  pub nothing_before : (n start : ℕ) (seen story : List E) → GoesOn seen story → start ≤ length seen
+  pub nothing_before : (n start : ℕ) (seen story : List E) → IsPrefix seen story → start ≤ length seen
       → added_by who n start story ≡ [] → added_by who n start seen ≡ []
   nothing_before n start seen story h le none =
       nil_left (added_by who n start seen) (filter (is_by who n) (drop (length seen) story))
@@ -142,7 +115,7 @@ module _ {E : Type 0} (who : E → ℕ) where
 
   pub adds_none : (n : ℕ) (story : List E) → AddsUnder who n story story
   adds_none n story = (
-    goes_self story,
+    prefix-self story,
     (let e = drop-length story in
         ap (filter (is_by who n)) e ∙ sym e),
   )
@@ -153,7 +126,7 @@ module _ {E : Type 0} (who : E → ℕ) where
       let seam : drop (length story) (story ++ e ∷ []) ≡ e ∷ [] = drop-append_seam story (e ∷ []) in
       let one : filter (is_by who n) (e ∷ []) ≡ e ∷ [] =
       ap (λ t. cond t (e ∷ []) []) (eq-eqb (who e) n is) in (
-        goes_append story story (e ∷ []) (goes_self story),
+        prefix-append story story (e ∷ []) (prefix-self story),
         ap (filter (is_by who n)) seam ∙ one
             ∙ sym seam,
       )

@@ -9,12 +9,14 @@ use native.Mathlib.Decide.{ℕ_discrete}
 use lib.ListN.{get_elem?}
 use Rattle.atomic_table.specs.Table.{step, keeps, takes, gives, Allows, put_back, rest}
 use Rattle.atomic_table.proofs.Lists.{set_here, set_again, one_turn}
+use Rattle.basics.specs.Prefix.{IsPrefix}
+use Rattle.basics.proofs.Prefix.{prefix-fits, prefix-self, prefix-trans}
 use Rattle.turn_lock.specs.declared.view.Beginning.{Beginning}
 use Rattle.turn_lock.specs.declared.view.View.{View}
-use Rattle.turn_lock.specs.Story.{GoesOn, is_by, added_by, AddsUnder}
+use Rattle.turn_lock.specs.Story.{is_by, added_by, AddsUnder}
 use Rattle.turn_lock.specs.View.{is_live, waits, queued, took, gave, DrawsTicket, LooksAtServed, Serves}
 use Rattle.turn_lock.specs.Rule.{Fits}
-use Rattle.turn_lock.proofs.Stories.{goes_short, goes_self, goes_trans, by_parts, others_add_none}
+use Rattle.turn_lock.proofs.Stories.{by_parts, others_add_none}
 use Rattle.turn_lock.proofs.Seats.{put, put_here, put_else, bit, at_within, one_place, count_set, count_same}
 use Rattle.turn_lock.proofs.Steps.{seat_number, kind, next_mod, heads_kept, taken_set, each_set, not_empty, St, M, K, slot_set, few_wait, fits_place, Goes, leads_set, spelled}
 
@@ -143,7 +145,7 @@ module _ {X F E : Type 0} (frame : X → F) (story_of : X → List E) (who : E �
               (count_by waits (set s.views id w)))
               record {
                 begun = f.begun;
-                begins = subst (λ z. GoesOn z r.story) (sym whole) (goes_self r.story);
+                begins = subst (λ z. IsPrefix z r.story) (sym whole) (prefix-self r.story);
                 reach = subst (λ z. b.start ≤ length z) (sym whole) r.reaches;
                 own = f.own;
                 known = ap (added_by who v.number b.start) whole ∙ f.own;
@@ -168,7 +170,7 @@ module _ {X F E : Type 0} (frame : X → F) (story_of : X → List E) (who : E �
                 refl,
                 f.begun,
                 home.2,
-                subst (λ z. GoesOn v.seen z) (sym whole) f.begins,
+                subst (λ z. IsPrefix v.seen z) (sym whole) f.begins,
                 ap (added_by who v.number b.start) whole ∙ f.own,
               )),
               λ miss. absurd (miss (hit ∙ ap (λ z. z % 2 ^ 64) e)),
@@ -224,7 +226,7 @@ module _ {X F E : Type 0} (frame : X → F) (story_of : X → List E) (who : E �
       omega (arith, count_set waits s.views id v w at, ap bit in_line, ap bit out) in
       let story' : List E = story_of x in
       let added : List E = drop (length r.story) story' in
-      let on : GoesOn r.story story' = subst (λ z. GoesOn z story') has.1 adds.0 in
+      let on : IsPrefix r.story story' = subst (λ z. IsPrefix z story') has.1 adds.0 in
       let own_all : filter (is_by who v.number) added ≡ added =
       subst (λ z. filter (is_by who v.number) (drop (length z) story') ≡ drop (length z) story')
       has.1 adds.1 in
@@ -236,7 +238,7 @@ module _ {X F E : Type 0} (frame : X → F) (story_of : X → List E) (who : E �
       ∙ append-nil (added_by who m b.start r.story) in
       let long : b.start ≤ length story' =
       (let a : b.start ≤ length r.story = r.reaches in
-      omega (arith, goes_short r.story story' on)) in
+      omega (arith, prefix-fits r.story story' on)) in
       let mine_now : added_by who v.number b.start story' ≡ w.mine =
       by_parts who v.number b.start v.seen story' adds.0 f.reach
       ∙ ap₂ (λ y z. y ++ z) f.known adds.1 in
@@ -266,7 +268,7 @@ module _ {X F E : Type 0} (frame : X → F) (story_of : X → List E) (who : E �
               (Fits frame story_of who b story' r.place r.line (r.served + 1) n')
               record {
                 begun = f.begun;
-                begins = goes_self story';
+                begins = prefix-self story';
                 reach = long;
                 own = mine_now;
                 known = mine_now;
@@ -281,7 +283,7 @@ module _ {X F E : Type 0} (frame : X → F) (story_of : X → List E) (who : E �
               λ k is e. ne (ap (λ o. unwrap_or o 0) (sym is ∙ ap r.line e ∙ mine)) in
               record {
                 begun = g.begun;
-                begins = goes_trans u.seen r.story story' g.begins on;
+                begins = prefix-trans u.seen r.story story' g.begins on;
                 reach = g.reach;
                 own = still u.number other ∙ g.own;
                 known = g.known;
@@ -310,8 +312,8 @@ module _ {X F E : Type 0} (frame : X → F) (story_of : X → List E) (who : E �
             left = λ m is. still m
                 (apart m (λ z. let c : 0 ≡ 1 = sym z ∙ ap kind is in omega arith)) ∙ l.left m is;
             keeps = λ j is. let k = l.keeps j is in (
-              goes_trans j.first r.story story' k.0 on,
-              goes_trans j.other r.story story' k.1 on,
+              prefix-trans j.first r.story story' k.0 on,
+              prefix-trans j.other r.story story' k.1 on,
               k.2,
               k.3,
               k.4,

@@ -7,13 +7,14 @@ use mathlib.Core.Option.{some, none}
 use mathlib.Core.Option as maybe
 use lib.ListN.{get_elem?}
 use Rattle.atomic_table.specs.Table.{State}
+use Rattle.basics.specs.Prefix.{IsPrefix}
 use Rattle.turn_lock.specs.declared.pass.TheConstants.{MOST_NUMBERS}
 use Rattle.turn_lock.specs.declared.view.Beginning.{Beginning}
 use Rattle.turn_lock.specs.declared.view.EndedPass.{EndedPass}
 use Rattle.turn_lock.specs.declared.view.JoinCheck.{JoinCheck}
 use Rattle.turn_lock.specs.declared.view.Chief.{Chief}
 use Rattle.turn_lock.specs.declared.view.View.{View}
-use Rattle.turn_lock.specs.Story.{GoesOn, added_by}
+use Rattle.turn_lock.specs.Story.{added_by}
 use Rattle.turn_lock.specs.View.{newcomer, no_chief, is_live, waits, is_among, left_by}
 
 -- where a number is: with a seat, among the joined, drawn and about to be given, or not drawn
@@ -49,7 +50,7 @@ module _ {X F E : Type 0} (frame : X → F) (story_of : X → List E) (who : E �
     pub record Fits (place : ℕ → Whereabouts) (line : ℕ → Option ℕ) (served waiting id : ℕ)
         (v : View F E) : Type 0 where
       pub begun : v.beginning ≡ Some b
-      pub begins : GoesOn v.seen story
+      pub begins : IsPrefix v.seen story
       pub reach : b.start ≤ length v.seen
       -- the entries under its number are its own, and it has seen them all
       pub own : added_by who v.number b.start story ≡ v.mine
@@ -73,7 +74,7 @@ module _ {X F E : Type 0} (frame : X → F) (story_of : X → List E) (who : E �
       pub once : are_different c.ended ≡ true
       pub left : (n : ℕ) → place n ≡ ended → added_by who n b.start story ≡ left_by n c.ended
       pub keeps : (j : JoinCheck E) → c.joined ≡ Some j
-          → GoesOn j.first story × GoesOn j.other story × (j.out ≡ c.out + 1)
+          → IsPrefix j.first story × IsPrefix j.other story × (j.out ≡ c.out + 1)
           × (j.number ≢ 0) × (is_among j.number j.ended ≡ false)
 
     -- the slot has a value with this story, or a seat that holds the turn has taken it out

@@ -1,10 +1,7 @@
 -- Stories: a list of entries, each under the number of the one who added it.
-use Rattle.std.specs.Prelude.{◌≡◌, ℕ, ◌==◌, List, length, take, drop, Bool, nat_lt, if◌then◌else◌}
+use Rattle.std.specs.Prelude.{◌≡◌, ℕ, ◌==◌, List, length, drop, Bool, nat_lt, if◌then◌else◌}
 use Rattle.std.specs.List.{filter}
-
--- the story begins with what was seen
-abbrev pub GoesOn : {E : Type 0} → (seen story : List E) → Type 0
-GoesOn seen story = take (length seen) story ≡ seen
+use Rattle.basics.specs.Prefix.{IsPrefix}
 
 -- of two stories the longer one
 abbrev pub longer : {E : Type 0} → (first other : List E) → List E
@@ -21,4 +18,4 @@ module _ {E : Type 0} (who : E → ℕ) where
   -- the story is the one before and then entries under this number
   abbrev pub AddsUnder : (number : ℕ) → (before story : List E) → Type 0
   AddsUnder number before story =
-      GoesOn before story × (added_by number (length before) story ≡ drop (length before) story)
+      IsPrefix before story × (added_by number (length before) story ≡ drop (length before) story)

@@ -2,12 +2,13 @@
 -- A holder has the value out of the slot between two of its steps; its view stays as it is then.
 use Rattle.std.specs.Prelude.{◌≡◌, ◌≢◌, ℕ, ◌+◌, ◌-◌, ◌%◌, ◌^◌, ◌<◌, List, [], ◌∷◌, ◌++◌, length, drop, Bool, true, false, ◌&&◌, ◌||◌, ◌==◌, if◌then◌else◌, Option, Some, None, is_some, unwrap_or}
 use Rattle.atomic_table.specs.Table.{Step, Me}
+use Rattle.basics.specs.Prefix.{IsPrefix}
 use Rattle.turn_lock.specs.declared.view.Beginning.{Beginning}
 use Rattle.turn_lock.specs.declared.view.EndedPass.{EndedPass}
 use Rattle.turn_lock.specs.declared.view.JoinCheck.{JoinCheck}
 use Rattle.turn_lock.specs.declared.view.Chief.{Chief}
 use Rattle.turn_lock.specs.declared.view.View.{View}
-use Rattle.turn_lock.specs.Story.{GoesOn, longer, added_by}
+use Rattle.turn_lock.specs.Story.{longer, added_by}
 
 module _ {E : Type 0} where
   abbrev pub is_among : (number : ℕ) → List (EndedPass E) → Bool
@@ -124,8 +125,8 @@ module _ {X F E : Type 0} (frame : X → F) (story : X → List E) (who : E → 
   Compares step before found after =
       (after ≡ (checked before.0, before.1))
       × ((j : JoinCheck E) → before.0.chief.joined ≡ Some j
-      → GoesOn j.first before.0.seen
-      × GoesOn j.other before.0.seen
+      → IsPrefix j.first before.0.seen
+      × IsPrefix j.other before.0.seen
       × (j.out ≡ before.0.chief.out + 1)
       × (j.number ≢ 0)
       × (is_among j.number j.ended ≡ false)
@@ -144,7 +145,7 @@ module _ {X F E : Type 0} (frame : X → F) (story : X → List E) (who : E → 
       × (after ≡ (took (story x) before.0, (0, Some x) ∷ before.1))
       × (before.0.beginning ≡ Some b)
       × (frame x ≡ b.frame)
-      × GoesOn before.0.seen (story x)
+      × IsPrefix before.0.seen (story x)
       × (added_by who before.0.number b.start (story x) ≡ before.0.mine)
 
   abbrev pub LooksAtServed : Knows

@@ -1,6 +1,7 @@
 //! The lock.
 ghost use Rattle.std.specs.Prelude.{◌≡◌, ◌≢◌, ℕ, ◌+◌, ◌-◌, ◌%◌, ◌^◌, ◌<◌, [], ◌∷◌, length, true, false, None, Some, All, if◌then◌else◌, is_ok, ◌≤◌, MatchResult, IfOk, IfErr, drop};
-ghost use Rattle.turn_lock.specs.Story.{GoesOn, AddsUnder, added_by};
+ghost use Rattle.basics.specs.Prefix.{IsPrefix};
+ghost use Rattle.turn_lock.specs.Story.{AddsUnder, added_by};
 ghost use Rattle.turn_lock.specs.View.{is_among};
 ghost use Rattle.turn_lock.specs.Pass.{first_pass, split_first, split_off, joined_with, holding, gave_back, entries_of, IsPassOf, IsOneOf};
 
@@ -134,7 +135,7 @@ impl<V: Storied> Turn<V> {
         requires free { other.holds ≡ false }
         ensures pass { first.new ≡ joined_with first.old other }
         ensures out { first.new.out + 1 ≡ first.old.out }
-        ensures seen { GoesOn first.old.seen first.new.seen × GoesOn other.seen first.new.seen }
+        ensures seen { IsPrefix first.old.seen first.new.seen × IsPrefix other.seen first.new.seen }
         ensures held { first.old.holds ≡ true → first.new.seen ≡ first.old.seen }
         ensures fresh { (other.number ≢ 0) × (is_among other.number first.old.ended ≡ false) }
     {
@@ -151,7 +152,7 @@ impl<V: Storied> Turn<V> {
         requires free { pass.old.holds ≡ false }
         ensures frame { V.frame result ≡ self.now.frame }
         ensures pass { pass.new ≡ holding (V.story result) pass.old }
-        ensures goes_on { GoesOn pass.old.seen (V.story result) }
+        ensures goes_on { IsPrefix pass.old.seen (V.story result) }
         ensures reach { self.now.start ≤ length (V.story result) }
         ensures own { added_by V.who pass.old.number self.now.start (V.story result)
             ≡ pass.old.mine }
@@ -197,7 +198,7 @@ impl<V: Storied> Turn<V> {
         requires alone { first.out ≡ 0 }
         requires free { first.holds ≡ false }
         ensures frame { V.frame result ≡ self.frame }
-        ensures goes_on { GoesOn first.seen (V.story result) }
+        ensures goes_on { IsPrefix first.seen (V.story result) }
         ensures entries { (number : ℕ) → added_by V.who number self.start (V.story result)
             ≡ entries_of number first }
         ensures whose { All (λ entry. IsOneOf (V.who entry) first)

@@ -1,5 +1,6 @@
 use Rattle.std.proofs.Common.{sym, ap, ◌∙◌, subst, Some, is_some, ◌≡◌, true, false, All, drop}
-use Rattle.turn_lock.specs.Story.{GoesOn, added_by}
+use Rattle.basics.specs.Prefix.{IsPrefix}
+use Rattle.turn_lock.specs.Story.{added_by}
 use Rattle.turn_lock.specs.Pass.{entries_of, IsOneOf}
 use Rattle.turn_lock.specs.Rule.{beginning_of}
 use Rattle.turn_lock.proofs.Passes.{of_name, closed_value}
@@ -54,8 +55,8 @@ returns-clause-goes_on g c =
     c.close_with-closed.ensures.values.2 in
     let same = closed_value s.frame s.story s.who b v _ left _ c.in-Some.value
     c.take-value.ensures.value c.in-Some.is in
-    subst (λ p. GoesOn p.seen (s.story c.in-Some.value)) c.into_seat.ensures.state
-    (subst (λ x. GoesOn v.seen (s.story x)) same left.goes_on)
+    subst (λ p. IsPrefix p.seen (s.story c.in-Some.value)) c.into_seat.ensures.state
+    (subst (λ x. IsPrefix v.seen (s.story x)) same left.goes_on)
 
 pub returns-clause-entries : goal.returns-clause-entries
 returns-clause-entries g c = λ number.

@@ -1,10 +1,10 @@
 use Rattle.std.proofs.Common.{arith, sym, ap, ap₂, ◌∙◌, subst, Some, None, is_some, [], ◌∷◌, false, refl, if◌then◌else◌, Bool}
 use Rattle.atomic_table.specs.Table.{rest}
+use Rattle.basics.proofs.Prefix.{prefix-fits}
 use Rattle.turn_lock.specs.Story.{AddsUnder, added_by}
 use Rattle.turn_lock.specs.View.{is_live, gave, start_of}
 use Rattle.turn_lock.specs.Pass.{IsPass}
 use Rattle.turn_lock.proofs.Passes.{of_turn, known_after}
-use Rattle.turn_lock.proofs.Stories.{goes_short}
 use Rattle.turn_lock.proofs.Tickets.{serves}
 use Rattle.turn_lock.proofs.turn.Turn.give.Goals as goal
 
@@ -60,7 +60,7 @@ invariant_of-pass g c =
       nothing_to_check = i.nothing_to_check;
       carries = refl;
       ticketless = λ _. refl;
-      reach = (let le = i.reach in let h = goes_short v.seen (s.story c.args.value) adds.0 in
+      reach = (let le = i.reach in let h = prefix-fits v.seen (s.story c.args.value) adds.0 in
           omega arith);
       known = known_after s.who c.pass.inside.number (start_of v.beginning) v.seen
           (s.story c.args.value) v.mine

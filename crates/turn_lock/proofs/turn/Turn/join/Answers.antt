@@ -1,8 +1,9 @@
 use Rattle.std.proofs.Common.{arith, sym, ap, ap₂, ◌∙◌, subst, None, [], ◌∷◌, if◌then◌else◌, Bool, ◌+◌, ◌-◌, ◌≢◌, cond, refl}
-use Rattle.turn_lock.specs.Story.{GoesOn, longer, added_by}
+use Rattle.basics.specs.Prefix.{IsPrefix}
+use Rattle.basics.proofs.Prefix.{prefix-fits}
+use Rattle.turn_lock.specs.Story.{longer, added_by}
 use Rattle.turn_lock.specs.Pass.{IsPass, pass_state, joined_with}
 use Rattle.turn_lock.specs.View.{is_live, checked, united, start_of, is_among}
-use Rattle.turn_lock.proofs.Stories.{goes_short}
 use Rattle.turn_lock.proofs.Passes.{of_name, compared}
 use Rattle.turn_lock.proofs.Joins.{joins, compares}
 use Rattle.turn_lock.proofs.turn.Turn.join.Goals as goal
@@ -73,7 +74,7 @@ invariant_of-first g c =
       nothing_to_check = refl;
       carries = i.carries;
       ticketless = i.ticketless;
-      reach = (let le = i.reach in let h = goes_short v.seen (longer v.seen w.seen) told.0 in
+      reach = (let le = i.reach in let h = prefix-fits v.seen (longer v.seen w.seen) told.0 in
           omega arith);
       known = ap (λ n. added_by s.who n (start_of v.beginning) (longer v.seen w.seen))
           (sym i.number_is) ∙ told.5;
@@ -97,10 +98,10 @@ returns-clause-seen g c =
     c.load.ensures.2.1 in
     let after = c.load.ensures.2.0 ∙ ap (λ m. (checked m.0, m.1)) united_is in
     let seen = ap (λ m. m.0.seen) after ∙ told.6 in (
-      subst (λ p. GoesOn p.seen c.load.new.seat.me.0.seen) c.first.view_is
-          (subst (λ l. GoesOn v.seen l) (sym seen) told.0),
-      subst (λ p. GoesOn p.seen c.load.new.seat.me.0.seen) c.into_seat.ensures.state
-          (subst (λ l. GoesOn w.seen l) (sym seen) told.1),
+      subst (λ p. IsPrefix p.seen c.load.new.seat.me.0.seen) c.first.view_is
+          (subst (λ l. IsPrefix v.seen l) (sym seen) told.0),
+      subst (λ p. IsPrefix p.seen c.load.new.seat.me.0.seen) c.into_seat.ensures.state
+          (subst (λ l. IsPrefix w.seen l) (sym seen) told.1),
     )
 
 pub returns-clause-pass : goal.returns-clause-pass

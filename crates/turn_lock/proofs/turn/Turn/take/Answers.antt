@@ -1,7 +1,8 @@
 use Rattle.std.proofs.Common.{arith, sym, ap, ◌∙◌, subst, Some, is_some, ◌≡◌, [], ◌∷◌, drop, length}
 use Rattle.std.specs.List.{filter}
 use Rattle.atomic_table.specs.Table.{rest}
-use Rattle.turn_lock.specs.Story.{GoesOn, added_by, is_by}
+use Rattle.basics.specs.Prefix.{IsPrefix}
+use Rattle.turn_lock.specs.Story.{added_by, is_by}
 use Rattle.turn_lock.specs.View.{start_of}
 use Rattle.turn_lock.proofs.Stories.{none_new}
 use Rattle.turn_lock.proofs.Passes.{of_turn, same_value}
@@ -47,7 +48,7 @@ returns-clause-others g c =
     let queue = c.fetch_add-ticket.ensures.2 in
     let same = ap (λ m. m.0) queue.2 in
     let begun = sym (ap (λ z. z.beginning) same) ∙ h.3 in
-    let goes = subst (λ z. GoesOn z.seen (s.story h.0)) same h.5 in
+    let goes = subst (λ z. IsPrefix z.seen (s.story h.0)) same h.5 in
     let own = ap (λ z. added_by s.who z.number h.1.start (s.story h.0)) (sym same) ∙ h.6
     ∙ ap (λ z. z.mine) same in
     let known = ap (λ n. added_by s.who n (start_of v.beginning) v.seen) i.number_is ∙ i.known in
