@@ -1,6 +1,7 @@
 -- Which refusal stands, by what the tests of a call find, one after the other.
 use Rattle.std.proofs.Common.{◌≡◌, ℕ, ◌+◌, ◌<◌, ◌≤◌, Bool, true, false, not, cond, List, length, nat_le, Option, Some, None, Result, Ok, Err, IfErr, IsErrAnd, is_some, option_map, refl, ap, ◌∙◌, sym, subst, arith}
 use Rattle.std.proofs.lemmas.List.{length-map}
+use Rattle.basics.proofs.Options.{is_some-map}
 use Rattle.basics.specs.Refusal.{IsRefusedOr}
 use Rattle.source_vm.specs.Machine.{may_have_disks}
 use Rattle.fleet.specs.declared.limits.TheConstants.{MAX_HOSTS, MAX_VMS}
@@ -28,10 +29,6 @@ le_told m n h = grind (arith, h)
 
 lt_told : (m n : ℕ) → n < m → nat_le m n ≡ false
 lt_told m n h = grind (arith, h)
-
-is_some-map : {X Y : Type 0} (f : X → Y) (o : Option X) → is_some (option_map f o) ≡ is_some o
-is_some-map f None = refl
-is_some-map f (Some x) = refl
 
 module _ (hosts : List (List ℕ × Host)) (vms : List (List ℕ × Vm)) (fleet : FleetState)
     (shown : fleet_state hosts vms ≡ fleet) (name : List ℕ) where

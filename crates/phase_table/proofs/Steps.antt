@@ -51,18 +51,18 @@ pub phase_of_number : (p : Phase) → phase_of (phase_number p) ≡ p
 phase_of_number Started = refl
 phase_of_number _ = refl
 
-abbrev fact_of : ℕ → Fact
-fact_of n = slice_index_or (Done ∷ Precopy ∷ Cutover ∷ Running ∷ Cancel ∷ Fail ∷ []) n Fail
+abbrev fact_numbered : ℕ → Fact
+fact_numbered n = slice_index_or (Done ∷ Precopy ∷ Cutover ∷ Running ∷ Cancel ∷ Fail ∷ []) n Fail
 
-fact_of_number : (f : Fact) → fact_of (fact_number f) ≡ f
-fact_of_number Done = refl
-fact_of_number _ = refl
+fact_numbered_back : (f : Fact) → fact_numbered (fact_number f) ≡ f
+fact_numbered_back Done = refl
+fact_numbered_back _ = refl
 
 pub numbers_differ : NumbersDiffer
 numbers_differ p q e = sym (phase_of_number p) ∙ ap phase_of e ∙ phase_of_number q
 
 facts_differ : (f g : Fact) → fact_number f ≡ fact_number g → f ≡ g
-facts_differ f g e = sym (fact_of_number f) ∙ ap fact_of e ∙ fact_of_number g
+facts_differ f g e = sym (fact_numbered_back f) ∙ ap fact_numbered e ∙ fact_numbered_back g
 
 two_numbers : (a b m n : ℕ) → (a == b && m == n) ≡ true → (a ≡ b) × (m ≡ n)
 two_numbers a b m n e = grind (arith, nat_tests)

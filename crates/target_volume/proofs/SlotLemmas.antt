@@ -474,7 +474,7 @@ whole_kept sound more failing calls after es slots name held whole same later bo
       ordered = ordered;
     }
 
-keeping : (s : MemVolumesState) (v : MemVolumeState) (calls : CallLog) (sound : Bool)
+kept_whole : (s : MemVolumesState) (v : MemVolumeState) (calls : CallLog) (sound : Bool)
     (slots : List (VolumeName × SlotState)) (lent : ℕ) (loan : Loan)
     → calls ≡ record s.calls {
       faults = counted_by (v.held.calls.faults - lent) s.calls.faults;
@@ -482,7 +482,7 @@ keeping : (s : MemVolumesState) (v : MemVolumeState) (calls : CallLog) (sound : 
     → sound ≡ (s.sound && never_fails v.held.calls)
     → slots ≡ with_volume v.name (Home v.held) s.slots → loan.faults ≡ lent
     → record s { calls = calls; sound = sound; slots = slots } ≡ after_keeping loan.faults v s
-keeping s v calls sound slots lent loan called both put counted =
+kept_whole s v calls sound slots lent loan called both put counted =
     ap (λ (l : CallLog). record s { calls = l; sound = sound; slots = slots }) called
     ∙ ap (λ (b : Bool). record s {
       calls = record s.calls {
@@ -519,7 +519,7 @@ kept_state s now v vol calls sound slots lent loan found same samev called both 
     (pair samev same) ∙ lentout in
     let counted : loan.faults ≡ lent =
     subst (λ (o : Option SlotState). IsLentWith lent o) (sym there ∙ here) with in
-    keeping s v calls sound slots lent loan called both put counted
+    kept_whole s v calls sound slots lent loan called both put counted
     ∙ ap (λ (p : MemVolumeState × MemVolumesState). after_keeping loan.faults p.0 p.1)
     (pair samev same)
   where
