@@ -334,16 +334,6 @@ legal_machine number m fleet is found =
 abbrev Knows : FleetState → Migration → Type 0
 Knows fleet m = ForSome (machine_of m.vm fleet) (λ at. IsKnown at.log m)
 
-legal_facts : (fleet : FleetState) (vm : ℕ) (at : MachineState) → IsFleet fleet
-    → machine_of vm fleet ≡ Some at → Legal (all_of at.capacities) at.log
-legal_facts fleet vm at is found = by (machine_of vm fleet) refl found
-  where
-    by : (o : Option MachineState) → machine_of vm fleet ≡ o → o ≡ Some at
-        → Legal (all_of at.capacities) at.log
-    by None there e = absurd (none-some at e)
-    by (Some m) there e = subst (λ (x : MachineState). Legal (all_of x.capacities) x.log)
-        (same_Some m at e) (legal_machine vm m fleet is there)
-
 came_known : (fleet : FleetState) (v : CtlValue) (r : Record) (mig : ℕ) (n : Migration)
     → IsFleet fleet
     → ((k : ℕ) (m : Migration) → migration_in v k ≡ Some m → Knows fleet m)
@@ -357,7 +347,7 @@ came_known fleet v r mig n is old borne (stepped m there may new of) = λ at fou
     let asks = told_some (machine_of m.vm fleet) (λ a. RecordAsks a m r) at
     (borne.logged m (before_is v r mig m of there)) here in
     subst (IsKnown at.log) (sym new)
-    (step_known at m r (legal_facts fleet m.vm at is here) (old mig m there at here) asks)
+    (step_known at m r (legal_machine m.vm at fleet is here) (old mig m there at here) asks)
 came_known fleet v r mig n is old borne (stayed there other) = old mig n there
 
 abbrev Front : FleetState → List Record → CtlValue → Type 0
@@ -467,7 +457,7 @@ in_log_later old new front v r m is grows stand may before logged =
     option_and_then_some (migration_in v) (migration_of r) m before (λ mig of there.
     let sound = ((values_are_sound front v stand.come_to).migrations mig m there).sound in
     facts_later old new m.vm (λ at. RecordAsks at m r) (λ at. RecordAsks at m r) grows
-    (λ at more found owned asks. asks_later at more m r (legal_facts old m.vm at is found)
+    (λ at more found owned asks. asks_later at more m r (legal_machine m.vm at old is found)
     (all_known old front v is stand mig m there at found) sound
     (stores v r mig m of there may) asks) logged)
 
