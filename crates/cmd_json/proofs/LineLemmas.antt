@@ -1,45 +1,32 @@
 -- A line beside the value that is read from it, and its command's name among those that are built.
-use Rattle.std.proofs.Common.{◌≡◌, ℕ, Bool, true, false, if◌then◌else◌, ◌||◌, List, [], ◌∷◌, map, Option, Some, None, Err, Bor, refl, ap, IsUtf8}
+use Rattle.std.proofs.Common.{◌≡◌, ℕ, Bool, true, false, if◌then◌else◌, ◌||◌, List, [], ◌∷◌, Option, Some, None, Err, Bor, refl, ap, IsUtf8}
 use Rattle.std.proofs.lemmas.Str.{IsUtf8-from_is_utf8, is_utf8-from_IsUtf8}
 use Rattle.std.proofs.lemmas.Slice.Eq.{bytes_eq-Decides}
 use Rattle.std.specs.List.{list_any}
 use Rattle.std.specs.Option.{ok_or}
 use Rattle.std.specs.Str.{bytes_eq, is_utf8}
-use Rattle.serde_json.specs.Data.{Data}
 use Rattle.serde_json.specs.Read.{read}
 use Rattle.cmd_json.specs.Kinds.{result_and_then}
 use Rattle.cmd_json.specs.Members.{named}
-use Rattle.cmd_json.specs.Line.{value_of, command_among, command_of_data, contains, names_of}
+use Rattle.cmd_json.specs.Line.{command_among, command_of_data, contains, names_of}
 use Rattle.cmd_json.specs.declared.refusal.CmdRefused.TheVariants.{Json}
 
-value_read : (line : List ℕ) (d : Data) → IsUtf8 line → read line ≡ Some d
-    → value_of line ≡ Some d
-value_read line d utf8 is = rw (is_utf8-from_IsUtf8 line utf8) is
+-- a line of UTF-8 asks for what its text does
+pub among_text : (built : List (List ℕ)) (line : List ℕ) → IsUtf8 line
+    → command_among built line ≡ result_and_then (command_of_data built) (ok_or (read line) Json)
+among_text built line utf8 = rw (is_utf8-from_IsUtf8 line utf8) refl
 
-unread_at : (line : List ℕ) (utf8 : Bool) → is_utf8 line ≡ utf8
-    → (IsUtf8 line → read line ≡ None)
+unread_at : (line : List ℕ) (utf8 : Bool) → is_utf8 line ≡ utf8 → (IsUtf8 line → ⊥)
     → (if utf8 then read line else None) ≡ None
-unread_at line true is none = none (IsUtf8-from_is_utf8 line is)
-unread_at line false is none = refl
+unread_at line true is apart = absurd (apart (IsUtf8-from_is_utf8 line is))
+unread_at line false is apart = refl
 
-value_unread : (line : List ℕ) → (IsUtf8 line → read line ≡ None)
-    → value_of line ≡ None
-value_unread line none = unread_at line (is_utf8 line) refl none
-
--- a line that is read asks for what its value does
-pub among_read : (built : List (List ℕ)) (line : List ℕ) (d : Data) → IsUtf8 line
-    → read line ≡ Some d
-    → command_among built line ≡ command_of_data built d
-among_read built line d utf8 is =
-    ap (λ value. result_and_then (command_of_data built) (ok_or value Json))
-    (value_read line d utf8 is)
-
--- a line that isn't read is refused
-pub among_unread : (built : List (List ℕ)) (line : List ℕ) → (IsUtf8 line → read line ≡ None)
+-- a line that isn't UTF-8 is refused
+pub among_unread : (built : List (List ℕ)) (line : List ℕ) → (IsUtf8 line → ⊥)
     → command_among built line ≡ Err Json
-among_unread built line none =
+among_unread built line apart =
     ap (λ value. result_and_then (command_of_data built) (ok_or value Json))
-    (value_unread line none)
+    (unread_at line (is_utf8 line) refl apart)
 
 pub contains-names_of : (names : List (Bor (List ℕ))) (name : List ℕ)
     → list_any (λ other. bytes_eq other.now name) names ≡ contains (names_of names) name

@@ -13,12 +13,11 @@ use Rattle.serde_json.specs.Data.{Num, Data, number, array, object, Items, Membe
 use Rattle.serde_json.specs.Find.{get_member}
 use Rattle.serde_json.specs.Read.{read, of_json, of_items, of_members, number_of, max_depth}
 use Rattle.cmd_json.specs.Laws.{IsBefore, Ascends, KeepsOrder}
-use Rattle.cmd_json.specs.Line.{value_of}
 use Rattle.cmd_json.specs.Members.{without}
 
 -- ---- a member is put in
 
-before_all : (k l : List ℕ) (ms : Members) → slice_cmp nat_cmp k l ≡ Less → IsBefore l ms
+pub before_all : (k l : List ℕ) (ms : Members) → slice_cmp nat_cmp k l ≡ Less → IsBefore l ms
     → IsBefore k ms
 before_all k l no_members less h = tt
 before_all k l (member q d ms) less h =
@@ -48,7 +47,7 @@ put_ascends_at Greater k l d e ms is h rest =
     let above = nat_list_cmp_total.antisymm l k ∙ ap ordering_reverse is in
     (before_put l k d ms above h.0, rest)
 
-put_ascends : (k : List ℕ) (d : Data) (ms : Members) → Ascends ms → Ascends (put k d ms)
+pub put_ascends : (k : List ℕ) (d : Data) (ms : Members) → Ascends ms → Ascends (put k d ms)
 put_ascends k d no_members h = (tt, tt)
 put_ascends k d (member l e ms) h = put_ascends_at _ k l d e ms refl h (put_ascends k d ms h.1)
 
@@ -105,7 +104,7 @@ before_without_at Less q k l e ms h rest = (h.0, rest)
 before_without_at Equal q k l e ms h rest = h.1
 before_without_at Greater q k l e ms h rest = (h.0, rest)
 
-before_without : (q k : List ℕ) (ms : Members) → IsBefore q ms → IsBefore q (without k ms)
+pub before_without : (q k : List ℕ) (ms : Members) → IsBefore q ms → IsBefore q (without k ms)
 before_without q k no_members h = tt
 before_without q k (member l e ms) h =
     before_without_at (slice_cmp nat_cmp k l) q k l e ms h (before_without q k ms h.1)

@@ -1,6 +1,7 @@
 pub mod Range
 pub mod Kinds
 pub mod Members
+pub mod Tree
 pub mod Left
 pub mod Refusal
 pub mod Commands

@@ -17,7 +17,7 @@ use crate::objects::{DisturbKind, GuestKind};
 use crate::refusal::CmdRefused;
 use basics::{MAX_DISK_SECTORS, MAX_HOST_LIMIT, MAX_INTERVAL, MAX_WRITE_SECTORS};
 
-pub(crate) fn read_move(members: &mut Members) -> Result<Command, CmdRefused>
+pub(crate) fn read_move(members: &mut Members<'_>) -> Result<Command, CmdRefused>
     ensures reads { Reads (command_named (codes "move") (left_in members.old)) (left_in members.new)
         result }
     ensures known { IfOk result IsAskable }
@@ -32,7 +32,7 @@ pub(crate) fn read_move(members: &mut Members) -> Result<Command, CmdRefused>
     })
 }
 
-pub(crate) fn read_host(members: &mut Members) -> Result<Command, CmdRefused>
+pub(crate) fn read_host(members: &mut Members<'_>) -> Result<Command, CmdRefused>
     ensures reads { Reads (command_named (codes "host") (left_in members.old)) (left_in members.new)
         result }
     ensures known { IfOk result IsAskable }
@@ -42,7 +42,7 @@ pub(crate) fn read_host(members: &mut Members) -> Result<Command, CmdRefused>
     Ok(Command::Host { name, limit })
 }
 
-pub(crate) fn read_vm(members: &mut Members) -> Result<Command, CmdRefused>
+pub(crate) fn read_vm(members: &mut Members<'_>) -> Result<Command, CmdRefused>
     ensures reads { Reads (command_named (codes "vm") (left_in members.old)) (left_in members.new)
         result }
     ensures known { IfOk result IsAskable }
@@ -53,7 +53,7 @@ pub(crate) fn read_vm(members: &mut Members) -> Result<Command, CmdRefused>
     Ok(Command::Vm { name, host, disks })
 }
 
-pub(crate) fn read_enable(members: &mut Members) -> Result<Command, CmdRefused>
+pub(crate) fn read_enable(members: &mut Members<'_>) -> Result<Command, CmdRefused>
     ensures reads { Reads (command_named (codes "enable") (left_in members.old))
         (left_in members.new) result }
     ensures known { IfOk result IsAskable }
@@ -62,7 +62,7 @@ pub(crate) fn read_enable(members: &mut Members) -> Result<Command, CmdRefused>
     Ok(Command::Enable { vm })
 }
 
-pub(crate) fn read_write(members: &mut Members) -> Result<Command, CmdRefused>
+pub(crate) fn read_write(members: &mut Members<'_>) -> Result<Command, CmdRefused>
     ensures reads { Reads (command_named (codes "write") (left_in members.old))
         (left_in members.new) result }
     ensures known { IfOk result IsAskable }
@@ -81,7 +81,7 @@ pub(crate) fn read_write(members: &mut Members) -> Result<Command, CmdRefused>
     })
 }
 
-pub(crate) fn read_snapshot(members: &mut Members) -> Result<Command, CmdRefused>
+pub(crate) fn read_snapshot(members: &mut Members<'_>) -> Result<Command, CmdRefused>
     ensures reads { Reads (command_named (codes "snapshot") (left_in members.old))
         (left_in members.new) result }
     ensures known { IfOk result IsAskable }
@@ -90,7 +90,7 @@ pub(crate) fn read_snapshot(members: &mut Members) -> Result<Command, CmdRefused
     Ok(Command::Snapshot { vm })
 }
 
-pub(crate) fn read_remove(members: &mut Members) -> Result<Command, CmdRefused>
+pub(crate) fn read_remove(members: &mut Members<'_>) -> Result<Command, CmdRefused>
     ensures reads { Reads (command_named (codes "remove") (left_in members.old))
         (left_in members.new) result }
     ensures known { IfOk result IsAskable }
@@ -100,7 +100,7 @@ pub(crate) fn read_remove(members: &mut Members) -> Result<Command, CmdRefused>
     Ok(Command::Remove { vm, snapshot })
 }
 
-pub(crate) fn read_query(members: &mut Members) -> Result<Command, CmdRefused>
+pub(crate) fn read_query(members: &mut Members<'_>) -> Result<Command, CmdRefused>
     ensures reads { Reads (command_named (codes "query") (left_in members.old))
         (left_in members.new) result }
     ensures known { IfOk result IsAskable }
@@ -119,7 +119,7 @@ pub(crate) fn read_query(members: &mut Members) -> Result<Command, CmdRefused>
     })
 }
 
-pub(crate) fn read_read(members: &mut Members) -> Result<Command, CmdRefused>
+pub(crate) fn read_read(members: &mut Members<'_>) -> Result<Command, CmdRefused>
     ensures reads { Reads (command_named (codes "read") (left_in members.old)) (left_in members.new)
         result }
     ensures known { IfOk result IsAskable }
@@ -138,7 +138,7 @@ pub(crate) fn read_read(members: &mut Members) -> Result<Command, CmdRefused>
     })
 }
 
-pub(crate) fn read_power(members: &mut Members) -> Result<Command, CmdRefused>
+pub(crate) fn read_power(members: &mut Members<'_>) -> Result<Command, CmdRefused>
     ensures reads { Reads (command_named (codes "power") (left_in members.old))
         (left_in members.new) result }
     ensures known { IfOk result IsAskable }
@@ -148,7 +148,7 @@ pub(crate) fn read_power(members: &mut Members) -> Result<Command, CmdRefused>
     Ok(Command::Power { vm, on })
 }
 
-pub(crate) fn read_reset(members: &mut Members) -> Result<Command, CmdRefused>
+pub(crate) fn read_reset(members: &mut Members<'_>) -> Result<Command, CmdRefused>
     ensures reads { Reads (command_named (codes "reset") (left_in members.old))
         (left_in members.new) result }
     ensures known { IfOk result IsAskable }
@@ -158,7 +158,7 @@ pub(crate) fn read_reset(members: &mut Members) -> Result<Command, CmdRefused>
     Ok(Command::Reset { vm, disk })
 }
 
-pub(crate) fn read_plan(members: &mut Members) -> Result<Command, CmdRefused>
+pub(crate) fn read_plan(members: &mut Members<'_>) -> Result<Command, CmdRefused>
     ensures reads { Reads (command_named (codes "plan") (left_in members.old)) (left_in members.new)
         result }
     ensures known { IfOk result IsAskable }
@@ -173,7 +173,7 @@ pub(crate) fn read_plan(members: &mut Members) -> Result<Command, CmdRefused>
     })
 }
 
-pub(crate) fn read_start(members: &mut Members) -> Result<Command, CmdRefused>
+pub(crate) fn read_start(members: &mut Members<'_>) -> Result<Command, CmdRefused>
     ensures reads { Reads (command_named (codes "start") (left_in members.old))
         (left_in members.new) result }
     ensures known { IfOk result IsAskable }
@@ -182,7 +182,7 @@ pub(crate) fn read_start(members: &mut Members) -> Result<Command, CmdRefused>
     Ok(Command::Start { plan })
 }
 
-pub(crate) fn read_run(members: &mut Members) -> Result<Command, CmdRefused>
+pub(crate) fn read_run(members: &mut Members<'_>) -> Result<Command, CmdRefused>
     ensures reads { Reads (command_named (codes "run") (left_in members.old)) (left_in members.new)
         result }
     ensures known { IfOk result IsAskable }
@@ -199,7 +199,7 @@ pub(crate) fn read_run(members: &mut Members) -> Result<Command, CmdRefused>
     })
 }
 
-pub(crate) fn read_cutover(members: &mut Members) -> Result<Command, CmdRefused>
+pub(crate) fn read_cutover(members: &mut Members<'_>) -> Result<Command, CmdRefused>
     ensures reads { Reads (command_named (codes "cutover") (left_in members.old))
         (left_in members.new) result }
     ensures known { IfOk result IsAskable }
@@ -209,7 +209,7 @@ pub(crate) fn read_cutover(members: &mut Members) -> Result<Command, CmdRefused>
     Ok(Command::Cutover { plan, at })
 }
 
-pub(crate) fn read_cancel(members: &mut Members) -> Result<Command, CmdRefused>
+pub(crate) fn read_cancel(members: &mut Members<'_>) -> Result<Command, CmdRefused>
     ensures reads { Reads (command_named (codes "cancel") (left_in members.old))
         (left_in members.new) result }
     ensures known { IfOk result IsAskable }
@@ -218,7 +218,7 @@ pub(crate) fn read_cancel(members: &mut Members) -> Result<Command, CmdRefused>
     Ok(Command::Cancel { vm })
 }
 
-pub(crate) fn read_target(members: &mut Members) -> Result<Command, CmdRefused>
+pub(crate) fn read_target(members: &mut Members<'_>) -> Result<Command, CmdRefused>
     ensures reads { Reads (command_named (codes "target") (left_in members.old))
         (left_in members.new) result }
     ensures known { IfOk result IsAskable }
@@ -233,7 +233,7 @@ pub(crate) fn read_target(members: &mut Members) -> Result<Command, CmdRefused>
     })
 }
 
-pub(crate) fn read_digest(members: &mut Members) -> Result<Command, CmdRefused>
+pub(crate) fn read_digest(members: &mut Members<'_>) -> Result<Command, CmdRefused>
     ensures reads { Reads (command_named (codes "digest") (left_in members.old))
         (left_in members.new) result }
     ensures known { IfOk result IsAskable }

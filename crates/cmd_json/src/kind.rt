@@ -1,6 +1,6 @@
 //! What the value of a member may be.
 use basics::NoMemory;
-use serde_json::Value;
+use json::Value;
 use std::alloc::{AllocFailed, Global};
 
 /// Why a value isn't one of a kind.
@@ -40,8 +40,8 @@ impl<T: Drop> From<AllocFailed<T>> for Misfit {
 pub(crate) trait Kind: Drop {
     ghost use Rattle.std.specs.Prelude.{Result, IfOk};
     ghost use Rattle.serde_json.specs.Data.{Data};
-    ghost use Rattle.serde_json.specs.View.{view};
     ghost use Rattle.cmd_json.specs.Members.{Gives};
+    ghost use Rattle.cmd_json.specs.Tree.{value_data};
     ghost use Rattle.cmd_json.specs.declared.kind.Misfit.{Misfit};
     ghost use Rattle.cmd_json.specs.declared.kind.Misfit.TheVariants as misfit;
 
@@ -53,7 +53,7 @@ pub(crate) trait Kind: Drop {
     ghost known: { Self → Self.Said → Type 0 };
 
     /// What a value says, or why it isn't one of the kind.
-    fn read(&self, alloc: Global, value: Value) -> Result<Self::Said, Misfit>
-        ensures said { Gives misfit.NoMemory (says self.now (view value)) result }
+    fn read(&self, alloc: Global, value: Value<'_>) -> Result<Self::Said, Misfit>
+        ensures said { Gives misfit.NoMemory (says self.now (value_data value.entry)) result }
         ensures known { IfOk result (known self.now) };
 }

@@ -1,18 +1,18 @@
 //! Texts, names, moments, truth values and numbers.
-ghost use Rattle.std.specs.Prelude.{◌≡◌, ◌≤◌, IsTrue, IfOk, length};
-ghost use Rattle.serde_json.specs.View.{view};
+ghost use Rattle.std.specs.Prelude.{◌≡◌, ◌≤◌, true, IsTrue, IfOk, length};
 ghost use Rattle.basics.specs.declared.name.TheConstants.{MAX_NAME_BYTES};
 ghost use Rattle.plan_model.specs.Moments.{moment_of};
 ghost use Rattle.basics.specs.Spelled.{is_name};
-ghost use Rattle.cmd_json.specs.Kinds.{a_number};
+ghost use Rattle.cmd_json.specs.Kinds.{a_number, a_number_that};
 ghost use Rattle.cmd_json.specs.Range.{IsWithin};
+ghost use Rattle.cmd_json.specs.Tree.{value_data};
 
-use crate::Text;
 use crate::command::SECTOR_START_UNIT;
 use crate::kind::{Kind, Misfit};
+use crate::{Text, numbers};
 use basics::is_name;
+use json::Value;
 use plan_model::{Moment, Name};
-use serde_json::Value;
 use std::alloc::Global;
 
 /// A text.
@@ -28,7 +28,7 @@ impl Kind for TextKind {
 
     ghost known = { λ _ _. Unit {0} };
 
-    fn read(&self, alloc: Global, value: Value) -> Result<Text, Misfit> {
+    fn read(&self, alloc: Global, value: Value<'_>) -> Result<Text, Misfit> {
         let text = value.as_str().ok_or(Misfit::Field)?;
         Ok(Text::of(alloc, text)?)
     }
@@ -48,7 +48,7 @@ impl Kind for NameKind {
 
     ghost known = { λ _. IsName };
 
-    fn read(&self, alloc: Global, value: Value) -> Result<Name, Misfit> {
+    fn read(&self, alloc: Global, value: Value<'_>) -> Result<Name, Misfit> {
         let text = value.as_str().ok_or(Misfit::Field)?;
         if spells_name(text) {
             Ok(Name::of(alloc, text)?)
@@ -78,7 +78,7 @@ impl Kind for MomentKind {
 
     ghost known = { λ _ _. Unit {0} };
 
-    fn read(&self, _alloc: Global, value: Value) -> Result<Moment, Misfit> {
+    fn read(&self, _alloc: Global, value: Value<'_>) -> Result<Moment, Misfit> {
         let text = value.as_str().ok_or(Misfit::Field)?;
         moment_of(text).ok_or(Misfit::Number)
     }
@@ -103,7 +103,7 @@ impl Kind for FlagKind {
 
     ghost known = { λ _ _. Unit {0} };
 
-    fn read(&self, _alloc: Global, value: Value) -> Result<bool, Misfit> {
+    fn read(&self, _alloc: Global, value: Value<'_>) -> Result<bool, Misfit> {
         value.as_bool().ok_or(Misfit::Field)
     }
 }
@@ -132,7 +132,7 @@ impl Kind for NumberKind<u64> {
 
     ghost known = { λ range. IsWithin range.low range.high };
 
-    fn read(&self, _alloc: Global, value: Value) -> Result<u64, Misfit> {
+    fn read(&self, _alloc: Global, value: Value<'_>) -> Result<u64, Misfit> {
         number_of(&value, self.low, self.high)
     }
 }
@@ -147,7 +147,7 @@ impl Kind for NumberKind<u32> {
 
     ghost known = { λ range. IsWithin range.low range.high };
 
-    fn read(&self, _alloc: Global, value: Value) -> Result<u32, Misfit> {
+    fn read(&self, _alloc: Global, value: Value<'_>) -> Result<u32, Misfit> {
         let number = number_of(&value, u64::from(self.low), u64::from(self.high))?;
         Ok(number as u32)
     }
@@ -163,24 +163,31 @@ impl Kind for NumberKind<u8> {
 
     ghost known = { λ range. IsWithin range.low range.high };
 
-    fn read(&self, _alloc: Global, value: Value) -> Result<u8, Misfit> {
+    fn read(&self, _alloc: Global, value: Value<'_>) -> Result<u8, Misfit> {
         let number = number_of(&value, u64::from(self.low), u64::from(self.high))?;
         Ok(number as u8)
     }
 }
 
 /// The number of a value that is a whole number of 64 bits in a range.
-pub(crate) fn number_of(value: &Value, low: u64, high: u64) -> Result<u64, Misfit>
-    ensures value { result ≡ a_number low high (view value.now) }
+pub(crate) fn number_of(value: &Value<'_>, low: u64, high: u64) -> Result<u64, Misfit>
+    ensures value { result ≡ a_number low high (value_data value.now) }
     ensures within { IfOk result (IsWithin low high) }
 {
-    let number = value.as_number().ok_or(Misfit::Field)?;
-    let number = number.as_u64().ok_or(Misfit::Number)?;
+    let number = unsigned_of(value)?;
     if low <= number && number <= high {
         Ok(number)
     } else {
         Err(Misfit::Number)
     }
+}
+
+// The number of a value that is a whole number of 64 bits.
+fn unsigned_of(value: &Value<'_>) -> Result<u64, Misfit>
+    ensures { result ≡ a_number_that (λ _. true) (value_data value.now) }
+{
+    let text = value.as_number().ok_or(Misfit::Field)?;
+    numbers::unsigned_of(text).ok_or(Misfit::Number)
 }
 
 /// The place of a byte that begins a sector.
@@ -198,9 +205,8 @@ impl Kind for SectorStartKind {
 
     ghost known = { λ _ number. number % SECTOR_START_UNIT ≡ 0 };
 
-    fn read(&self, _alloc: Global, value: Value) -> Result<u64, Misfit> {
-        let number = value.as_number().ok_or(Misfit::Field)?;
-        let number = number.as_u64().ok_or(Misfit::Number)?;
+    fn read(&self, _alloc: Global, value: Value<'_>) -> Result<u64, Misfit> {
+        let number = unsigned_of(&value)?;
         if number % SECTOR_START_UNIT == 0 {
             Ok(number)
         } else {

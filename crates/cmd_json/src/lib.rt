@@ -8,11 +8,13 @@ mod kind;
 mod kinds;
 mod lists;
 mod members;
+mod numbers;
 mod objects;
 mod read;
 mod refusal;
 #[cfg(test)]
 mod tests;
+mod tree;
 
 pub use basics::{Sequence, Text};
 pub use command::{
@@ -20,5 +22,5 @@ pub use command::{
     SECTOR_START_UNIT,
 };
 pub use plan_model::{Moment, Name};
-pub use read::{BUILT, built_are_rows, order_is_kept, read_command};
+pub use read::{BUILT, CommandReader, built_are_rows, order_is_kept, read_command};
 pub use refusal::CmdRefused;

@@ -11,7 +11,7 @@ use crate::kind::{Kind, Misfit};
 use crate::kinds::{LONG, NameKind, TextKind, WORD};
 use crate::members::Members;
 use crate::refusal::CmdRefused;
-use serde_json::Value;
+use json::Value;
 use std::alloc::Global;
 
 impl From<CmdRefused> for Misfit {
@@ -44,17 +44,17 @@ impl Kind for GuestKind {
 
     ghost known = { λ _ line. IsName line.vm };
 
-    fn read(&self, alloc: Global, value: Value) -> Result<GuestLine, Misfit> {
-        let Value::Object(map) = value else {
+    fn read(&self, alloc: Global, value: Value<'_>) -> Result<GuestLine, Misfit> {
+        let Value::Object(list) = value else {
             return Err(Misfit::Field);
         };
-        let mut members = Members::of(alloc, map);
+        let mut members = Members::of(alloc, list);
         let line = read_guest(&mut members)?;
         Ok(members.finish(line)?)
     }
 }
 
-fn read_guest(members: &mut Members) -> Result<GuestLine, CmdRefused>
+fn read_guest(members: &mut Members<'_>) -> Result<GuestLine, CmdRefused>
     ensures reads { Reads (guest (left_in members.old)) (left_in members.new) result }
     ensures known { IfOk result (λ line. IsName line.vm) }
 {
@@ -79,17 +79,17 @@ impl Kind for DisturbKind {
 
     ghost known = { λ _ line. IsName line.vm };
 
-    fn read(&self, alloc: Global, value: Value) -> Result<DisturbLine, Misfit> {
-        let Value::Object(map) = value else {
+    fn read(&self, alloc: Global, value: Value<'_>) -> Result<DisturbLine, Misfit> {
+        let Value::Object(list) = value else {
             return Err(Misfit::Field);
         };
-        let mut members = Members::of(alloc, map);
+        let mut members = Members::of(alloc, list);
         let line = read_disturbance(&mut members)?;
         Ok(members.finish(line)?)
     }
 }
 
-fn read_disturbance(members: &mut Members) -> Result<DisturbLine, CmdRefused>
+fn read_disturbance(members: &mut Members<'_>) -> Result<DisturbLine, CmdRefused>
     ensures reads { Reads (disturbance (left_in members.old)) (left_in members.new) result }
     ensures known { IfOk result (λ line. IsName line.vm) }
 {
@@ -98,7 +98,7 @@ fn read_disturbance(members: &mut Members) -> Result<DisturbLine, CmdRefused>
     Ok(DisturbLine { vm, act })
 }
 
-fn read_act(members: &mut Members) -> Result<ActLine, CmdRefused>
+fn read_act(members: &mut Members<'_>) -> Result<ActLine, CmdRefused>
     ensures { Reads (and_then act_named (required (codes "act") a_text) (left_in members.old))
         (left_in members.new) result }
 {
@@ -108,7 +108,7 @@ fn read_act(members: &mut Members) -> Result<ActLine, CmdRefused>
 
 // Reads the other members of the act of that name.
 #[tactic(auto, unfolding(crate::specs::Commands::act_named))]
-fn read_named(act: &str, members: &mut Members) -> Result<ActLine, CmdRefused>
+fn read_named(act: &str, members: &mut Members<'_>) -> Result<ActLine, CmdRefused>
     ensures { Reads (act_named act.now (left_in members.old)) (left_in members.new) result }
 {
     match act {

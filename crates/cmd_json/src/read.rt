@@ -1,11 +1,14 @@
 //! The command of a line, by its name.
 ghost use Rattle.std.specs.Prelude.{◌≡◌, IfOk};
+ghost use Rattle.std.specs.Option.{ok_or};
 ghost use Rattle.cmd_json.specs.Known.{IsAskable};
-ghost use Rattle.serde_json.specs.View.{view};
+ghost use Rattle.serde_json.specs.Read.{read};
 ghost use Rattle.cmd_json.specs.Laws.{BuiltAreRows, TheseAreBuilt, KeepsOrder};
+ghost use Rattle.cmd_json.specs.Kinds.{result_and_then};
 ghost use Rattle.cmd_json.specs.Left.{left_in};
 ghost use Rattle.cmd_json.specs.Line.{command_of, command_among, command_of_data, command_of_members, command_named, contains, names_of};
 ghost use Rattle.cmd_json.specs.Members.{Gives, Reads};
+ghost use Rattle.cmd_json.specs.Tree.{value_data};
 ghost use Rattle.cmd_json.specs.declared.refusal.CmdRefused.TheVariants as refused;
 
 use crate::command::Command;
@@ -16,7 +19,8 @@ use crate::commands::{
 };
 use crate::members::Members;
 use crate::refusal::CmdRefused;
-use serde_json::Value;
+use crate::tree::tree_of;
+use json::{Scratch, Value};
 use std::alloc::Global;
 
 /// The names of the commands that the program carries out by now. A command whose name isn't among
@@ -56,44 +60,88 @@ pub fn read_command(alloc: Global, line: &[u8]) -> Result<Command, CmdRefused>
     ensures read { Gives refused.NoMemory (command_of line.now) result }
     ensures known { IfOk result IsAskable }
 {
-    read_among(alloc, &BUILT, line)
+    CommandReader::new(alloc).read(alloc, line)
 }
 
-/// The same, where the commands of these names are built.
-pub(crate) fn read_among(alloc: Global, built: &[&str], line: &[u8]) -> Result<Command, CmdRefused>
-    ensures read { Gives refused.NoMemory (command_among (names_of built.now) line.now) result }
-    ensures known { IfOk result IsAskable }
-{
-    match Value::from_slice(alloc, line) {
-        Ok(value) => read_value(alloc, built, value),
-        Err(error) if error.is_memory() => Err(CmdRefused::NoMemory),
-        Err(_) => Err(CmdRefused::Json),
+/// Reads one line after another, and keeps the memory that reading takes: that is about twice the
+/// longest line, and 16 KiB.
+#[derive(Drop)]
+pub struct CommandReader {
+    scratch: Scratch,
+}
+
+impl CommandReader {
+    /// A reader that hasn't read a line.
+    pub fn new(alloc: Global) -> CommandReader {
+        CommandReader {
+            scratch: Scratch::new(alloc),
+        }
+    }
+
+    /// The same as [`read_command`]. What was read before changes nothing.
+    pub fn read(&mut self, alloc: Global, line: &[u8]) -> Result<Command, CmdRefused>
+        ensures read { Gives refused.NoMemory (command_of line.now) result }
+        ensures known { IfOk result IsAskable }
+    {
+        self.read_among(alloc, &BUILT, line)
+    }
+
+    /// The same, where the commands of these names are built.
+    pub(crate) fn read_among(
+        &mut self,
+        alloc: Global,
+        built: &[&str],
+        line: &[u8],
+    ) -> Result<Command, CmdRefused>
+        ensures read { Gives refused.NoMemory (command_among (names_of built.now) line.now) result }
+        ensures known { IfOk result IsAskable }
+    {
+        match simdutf8::basic::from_utf8(line) {
+            Ok(text) => read_text(alloc, built, text, &mut self.scratch),
+            Err(_) => Err(CmdRefused::Json),
+        }
     }
 }
 
-fn read_value(alloc: Global, built: &[&str], value: Value) -> Result<Command, CmdRefused>
-    ensures read { Gives refused.NoMemory (command_of_data (names_of built.now) (view value))
-        result }
+fn read_text(
+    alloc: Global,
+    built: &[&str],
+    text: &str,
+    scratch: &mut Scratch,
+) -> Result<Command, CmdRefused>
+    ensures read { Gives refused.NoMemory (result_and_then (command_of_data (names_of built.now))
+        (ok_or (read text.now) refused.Json)) result }
+    ensures known { IfOk result IsAskable }
+{
+    match tree_of(alloc, text, scratch) {
+        Ok(value) => read_value(alloc, built, value),
+        Err(refused) => Err(refused),
+    }
+}
+
+fn read_value(alloc: Global, built: &[&str], value: Value<'_>) -> Result<Command, CmdRefused>
+    ensures read { Gives refused.NoMemory
+        (command_of_data (names_of built.now) (value_data value.entry)) result }
     ensures known { IfOk result IsAskable }
 {
     match value {
-        Value::Object(map) => read_object(built, Members::of(alloc, map)),
+        Value::Object(list) => read_object(built, Members::of(alloc, list)),
         _ => Err(CmdRefused::Command),
     }
 }
 
-fn read_object(built: &[&str], mut members: Members) -> Result<Command, CmdRefused>
+fn read_object(built: &[&str], mut members: Members<'_>) -> Result<Command, CmdRefused>
     ensures read { Gives refused.NoMemory
-        (command_of_members (names_of built.now) (left_in members)) result }
+        (command_of_members (names_of built.now) (left_in members.entry)) result }
     ensures known { IfOk result IsAskable }
 {
     let Some(Value::String(name)) = members.take("cmd") else {
         return Err(CmdRefused::Command);
     };
-    if !is_among(name.as_str(), built) {
+    if !is_among(name, built) {
         return Err(CmdRefused::Command);
     }
-    let command = read_named(name.as_str(), &mut members)?;
+    let command = read_named(name, &mut members)?;
     members.finish(command)
 }
 
@@ -104,7 +152,7 @@ fn is_among(name: &str, names: &[&str]) -> bool
 }
 
 // Reads the members of the command of that name.
-fn read_named(name: &str, members: &mut Members) -> Result<Command, CmdRefused>
+fn read_named(name: &str, members: &mut Members<'_>) -> Result<Command, CmdRefused>
     ensures reads { Reads (command_named name.now (left_in members.old)) (left_in members.new)
         result }
     ensures known { IfOk result IsAskable }

@@ -1,6 +1,5 @@
 //! What lines are answered, and what is read from them.
-use crate::read::read_among;
-use crate::{CmdRefused, Command};
+use crate::{CmdRefused, Command, CommandReader};
 use std::alloc::Global;
 use std::process::Abort;
 use std::test::Fail;
@@ -38,7 +37,7 @@ const ALL: [&str; 22] = [
 
 // What a line asks for where all commands are built.
 fn read(alloc: Global, line: &[u8]) -> Result<Command, CmdRefused> {
-    read_among(alloc, &ALL, line)
+    CommandReader::new(alloc).read_among(alloc, &ALL, line)
 }
 
 // `ok`, or the refusal with the member that it names.

@@ -1,12 +1,14 @@
 //! Which commands are built, and how a refusal is numbered and shown.
 use super::told;
-use crate::read::read_among;
-use crate::{BUILT, CmdRefused, Text, read_command};
+use crate::{BUILT, CmdRefused, CommandReader, Text, read_command};
 use std::alloc::Global;
 use std::test::Fail;
 
 fn answer_where(alloc: Global, built: &[&str], line: &str) -> Result<String, Fail> {
-    told(alloc, read_among(alloc, built, line.as_bytes()))
+    told(
+        alloc,
+        CommandReader::new(alloc).read_among(alloc, built, line.as_bytes()),
+    )
 }
 
 #[test]
