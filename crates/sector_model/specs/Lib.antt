@@ -1,4 +1,5 @@
 pub mod Sector
+pub mod KeptSectors
 pub mod Disk
 pub mod Run
 pub mod Page

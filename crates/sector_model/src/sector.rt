@@ -6,6 +6,7 @@ mod replaced;
 use crate::NoMemory;
 use basics::SECTOR_BYTES;
 use std::alloc::Global;
+use std::array;
 use std::marker::Model;
 
 /// The 512 bytes of one sector.
@@ -40,16 +41,24 @@ impl Sector {
 /// A list of sectors, as a write carries it.
 #[derive(Debug, Drop)]
 pub struct SectorList {
-    sectors: Vec<Sector>,
+    kept: KeptSectors,
+}
+
+/// How a list keeps its sectors: two words, and a single sector stands in one piece of memory.
+#[derive(Debug, Drop)]
+enum KeptSectors {
+    Single(Box<Sector>),
+    Several(Box<Vec<Sector>>),
 }
 
 impl Model for SectorList {
     ghost use Rattle.std.specs.Prelude.{List};
     ghost use Rattle.sector_model.specs.declared.sector.Sector.{Sector};
+    ghost use Rattle.sector_model.specs.KeptSectors.{sectors_of};
 
     ghost Value = { List Sector };
 
-    ghost view = { λ a. a.sectors.items };
+    ghost view = { λ a. sectors_of a.kept };
 }
 
 impl SectorList {
@@ -57,14 +66,20 @@ impl SectorList {
     pub fn of(alloc: Global, sectors: &[Sector]) -> Result<SectorList, NoMemory>
         ensures { IfOk result (λ list. list ≡ sectors.now) }
     {
-        let sectors = sectors.to_vec(alloc)?;
-        Ok(SectorList { sectors })
+        let kept = match sectors {
+            [single] => KeptSectors::Single(Box::new(alloc, *single)?),
+            _ => KeptSectors::Several(Box::new(alloc, sectors.to_vec(alloc)?)?),
+        };
+        Ok(SectorList { kept })
     }
 
     /// The sectors, in order.
     pub fn as_slice(&self) -> &[Sector]
         ensures { result.now ≡ self.now }
     {
-        self.sectors.as_slice()
+        match &self.kept {
+            KeptSectors::Single(sector) => array::from_ref(sector.as_ref()).as_slice(),
+            KeptSectors::Several(sectors) => sectors.as_slice(),
+        }
     }
 }

@@ -2,6 +2,7 @@
 ghost use Rattle.std.specs.Prelude.{◌≡◌, ◌+◌, ◌≤◌, length};
 ghost use Rattle.basics.specs.Replaced.{replaced};
 
+use super::KeptSectors;
 use crate::{Sector, SectorList};
 
 impl SectorList {
@@ -10,7 +11,16 @@ impl SectorList {
         requires { first + length sectors.now ≤ length self.old }
         ensures { self.new ≡ replaced self.old first sectors.now }
     {
-        let old = self.sectors.as_mut_slice();
-        old[first..first + sectors.len()].copy_from_slice(sectors);
+        match &mut self.kept {
+            KeptSectors::Single(old) => {
+                if let [new] = sectors {
+                    **old = *new;
+                }
+            }
+            KeptSectors::Several(kept) => {
+                let old = kept.as_mut_slice();
+                old[first..first + sectors.len()].copy_from_slice(sectors);
+            }
+        }
     }
 }
