@@ -203,8 +203,8 @@ has-found {E = E} reading machine d id log place h =
       identified = in_force-made reading machine d id (take (place + 1) log) here;
     }
 
-pub stays-has : {E : Type 0} (reading : Reading E) (machine d : ℕ) (id : ChangeId) (log more : List E)
-    (place : ℕ) → HasId reading machine d id log place
+pub stays-has : {E : Type 0} (reading : Reading E) (machine d : ℕ) (id : ChangeId)
+    (log more : List E) (place : ℕ) → HasId reading machine d id log place
     → HasId reading machine d id (log ++ more) place
 stays-has {E = E} reading machine d id log more place has =
     let within = has.snapshot.within in

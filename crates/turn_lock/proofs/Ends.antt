@@ -14,7 +14,7 @@ use Rattle.turn_lock.specs.declared.view.Beginning.{Beginning}
 use Rattle.turn_lock.specs.declared.view.Chief.{Chief}
 use Rattle.turn_lock.specs.declared.view.EndedPass.{EndedPass}
 use Rattle.turn_lock.specs.declared.view.View.{View}
-use Rattle.turn_lock.specs.Story.{added_by, is_by}
+use Rattle.turn_lock.specs.Story.{added_by, is_under}
 use Rattle.turn_lock.specs.View.{is_among, left_by, is_live, waits, spent}
 use Rattle.turn_lock.specs.Rule.{Whereabouts, seated, ended, due, free, beginning_of, first_view, Fits, Leads}
 use Rattle.turn_lock.proofs.Seats.{put, put_here, put_else, one_place, two_of_them}
@@ -30,7 +30,7 @@ module _ {X F E : Type 0} (frame : X → F) (story_of : X → List E) (who : E �
   only_first x P p (suc id) v e = absurd (some-ne-none v (sym e))
 
   nothing_yet : (x : X) (n : ℕ) → added_by who n (length (story_of x)) (story_of x) ≡ []
-  nothing_yet x n = ap (filter (is_by who n)) (drop-length (story_of x))
+  nothing_yet x n = ap (filter (is_under who n)) (drop-length (story_of x))
 
   pub opens : (x : X) → K frame story_of who (beginning_of frame story_of x)
       (opening (1 ∷ 0 ∷ 0 ∷ []) (Some x ∷ []) (first_view frame story_of x))
@@ -118,21 +118,21 @@ module _ {X F E : Type 0} (frame : X → F) (story_of : X → List E) (who : E �
 
   -- each entry is under the number 0 or under an ended one
   pub whose : (xs mine : List E) (ls : List (EndedPass E))
-      → ((n : ℕ) → filter (is_by who n) xs ≡ cond (eqb n 0) mine (left_by n ls))
+      → ((n : ℕ) → filter (is_under who n) xs ≡ cond (eqb n 0) mine (left_by n ls))
       → All (λ e. (who e ≡ 0) ⊎ (is_among (who e) ls ≡ true)) xs
   whose xs mine ls each k d lt =
       let n : ℕ = who (get_or xs k d) in
-      let stands = in_filter (is_by who n) xs k d lt (eq-eqb n n refl) in
+      let stands = in_filter (is_under who n) xs k d lt (eq-eqb n n refl) in
       dite (ℕ_discrete n 0) (λ e. inl e)
       (λ ne.
       let P : Bool → Type 0 = λ t. is_among n ls ≡ t → (n ≡ 0) ⊎ (t ≡ true) in
       (elim (is_among n ls) as P [
         | true ↦ λ _. inr refl
         | false ↦ λ out.
-            let none : filter (is_by who n) xs ≡ [] =
+            let none : filter (is_under who n) xs ≡ [] =
             each n ∙ ap (λ t. cond t mine (left_by n ls)) (ne_eqb n 0 ne)
             ∙ left_none n ls out in
-            absurd (let z : length (filter (is_by who n) xs) ≡ 0 = ap length none in omega arith)
+            absurd (let z : length (filter (is_under who n) xs) ≡ 0 = ap length none in omega arith)
       ]) refl)
 
   -- the value that is left in the slot

@@ -139,7 +139,8 @@ module _ {X F E : Type 0} (frame : X → F) (story_of : X → List E) (who : E �
       let other_on : IsPrefix j.other v.seen =
       (elim v.holds as Q [
         | true ↦ λ e. subst (λ z. IsPrefix j.other z) (sym (f.holding e).1) k.1
-        | false ↦ λ e. subst (λ z. IsPrefix j.other z) (sym (seen ∙ ap (λ h. cond h j.first both) e))
+        | false ↦ λ e.
+            subst (λ z. IsPrefix j.other z) (sym (seen ∙ ap (λ h. cond h j.first both) e))
             (longer_other j.first j.other r.story k.0 k.1)
       ]) refl in
       let waits_same : count_by waits (set s.views id w) ≡ count_by waits s.views =
@@ -259,7 +260,8 @@ module _ {X F E : Type 0} (frame : X → F) (story_of : X → List E) (who : E �
       λ m i ne is. put_else r.place d ended m
       (λ e. ne (ap seat_number (sym is ∙ ap r.place e ∙ g.sits))) in
       let long : List E = united_seen v w in
-      let long_on : IsPrefix long r.story = seen_both (λ z. IsPrefix z r.story) v w f.begins g.begins in
+      let long_on : IsPrefix long r.story =
+      seen_both (λ z. IsPrefix z r.story) v w f.begins g.begins in
       let P : ℕ → View F E → Type 0 = Fits frame story_of who b r.story r.place r.line r.served n in
       let Q : ℕ → View F E → Type 0 = Fits frame story_of who b r.story place' r.line r.served n' in
       let id_apart : id ≢ other = λ e. apart_seats (sym e) in

@@ -1,12 +1,12 @@
 -- Stories that go on, and the entries under a number.
-use Rattle.std.proofs.Common.{◌≡◌, ◌≢◌, ℕ, ◌≤◌, List, [], ◌∷◌, ◌++◌, length, take, drop, Bool, true, false, cond, refl, sym, ap, ◌∙◌, arith, length-append, nat_lt, eqb-true, ne_eqb, eq-eqb}
+use Rattle.std.proofs.Common.{◌≡◌, ◌≢◌, ℕ, ◌≤◌, List, [], ◌∷◌, ◌++◌, length, drop, Bool, true, false, cond, refl, sym, ap, ◌∙◌, arith, length-append, nat_lt, eqb-true, ne_eqb, eq-eqb}
 use Rattle.std.specs.List.{filter}
 use Rattle.std.proofs.lemmas.List.{append-nil, drop-append-le, nil_from_length}
 use Rattle.std.proofs.lemmas.List.Elements.{filter-append}
 use lib.Seq.{drop-length, drop-append_seam}
 use Rattle.basics.specs.Prefix.{IsPrefix}
 use Rattle.basics.proofs.Prefix.{prefix-fits, prefix-append, prefix-self, prefix-between, prefix-parts, prefix-trans}
-use Rattle.turn_lock.specs.Story.{longer, is_by, added_by, AddsUnder}
+use Rattle.turn_lock.specs.Story.{longer, is_under, added_by, AddsUnder}
 
 module _ {E : Type 0} where
   pub nil_left : (xs ys : List E) → xs ++ ys ≡ [] → xs ≡ []
@@ -19,7 +19,8 @@ module _ {E : Type 0} where
   pub nothing_more : (xs ys : List E) → xs ≡ xs ++ ys → ys ≡ []
   nothing_more xs ys e = nil_from_length ys (omega (arith, length-append xs ys, ap length e))
 
-  pub longer_first : (a b story : List E) → IsPrefix a story → IsPrefix b story → IsPrefix a (longer a b)
+  pub longer_first : (a b story : List E) → IsPrefix a story → IsPrefix b story
+      → IsPrefix a (longer a b)
   longer_first a b story ha hb =
       let P : Bool → Type 0 = λ t. nat_lt (length a) (length b) ≡ t → IsPrefix a (cond t b a) in
       elim (nat_lt (length a) (length b)) as P [
@@ -27,7 +28,8 @@ module _ {E : Type 0} where
         | false ↦ λ e. prefix-self a
       ] refl
 
-  pub longer_other : (a b story : List E) → IsPrefix a story → IsPrefix b story → IsPrefix b (longer a b)
+  pub longer_other : (a b story : List E) → IsPrefix a story → IsPrefix b story
+      → IsPrefix b (longer a b)
   longer_other a b story ha hb =
       let P : Bool → Type 0 = λ t. nat_lt (length a) (length b) ≡ t → IsPrefix b (cond t b a) in
       elim (nat_lt (length a) (length b)) as P [
@@ -42,42 +44,44 @@ module _ {E : Type 0} where
 
 module _ {E : Type 0} (who : E → ℕ) where
   pub by_append : (n start : ℕ) (xs ys : List E) → start ≤ length xs
-      → added_by who n start (xs ++ ys) ≡ added_by who n start xs ++ filter (is_by who n) ys
-  by_append n start xs ys le = ap (filter (is_by who n)) (drop-append-le start xs ys le)
-      ∙ filter-append (is_by who n) (drop start xs) ys
+      → added_by who n start (xs ++ ys) ≡ added_by who n start xs ++ filter (is_under who n) ys
+  by_append n start xs ys le = ap (filter (is_under who n)) (drop-append-le start xs ys le)
+      ∙ filter-append (is_under who n) (drop start xs) ys
 
   pub by_parts : (n start : ℕ) (seen story : List E) → IsPrefix seen story → start ≤ length seen
-      → added_by who n start story ≡ added_by who n start seen ++ filter (is_by who n)
+      → added_by who n start story ≡ added_by who n start seen ++ filter (is_under who n)
       (drop (length seen) story)
   by_parts n start seen story h le = ap (added_by who n start) (prefix-parts seen story h)
       ∙ by_append n start seen (drop (length seen) story) le
 
   filter_other : (m n : ℕ) → m ≢ n → (xs : List E)
-      → filter (is_by who m) (filter (is_by who n) xs) ≡ []
+      → filter (is_under who m) (filter (is_under who n) xs) ≡ []
   filter_other m n ne [] = refl
   filter_other m n ne (x ∷ xs) =
-      let P : Bool → Type 0 = λ t. is_by who n x ≡ t
-      → filter (is_by who m) (cond t (x ∷ filter (is_by who n) xs) (filter (is_by who n) xs))
+      let P : Bool → Type 0 = λ t. is_under who n x ≡ t
+      → filter (is_under who m)
+      (cond t (x ∷ filter (is_under who n) xs) (filter (is_under who n) xs))
       ≡ [] in
-      elim (is_by who n x) as P [
-        | true ↦ λ e. let other : is_by who m x ≡ false =
+      elim (is_under who n x) as P [
+        | true ↦ λ e. let other : is_under who m x ≡ false =
             ne_eqb (who x) m (λ h. ne (sym h ∙ eqb-true (who x) n e)) in
-            ap (λ t. cond t (x ∷ filter (is_by who m) (filter (is_by who n) xs))
-            (filter (is_by who m) (filter (is_by who n) xs))) other ∙ filter_other m n ne xs
+            ap (λ t. cond t (x ∷ filter (is_under who m) (filter (is_under who n) xs))
+            (filter (is_under who m) (filter (is_under who n) xs))) other ∙ filter_other m n ne xs
         | false ↦ λ e. filter_other m n ne xs
       ] refl
 
   -- entries that are all under one number are under no other
-  pub others_add_none : (m n : ℕ) → m ≢ n → (xs : List E) → filter (is_by who n) xs ≡ xs
-      → filter (is_by who m) xs ≡ []
-  others_add_none m n ne xs all = ap (filter (is_by who m)) (sym all) ∙ filter_other m n ne xs
+  pub others_add_none : (m n : ℕ) → m ≢ n → (xs : List E) → filter (is_under who n) xs ≡ xs
+      → filter (is_under who m) xs ≡ []
+  others_add_none m n ne xs all = ap (filter (is_under who m)) (sym all) ∙ filter_other m n ne xs
 
   -- nothing new of the number, where it has seen all that is under it
-  pub none_new : (n start : ℕ) (seen story mine : List E) → IsPrefix seen story → start ≤ length seen
+  pub none_new : (n start : ℕ) (seen story mine : List E) → IsPrefix seen story
+      → start ≤ length seen
       → added_by who n start seen ≡ mine → added_by who n start story ≡ mine
-      → filter (is_by who n) (drop (length seen) story) ≡ []
+      → filter (is_under who n) (drop (length seen) story) ≡ []
   none_new n start seen story mine h le known own =
-      nothing_more (added_by who n start seen) (filter (is_by who n) (drop (length seen) story))
+      nothing_more (added_by who n start seen) (filter (is_under who n) (drop (length seen) story))
       (known ∙ sym own ∙ by_parts n start seen story h le)
 
   -- what is between a beginning that has all of it and the story has all of it
@@ -91,42 +95,42 @@ module _ {E : Type 0} (who : E → ℕ) where
       let le' : start ≤ length b = omega (arith, prefix-fits a b hab) in
       let all = by_parts n start b story hb le' in
       let e : added_by who n start a
-      ≡ (added_by who n start a ++ filter (is_by who n) (drop (length a) b)) ++ filter
-      (is_by who n) (drop (length b) story) =
-      known ∙ sym own ∙ all ∙ ap (λ t. t ++ filter (is_by who n) (drop (length b) story)) ab in
-      let none : filter (is_by who n) (drop (length a) b) ≡ [] =
-      nil_from_length (filter (is_by who n) (drop (length a) b))
+      ≡ (added_by who n start a ++ filter (is_under who n) (drop (length a) b)) ++ filter
+      (is_under who n) (drop (length b) story) =
+      known ∙ sym own ∙ all ∙ ap (λ t. t ++ filter (is_under who n) (drop (length b) story)) ab in
+      let none : filter (is_under who n) (drop (length a) b) ≡ [] =
+      nil_from_length (filter (is_under who n) (drop (length a) b))
       (omega (
         arith,
         ap length e,
         length-append
-            (added_by who n start a ++ filter (is_by who n) (drop (length a) b))
-            (filter (is_by who n) (drop (length b) story)),
+            (added_by who n start a ++ filter (is_under who n) (drop (length a) b))
+            (filter (is_under who n) (drop (length b) story)),
         length-append (added_by who n start a)
-            (filter (is_by who n) (drop (length a) b)),
+            (filter (is_under who n) (drop (length a) b)),
       )) in
       ab ∙ ap (λ t. added_by who n start a ++ t) none ∙ append-nil (added_by who n start a) ∙ known
 
-  pub nothing_before : (n start : ℕ) (seen story : List E) → IsPrefix seen story → start ≤ length seen
-      → added_by who n start story ≡ [] → added_by who n start seen ≡ []
+  pub nothing_before : (n start : ℕ) (seen story : List E) → IsPrefix seen story
+      → start ≤ length seen → added_by who n start story ≡ [] → added_by who n start seen ≡ []
   nothing_before n start seen story h le none =
-      nil_left (added_by who n start seen) (filter (is_by who n) (drop (length seen) story))
+      nil_left (added_by who n start seen) (filter (is_under who n) (drop (length seen) story))
       (sym (by_parts n start seen story h le) ∙ none)
 
   pub adds_none : (n : ℕ) (story : List E) → AddsUnder who n story story
   adds_none n story = (
     prefix-self story,
     (let e = drop-length story in
-        ap (filter (is_by who n)) e ∙ sym e),
+        ap (filter (is_under who n)) e ∙ sym e),
   )
 
   pub adds_one : (n : ℕ) (story : List E) (e : E) → who e ≡ n
       → AddsUnder who n story (story ++ e ∷ [])
   adds_one n story e is =
       let seam : drop (length story) (story ++ e ∷ []) ≡ e ∷ [] = drop-append_seam story (e ∷ []) in
-      let one : filter (is_by who n) (e ∷ []) ≡ e ∷ [] =
+      let one : filter (is_under who n) (e ∷ []) ≡ e ∷ [] =
       ap (λ t. cond t (e ∷ []) []) (eq-eqb (who e) n is) in (
         prefix-append story story (e ∷ []) (prefix-self story),
-        ap (filter (is_by who n)) seam ∙ one
+        ap (filter (is_under who n)) seam ∙ one
             ∙ sym seam,
       )

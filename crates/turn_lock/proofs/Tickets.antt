@@ -13,7 +13,7 @@ use Rattle.basics.specs.Prefix.{IsPrefix}
 use Rattle.basics.proofs.Prefix.{prefix-fits, prefix-self, prefix-trans}
 use Rattle.turn_lock.specs.declared.view.Beginning.{Beginning}
 use Rattle.turn_lock.specs.declared.view.View.{View}
-use Rattle.turn_lock.specs.Story.{is_by, added_by, AddsUnder}
+use Rattle.turn_lock.specs.Story.{is_under, added_by, AddsUnder}
 use Rattle.turn_lock.specs.View.{is_live, waits, queued, took, gave, DrawsTicket, LooksAtServed, Serves}
 use Rattle.turn_lock.specs.Rule.{Fits}
 use Rattle.turn_lock.proofs.Stories.{by_parts, others_add_none}
@@ -227,8 +227,8 @@ module _ {X F E : Type 0} (frame : X → F) (story_of : X → List E) (who : E �
       let story' : List E = story_of x in
       let added : List E = drop (length r.story) story' in
       let on : IsPrefix r.story story' = subst (λ z. IsPrefix z story') has.1 adds.0 in
-      let own_all : filter (is_by who v.number) added ≡ added =
-      subst (λ z. filter (is_by who v.number) (drop (length z) story') ≡ drop (length z) story')
+      let own_all : filter (is_under who v.number) added ≡ added =
+      subst (λ z. filter (is_under who v.number) (drop (length z) story') ≡ drop (length z) story')
       has.1 adds.1 in
       let still : (m : ℕ) → m ≢ v.number
       → added_by who m b.start story' ≡ added_by who m b.start r.story =

@@ -2,7 +2,7 @@ use Rattle.std.proofs.Common.{arith, sym, ap, ◌∙◌, subst, Some, is_some, �
 use Rattle.std.specs.List.{filter}
 use Rattle.atomic_table.specs.Table.{rest}
 use Rattle.basics.specs.Prefix.{IsPrefix}
-use Rattle.turn_lock.specs.Story.{added_by, is_by}
+use Rattle.turn_lock.specs.Story.{added_by, is_under}
 use Rattle.turn_lock.specs.View.{start_of}
 use Rattle.turn_lock.proofs.Stories.{none_new}
 use Rattle.turn_lock.proofs.Passes.{of_turn, same_value}
@@ -54,6 +54,8 @@ returns-clause-others g c =
     let known = ap (λ n. added_by s.who n (start_of v.beginning) v.seen) i.number_is ∙ i.known in
     let none = none_new s.who v.number (start_of v.beginning) v.seen (s.story h.0) v.mine goes
     i.reach known (ap (λ b. added_by s.who v.number (start_of b) (s.story h.0)) begun ∙ own) in
-    subst (λ p. filter (is_by s.who p.number) (drop (length p.seen) (s.story c.in-Some.value)) ≡ [])
+    subst
+    (λ p. filter (is_under s.who p.number) (drop (length p.seen) (s.story c.in-Some.value)) ≡ [])
     c.pass.view_is
-    (subst (λ x. filter (is_by s.who v.number) (drop (length v.seen) (s.story x)) ≡ []) value none)
+    (subst (λ x. filter (is_under s.who v.number) (drop (length v.seen) (s.story x)) ≡ []) value
+    none)
