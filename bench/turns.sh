@@ -8,9 +8,9 @@ folder=$(mktemp -d) || exit 1
 trap 'rm -rf "$folder"' EXIT
 
 mkdir -p "$folder/crates/turns/src" "$folder/crates/turns/specs" "$folder/crates/turns/proofs/count_up" || exit 1
-cp -r "$here/../crates/turn_lock" "$folder/crates/" || exit 1
+cp -r "$here/../crates/basics" "$here/../crates/turn_lock" "$folder/crates/" || exit 1
 cp "$here/../HANDLES" "$folder/" || exit 1
-printf 'turn_lock: atomic_table\nturns: turn_lock\n' >"$folder/crates.txt"
+printf 'basics:\nturn_lock: basics atomic_table\nturns: turn_lock\n' >"$folder/crates.txt"
 : >"$folder/crates/turns/specs/Lib.antt"
 : >"$folder/crates/turns/proofs/Lib.antt"
 cat >"$folder/crates/turns/proofs/count_up/Invariants.antt" <<'END'

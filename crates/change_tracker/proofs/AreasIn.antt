@@ -11,7 +11,7 @@ use Rattle.sector_model.proofs.PageMade.{full_page, last_page}
 use Rattle.sector_model.proofs.PageSectors.{areas_from_are_exact}
 use Rattle.change_tracker.specs.declared.word.Window.{Window}
 use Rattle.change_tracker.specs.Touches.{TouchState, is_touched, blocks_in, areas_in, IsFirst}
-use Rattle.change_tracker.proofs.Blocks.{in_areas, past_areas}
+use Rattle.sector_model.proofs.Areas.{in_areas, past_areas}
 
 pub spaced : (c : ℕ) (t : TouchState) (w : Window) → c < 2 ^ 64 → AreSpaced (areas_in c t w)
 spaced c t w fits = (runs_of-spaced (in_blocks (blocks_in c t w)) c fits).spaced

@@ -10,7 +10,7 @@ use Rattle.std.proofs.lemmas.List.Sums.{sum_by-take-le}
 use Rattle.std.proofs.lemmas.List.Folds.{list_any-append, find-append}
 use Rattle.sector_model.specs.Run.{meets, met_blocks, block_count, with_met}
 use Rattle.sector_model.specs.declared.run.Run.{Run}
-use Rattle.basics.proofs.ItemAt.{slice_get-front, slice_get-last}
+use Rattle.basics.proofs.ItemAt.{slice_get-front, slice_get-last, slice_get-pushed}
 use Rattle.change_id.specs.ChangeId.{id_of, packed}
 use Rattle.change_id.specs.declared.ChangeId.{ChangeId}
 use Rattle.change_id.proofs.Counts.{epoch-append, counted-last}
@@ -25,15 +25,6 @@ use Rattle.change_tracker.proofs.Steps.{place_new, epoch_of, counted_of, number_
 pub at_front : {X : Type 0} (xs ys : List X) (i : ℕ) (x : X) → slice_get xs i ≡ Some x
     → slice_get (xs ++ ys) i ≡ Some x
 at_front xs ys i x is = slice_get-front xs ys i (slice_get_within xs i x is) ∙ is
-
-pub pushed_at : {X : Type 0} (xs : List X) (y : X) (i : ℕ) (x : X)
-    → slice_get (xs ++ y ∷ []) i ≡ Some x → (slice_get xs i ≡ Some x) ⊎ ((i ≡ length xs) × (y ≡ x))
-pushed_at [] y zero x is = inr (refl, same_Some y x is)
-pushed_at [] y (suc i) x is = absurd (none-some x is)
-pushed_at (z ∷ xs) y zero x is = inl is
-pushed_at (z ∷ xs) y (suc i) x is =
-    elim (pushed_at xs y i x is)
-    [ inl early ↦ inl early | inr last ↦ inr (omega (arith, last.0), last.1) ]
 
 range-front : {X : Type 0} (xs ys : List X) (a b : ℕ) → b ≤ length xs
     → slice_range (xs ++ ys) a b ≡ slice_range xs a b
@@ -526,23 +517,23 @@ old_changes : (id : ℕ) (old : TrackerState) (h : List TrackStep) (place : ℕ)
     → old.free_from ≤ id → StandsFor old h → slice_get old.snapshots place ≡ Some k
     → IsOfEpoch old k
     → TellsChanges (after_freezing id old) (h ++ Frozen id ∷ []) place k
-old_changes id old h place k le stands was of =
+old_changes id old h place k le stands was.1 of =
     let tells = stands.changes place k was of in
-    let inside = (stands.frozen place k was).within in
+    let inside = (stands.frozen place k was.1).within in
     let less = slice_get_within old.snapshots place k was in
     let at = place_new id h (Frozen id) (fresh_id id old h stands le) (eq-eqb id id refl) in
     let long : length (old.snapshots ++ frozen_snapshot id old ∷ []) ≡ length old.snapshots + 1 =
     omega (arith, length-append old.snapshots (frozen_snapshot id old ∷ [])) in
     record {
       upto = λ later other upward at_other b in_disk. elim
-          (pushed_at old.snapshots (frozen_snapshot id old) later other at_other) [
+          (slice_get-pushed old.snapshots (frozen_snapshot id old) later other at_other) [
             | inl early ↦
                 ap (λ (xs : List Snapshot). list_any (λ s. list_any (nat_eq b) s.changes) xs)
                 (range-front old.snapshots (frozen_snapshot id old ∷ []) (place + 1) (later + 1)
-                (omega (arith, slice_get_within old.snapshots later other early)))
-                ∙ tells.upto later other upward early b in_disk
+                (omega (arith, slice_get_within old.snapshots later other early.1)))
+                ∙ tells.upto later other upward early.1 b in_disk
                 ∙ ap (is_met b) (sym (marks_stay h (Frozen id ∷ []) k.id other.id inside
-                (stands.frozen later other early).within))
+                (stands.frozen later other early.1).within))
             | inr last ↦
                 ap (λ n. changed_in (after_freezing id old) (place + 1) (n + 1) b) last.0
                 ∙ changed_upto id old place b less ∙ tells.now b in_disk
@@ -573,7 +564,7 @@ new_changes id old h place le stands is =
           let bound = slice_get_within (old.snapshots ++ frozen_snapshot id old ∷ []) later other
           at_other in
           let same : later ≡ length old.snapshots = omega (arith, bound, long, upward, is) in
-          let other_is = pushed_at old.snapshots (frozen_snapshot id old) later other at_other in
+          let other_is = slice_get-pushed old.snapshots (frozen_snapshot id old) later other at_other in
           ap (λ (xs : List Snapshot). list_any (λ s. list_any (nat_eq b) s.changes) xs)
           (range-none (old.snapshots ++ frozen_snapshot id old ∷ []) (place + 1) (later + 1)
           (omega (arith, same, is)))
@@ -581,7 +572,7 @@ new_changes id old h place le stands is =
           (mark other.id (h ++ Frozen id ∷ [])) (h ++ Frozen id ∷ []) ≡ [] =
           (elim other_is [
             | inl early ↦ absurd (omega
-                (arith, slice_get_within old.snapshots later other early, same))
+                (arith, slice_get_within old.snapshots later other early.1, same))
             | inr last ↦ ap (λ (x : Snapshot). runs_between (mark id (h ++ Frozen id ∷ []))
                 (mark x.id (h ++ Frozen id ∷ [])) (h ++ Frozen id ∷ [])) (sym last.1)
                 ∙ runs_none (mark id (h ++ Frozen id ∷ [])) (h ++ Frozen id ∷ [])
@@ -624,28 +615,31 @@ stands_frozen id old le h stands = record {
       ∙ ap (λ b. b || eqb id s) (stands.known s)
       ∙ sym (list_any-append (freezes s) h (Frozen id ∷ [])
       ∙ ap (λ b. list_any (freezes s) h || b) (or-false (eqb id s)));
-  frozen = λ place k at. elim (pushed_at old.snapshots (frozen_snapshot id old) place k at) [
-    | inl was ↦ frozen_by (after_freezing id old) (h ++ Frozen id ∷ []) k
-        (facts_stay old.machine old.disk old.capacity k.id k.change_id k.blocks h (Frozen id ∷ [])
-        (facts_of old h k (stands.frozen place k was)))
-    | inr last ↦ let P : Snapshot → Type 0 =
-        λ x. IsFrozenAs (after_freezing id old) (h ++ Frozen id ∷ []) x in
-        subst P last.1 (frozen_by (after_freezing id old) (h ++ Frozen id ∷ [])
-        (frozen_snapshot id old) (new_facts id old h le stands))
-  ];
-  numbers = λ place k told at is. elim (pushed_at old.snapshots (frozen_snapshot id old) place k at) [
-    | inl was ↦ numbered_old old (frozen_snapshot id old) (place + 1) told.seq told.uuid
-        (stands.numbers place k told was is) (after_freezing id old) refl
-    | inr last ↦ numbered_last id old place told h stands last.0
-        (ap (λ (x : Snapshot). x.change_id) last.1 ∙ is)
-  ];
+  frozen = λ place k at. elim
+      (slice_get-pushed old.snapshots (frozen_snapshot id old) place k at) [
+        | inl was ↦ frozen_by (after_freezing id old) (h ++ Frozen id ∷ []) k
+            (facts_stay old.machine old.disk old.capacity k.id k.change_id k.blocks h (Frozen id ∷ [])
+            (facts_of old h k (stands.frozen place k was.1)))
+        | inr last ↦ let P : Snapshot → Type 0 =
+            λ x. IsFrozenAs (after_freezing id old) (h ++ Frozen id ∷ []) x in
+            subst P last.1 (frozen_by (after_freezing id old) (h ++ Frozen id ∷ [])
+            (frozen_snapshot id old) (new_facts id old h le stands))
+      ];
+  numbers = λ place k told at is. elim
+      (slice_get-pushed old.snapshots (frozen_snapshot id old) place k at) [
+        | inl was ↦ numbered_old old (frozen_snapshot id old) (place + 1) told.seq told.uuid
+            (stands.numbers place k told was.1 is) (after_freezing id old) refl
+        | inr last ↦ numbered_last id old place told h stands last.0
+            (ap (λ (x : Snapshot). x.change_id) last.1 ∙ is)
+      ];
   present = present_new id old h old.counted stands refl;
-  changes = λ place k at of. elim (pushed_at old.snapshots (frozen_snapshot id old) place k at) [
-    | inl was ↦ old_changes id old h place k le stands was of
-    | inr last ↦ let P : Snapshot → Type 0 =
-        λ x. TellsChanges (after_freezing id old) (h ++ Frozen id ∷ []) place x in
-        subst P last.1 (new_changes id old h place le stands last.0)
-  ];
+  changes = λ place k at of. elim
+      (slice_get-pushed old.snapshots (frozen_snapshot id old) place k at) [
+        | inl was ↦ old_changes id old h place k le stands was.1 of
+        | inr last ↦ let P : Snapshot → Type 0 =
+            λ x. TellsChanges (after_freezing id old) (h ++ Frozen id ∷ []) place x in
+            subst P last.1 (new_changes id old h place le stands last.0)
+      ];
   free = λ n. (
     (λ above. below id old h le stands n above),
     (λ all. let less = all id (list_any-append (freezes id) h (Frozen id ∷ [])

@@ -1,6 +1,5 @@
 pub mod Bits
 pub mod Walks
-pub mod Blocks
 pub mod AreasIn
 pub mod Marking
 pub mod Steps

@@ -7,6 +7,7 @@ use Rattle.std.proofs.lemmas.List.{take-append-le, take_all}
 use Rattle.std.proofs.lemmas.Bool.{cases_lt}
 use Rattle.std.proofs.lemmas.Bool.Decides.{nat_tests, eqb_tells}
 use Rattle.std.proofs.Math.Seq.{take-append_seam}
+use Rattle.basics.proofs.Each.{each_pushed}
 use Rattle.edge_traits.specs.Disk.{DiskContents, DiskState, IsImage, WhereTold, settled}
 use Rattle.basics.specs.Faults.{HasRisen}
 use Rattle.edge_traits.proofs.Images.{settled_image}
@@ -20,7 +21,7 @@ use Rattle.journal.specs.Devices.{IsCutAppend, LeavesCutAppend, IsSettled}
 use Rattle.journal.specs.declared.refusal.JournalRefused.{JournalRefused}
 use Rattle.journal.specs.Opening.{reopened, empty_file}
 use Rattle.journal.proofs.StandingLemmas.{stands_closed, closed_in, none_in_short, HasClosed}
-use Rattle.journal.proofs.Reading.{all_spelled, cells_and_one}
+use Rattle.journal.proofs.Reading.{cells_and_one}
 
 length-cell : (r : Record) → length (cell r) ≡ 4 + length (spelling r)
 length-cell r =
@@ -83,8 +84,8 @@ cut_has records r gate image failure spelled has which closed small (inr (other,
           whole ∙ ap (λ g. front records ++ g ∷ tail) opened
           ∙ front_and_one records r (CLOSED_GATE ∷ []) in
           let all : StandsFor image (Holds (records ++ r ∷ [])) =
-          stands_closed (records ++ r ∷ []) CLOSED_GATE [] image (all_spelled records r spelled has)
-          closed_gate
+          stands_closed (records ++ r ∷ []) CLOSED_GATE [] image
+          (each_pushed HasSpelling records r spelled has) closed_gate
           with_it less in
           inr (inl (subst (λ (x : Record). StandsFor image (Holds (records ++ x ∷ []))) (sym which)
           all))
@@ -186,7 +187,7 @@ pub kept_after : (records : List Record) (len opened : ℕ) (disk now : DiskStat
       disk = now;
     })
 kept_after records len opened disk now r kept faults has small is = record {
-  spelled = all_spelled records r kept.spelled has;
+  spelled = each_pushed HasSpelling records r kept.spelled has;
   long = omega (arith, kept.long, front_longer records r);
   small = small;
   licence = faults ∙ kept.licence;

@@ -5,6 +5,7 @@ use Rattle.std.specs.List.{flat_map, AllByRecursion}
 use Rattle.std.proofs.lemmas.List.{append-nil}
 use Rattle.std.proofs.lemmas.Grind.{flat_map-append}
 use Rattle.std.proofs.lemmas.Bool.Decides.{eqb_tells}
+use Rattle.basics.proofs.Each.{each_pushed}
 use Rattle.record_codec.specs.declared.record.Record.{Record}
 use Rattle.record_codec.specs.Record.{HasSpelling, Spells, spelling, word_bytes}
 use Rattle.journal.specs.declared.cells.Found.{Found}
@@ -18,11 +19,6 @@ use Rattle.journal.proofs.StandingLemmas.{closed_standing, length-front}
 
 pub none_yet : (cells : List ℕ) → AreOpen cells [] cells
 none_yet cells = record { spelled = tt; split = refl }
-
-pub all_spelled : (records : List Record) (r : Record) → AllByRecursion HasSpelling records
-    → HasSpelling r → AllByRecursion HasSpelling (records ++ r ∷ [])
-all_spelled [] r all has = (has, tt)
-all_spelled (first ∷ records) r all has = (all.0, all_spelled records r all.1 has)
 
 pub cells_and_one : (records : List Record) (r : Record)
     → flat_map open_cell (records ++ r ∷ []) ≡ flat_map open_cell records ++ open_cell r
@@ -39,7 +35,7 @@ one_cell_more cells records rest body behind r before opened spells =
     let its : rest ≡ open_cell r ++ behind =
     opened.split ∙ ap (λ b. (OPEN_GATE ∷ word_bytes (length b) ++ b) ++ behind) spells.spelled in
     record {
-      spelled = all_spelled records r before.spelled spells.record_has;
+      spelled = each_pushed HasSpelling records r before.spelled spells.record_has;
       split =
           before.split ∙ ap (λ xs. flat_map open_cell records ++ xs) its
           ∙ sym (append_assoc (flat_map open_cell records) (open_cell r) behind)

@@ -7,7 +7,7 @@ use Rattle.std.proofs.lemmas.Bool.{lt-ltb, le-ltb}
 use Rattle.sector_model.specs.Disk.{Write as Replacement}
 use Rattle.sector_model.specs.Run.{in_runs, in_blocks, areas_of, touched_blocks, touches, block_count}
 use Rattle.sector_model.specs.declared.run.Run.{Run}
-use Rattle.sector_model.proofs.Exact.{in_runs_of}
+use Rattle.sector_model.proofs.Areas.{in_areas, past_areas}
 use Rattle.log_model.specs.declared.entry.Entry.{Entry}
 use Rattle.log_model.specs.Entry.{writes_of, write_to}
 use Rattle.log_model.specs.Touched.{is_touched}
@@ -46,12 +46,9 @@ in_touched_blocks c d s log less =
 pub in_touched_runs : (c d s : ℕ) (log : List Entry) → s < c
     → in_runs (touched_runs c d log) s ≡ is_touched d s log
 in_touched_runs c d s log less =
-    in_runs_of (in_blocks (touched_blocks c (writes_of d log))) c s
-    ∙ ap (λ b. b && in_blocks (touched_blocks c (writes_of d log)) s) (lt-ltb s c less)
-    ∙ in_touched_blocks c d s log less
+    in_areas c s (λ b. list_any (touches b) (writes_of d log)) less ∙ any_write d s log
 
 pub past_touched_runs : (c d s : ℕ) (log : List Entry) → c ≤ s
     → in_runs (touched_runs c d log) s ≡ false
 past_touched_runs c d s log past =
-    in_runs_of (in_blocks (touched_blocks c (writes_of d log))) c s
-    ∙ ap (λ b. b && in_blocks (touched_blocks c (writes_of d log)) s) (le-ltb s c past)
+    past_areas c s (λ b. list_any (touches b) (writes_of d log)) past

@@ -16,3 +16,4 @@ pub mod Volumes
 pub mod NextAt
 pub mod Joined
 pub mod LooseRuns
+pub mod Areas

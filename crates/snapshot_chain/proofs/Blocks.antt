@@ -152,12 +152,6 @@ found_within c (l ∷ layers) b within is =
     either true y h f g = f refl
     either false y h f g = g h
 
-pub take_within : (c n : ℕ) (layers : List LayerState) → AllByRecursion (IsWithin c) layers
-    → AllByRecursion (IsWithin c) (take n layers)
-take_within c zero layers within = tt
-take_within c (suc n) [] within = tt
-take_within c (suc n) (l ∷ layers) within = (within.0, take_within c n layers within.1)
-
 in_itself : (blocks : List ℕ) (k d : ℕ) → k < length blocks
     → list_any (nat_eq (get_or blocks k d)) blocks ≡ true
 in_itself [] k d less = absurd (omega (arith, less))

@@ -37,10 +37,6 @@ ids-remove free (j ∷ ids) (suc i) are =
     (are.0, remove-none (nat_eq j) ids i are.1, ids-remove free ids i are.2)
 
 module _ {X : Type 0} (P : X → Type 0) where
-  pub all-push : (xs : List X) (x : X) → AllByRecursion P xs → P x → AllByRecursion P (xs ++ x ∷ [])
-  all-push [] x each here = (here, tt)
-  all-push (y ∷ xs) x each here = (each.0, all-push xs x each.1 here)
-
   pub all-set : (xs : List X) (i : ℕ) (x : X) → AllByRecursion P xs → P x
       → AllByRecursion P (set xs i x)
   all-set [] i x each here = tt

@@ -1,9 +1,9 @@
 -- What a list of layers holds, the oldest of them first.
-use Rattle.std.specs.Prelude.{◌≡◌, ℕ, ◌+◌, ◌/◌, ◌%◌, List, [], ◌∷◌, ◌++◌, map, filter, slice_set, slice_index_or, Bool, Option, None, is_some, unwrap_or}
+use Rattle.std.specs.Prelude.{◌≡◌, ℕ, ◌+◌, ◌/◌, ◌%◌, List, [], ◌∷◌, ◌++◌, map, slice_set, slice_index_or, Bool, Option, None, is_some, unwrap_or}
 use Rattle.std.specs.Option.{option_or}
 use Rattle.std.specs.List.{list_any, range_with_len, remove}
 use Rattle.sector_model.specs.Sector.{zero_sector}
-use Rattle.sector_model.specs.Run.{block_count}
+use Rattle.sector_model.specs.Run.{blocks_where}
 use Rattle.sector_model.specs.declared.run.TheConstants.{BLOCK_SECTORS}
 use Rattle.sector_model.specs.declared.sector.Sector.{Sector}
 use Rattle.snapshot_chain.specs.Chain.{Snapshot}
@@ -29,7 +29,7 @@ has_found layers block =
 
 -- the blocks of a disk of c sectors of which a layer has a sector, ascending
 abbrev pub blocks_in : ℕ → List LayerState → List ℕ
-blocks_in c layers = filter (has_found layers) (range_with_len 0 (block_count c))
+blocks_in c layers = blocks_where c (has_found layers)
 
 abbrev pub snapshot_in : ℕ → ℕ → List LayerState → Snapshot
 snapshot_in c id layers = record {

@@ -7,6 +7,7 @@ use Rattle.std.proofs.lemmas.Option.{IfSome_then}
 use Rattle.std.proofs.lemmas.List.{append-nil}
 use Rattle.std.proofs.lemmas.List.Elements.{filter_map-append, All-push}
 use Rattle.std.proofs.lemmas.List.Sums.{sum_by-append, count_by-le-length}
+use Rattle.basics.proofs.Options.{none_is}
 use Rattle.sector_model.specs.declared.sector.Sector.{Sector}
 use Rattle.sector_model.specs.Run.{areas_of}
 use Rattle.change_id.proofs.Ends.{by_last}
@@ -27,7 +28,6 @@ use Rattle.source_disk.specs.Told.{contents_told, allocated_told}
 use Rattle.source_disk.specs.Laws.{HoldsTheLog, NextIsFree}
 use Rattle.source_disk.proofs.Events.{present_told, live_told, frozen_told, areas_told}
 use Rattle.source_disk.proofs.Steps.{epoch_told}
-use Rattle.log_model.proofs.Options.{none_is}
 
 pub live_as : (d : SourceDiskState) (log : List Entry) (s : ℕ) → StandsFor d log
     → has_snapshot s d ≡ log_model.is_live s log

@@ -5,12 +5,12 @@ use Rattle.std.specs.List.{cons_option}
 use Rattle.std.proofs.lemmas.Bool.{eq-eqb, false≢true, or_parts}
 use Rattle.std.proofs.lemmas.List.{append-nil}
 use Rattle.std.proofs.lemmas.List.Elements.{filter_map-append}
+use Rattle.basics.proofs.Options.{none_is}
 use Rattle.sector_model.specs.declared.sector.Sector.{Sector}
 use Rattle.log_model.specs.declared.entry.Owner.{Owner}
 use Rattle.log_model.specs.declared.entry.Act.{Act}
 use Rattle.log_model.specs.declared.entry.Act.TheVariants.{Write, Snap, Remove, Reset, Enable}
 use Rattle.log_model.specs.declared.entry.Entry.{Entry}
-use Rattle.log_model.proofs.Options.{none_is}
 use Rattle.snapshot_chain.specs.Chain.{ChainState}
 use Rattle.snapshot_chain.specs.History as chain
 use Rattle.snapshot_chain.proofs.Histories as chains

@@ -1,10 +1,11 @@
 -- An empty layer above the others leaves what they hold.
 use Rattle.std.proofs.Common.{◌≡◌, ◌∷◌, [], ◌++◌, arith, length-append, ◌≤◌}
 use Rattle.std.proofs.lemmas.Bool.{false≢true}
+use Rattle.basics.proofs.Each.{each_pushed}
 use Rattle.snapshot_chain.specs.Kept.{room_id}
 use Rattle.snapshot_chain.specs.Layer.{IsWithin}
 use Rattle.snapshot_chain.proofs.States.{frozen_state}
-use Rattle.snapshot_chain.proofs.Keeping.{ids-push, all-push}
+use Rattle.snapshot_chain.proofs.Keeping.{ids-push}
 use Rattle.snapshot_chain.proofs.chain.Chain.add_layer.Goals as goal
 
 pub invariant_of-self : goal.invariant_of-self
@@ -26,7 +27,7 @@ invariant_of-self c =
       distinct = rw (ids, c.from.ensures)
           (ids-push c.self.inside.free_from c.args.id c.self.inside.ids.items free
           c.self.invariant.distinct);
-      within = rw layers (all-push (IsWithin c.self.inside.capacity) c.self.inside.layers.items []
+      within = rw layers (each_pushed (IsWithin c.self.inside.capacity) c.self.inside.layers.items []
           c.self.invariant.within (λ block some. absurd (false≢true some)));
       can_freeze = λ full. absurd (false≢true full);
       can_merge = tt;

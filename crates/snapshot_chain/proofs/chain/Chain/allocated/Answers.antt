@@ -1,15 +1,17 @@
 -- The blocks of the layers that the snapshot sees.
 use Rattle.std.proofs.Common.{◌≡◌, ◌+◌, List, take, nat_eq, Some, None, is_some, sym, ap, ◌∙◌}
 use Rattle.std.specs.List.{position}
+use Rattle.basics.proofs.Each.{each_taken}
 use Rattle.basics.proofs.Results.{if_err, free_alone}
 use Rattle.sector_model.specs.declared.run.Runs.{Runs}
 use Rattle.sector_model.specs.Run.{areas_of}
 use Rattle.snapshot_chain.specs.Layer.{LayerState}
+use Rattle.snapshot_chain.specs.Layer.{IsWithin}
 use Rattle.snapshot_chain.specs.Layers.{blocks_in}
 use Rattle.snapshot_chain.specs.Chain.{snapshot_of}
 use Rattle.snapshot_chain.specs.declared.chain.ChainRefused.TheVariants.{UnknownSnap, NoMemory}
 use Rattle.snapshot_chain.proofs.States.{live_in, snapshot_seen}
-use Rattle.snapshot_chain.proofs.Blocks.{begin_below, take_within, areas_same}
+use Rattle.snapshot_chain.proofs.Blocks.{begin_below, areas_same}
 use Rattle.snapshot_chain.proofs.LayerSteps.{refuse_unknown}
 use Rattle.snapshot_chain.proofs.chain.Chain.allocated.Goals as goal
 
@@ -19,7 +21,7 @@ from_blocks-requires-clause-begin_below c =
     (begin_below c.self.inside.capacity (take (c.in-Some.index + 1) c.deref.result.now)
     c.in_ok-blocks.blocks.items
     (rw c.deref.ensures.value
-    (take_within c.self.inside.capacity (c.in-Some.index + 1) c.self.inside.layers.items
+    (each_taken (IsWithin c.self.inside.capacity) (c.in-Some.index + 1) c.self.inside.layers.items
     c.self.invariant.within)) (λ b. c.in_ok-blocks.ensures.members b))
 
 pub returns-in_default-clause-refused : goal.returns-in_default-clause-refused
