@@ -115,14 +115,17 @@ impl PlacedSectors {
         Ok(())
     }
 
-    /// Makes room for so many sectors more, and where there is none, for some later ones besides.
+    /// Makes room for so many sectors more, and where there is none, for some later ones besides,
+    /// but never for more than a block has.
     fn make_room(&mut self, count: usize) -> Result<(), NoMemory>
         requires { count ≤ BLOCK_SECTORS }
         ensures { self.new ≡ self.old }
     {
         let len = self.sectors.len();
         if self.sectors.capacity() - len < count {
-            self.sectors.reserve_exact(count + len / 8)?;
+            let left = (BLOCK_SECTORS as usize).saturating_sub(len);
+            let later = left.saturating_sub(count).min(len / 8);
+            self.sectors.reserve_exact(count + later)?;
         }
         Ok(())
     }
