@@ -10,11 +10,11 @@ use Rattle.sector_model.proofs.NextRun.{Next, next_is, next_some, next_none, tru
 use Rattle.sector_model.proofs.PageMade.{full_page, last_page}
 use Rattle.sector_model.proofs.PageSectors.{areas_from_are_exact}
 use Rattle.change_tracker.specs.declared.word.Window.{Window}
-use Rattle.change_tracker.specs.Touches.{TouchState, is_touched, blocks_in, areas_in, IsFirst}
+use Rattle.change_tracker.specs.Touches.{TouchState, is_touched_in, blocks_touched_in, areas_in, IsFirst}
 use Rattle.sector_model.proofs.Areas.{in_areas, past_areas}
 
 pub spaced : (c : ℕ) (t : TouchState) (w : Window) → c < 2 ^ 64 → AreSpaced (areas_in c t w)
-spaced c t w fits = (runs_of-spaced (in_blocks (blocks_in c t w)) c fits).spaced
+spaced c t w fits = (runs_of-spaced (in_blocks (blocks_touched_in c t w)) c fits).spaced
 
 pub count : (c blocks : ℕ) → blocks ≡ div_ceil c 128 → blocks ≡ block_count c
 count c blocks is = omega (arith, is)
@@ -23,21 +23,21 @@ pub none_at_end : (c at : ℕ) (t : TouchState) (w : Window) → c < 2 ^ 64 → 
     → next_run at (areas_in c t w) ≡ None
 none_at_end c at t w fits is =
     next_none 0 (areas_in c t w) at (spaced c t w fits)
-    (λ s from. past_areas c s (is_touched t w) (omega (arith, is, from)))
+    (λ s from. past_areas c s (is_touched_in t w) (omega (arith, is, from)))
 
 pub none_from : (c at blocks : ℕ) (t : TouchState) (w : Window) → c < 2 ^ 64
-    → blocks ≡ block_count c → ((b : ℕ) → at / 128 ≤ b → b < blocks → is_touched t w b ≡ false)
+    → blocks ≡ block_count c → ((b : ℕ) → at / 128 ≤ b → b < blocks → is_touched_in t w b ≡ false)
     → next_run at (areas_in c t w) ≡ None
 none_from c at blocks t w fits is none =
     next_none 0 (areas_in c t w) at (spaced c t w fits) (λ s from. elim (cases_lt s c) [
-      | inl less ↦ in_areas c s (is_touched t w) less
+      | inl less ↦ in_areas c s (is_touched_in t w) less
           ∙ none (s / 128) (omega (arith, from)) (omega (arith, less, is))
-      | inr past ↦ past_areas c s (is_touched t w) past
+      | inr past ↦ past_areas c s (is_touched_in t w) past
     ])
 
 pub block_found : (c at blocks : ℕ) (t : TouchState) (w : Window) (o : Option ℕ) → c < 2 ^ 64
     → at < c → blocks ≡ block_count c
-    → MatchOption o ((b : ℕ) → at / 128 ≤ b → b < blocks → is_touched t w b ≡ false)
+    → MatchOption o ((b : ℕ) → at / 128 ≤ b → b < blocks → is_touched_in t w b ≡ false)
     (λ b. IsFirst t w (at / 128) b × (b < blocks))
     → MatchOption o (next_run at (areas_in c t w) ≡ None) (λ b. IsFirst t w (at / 128) b
     × (128 * b < c) × (at < c))
@@ -48,8 +48,8 @@ block_found c at blocks t w (Some b) fits inside is first =
 pub found : (c : ℕ) (t : TouchState) (w : Window) (at block blocks behind f e : ℕ) → c < 2 ^ 64
     → at < c → blocks ≡ block_count c → f ≡ max at (128 * block)
     → IsFirst t w (at / 128) block → block < blocks → block ≤ behind → behind ≤ blocks
-    → ((b : ℕ) → block ≤ b → b < behind → is_touched t w b ≡ true)
-    → (behind < blocks → is_touched t w behind ≡ false)
+    → ((b : ℕ) → block ≤ b → b < behind → is_touched_in t w b ≡ true)
+    → (behind < blocks → is_touched_in t w behind ≡ false)
     → ((behind < blocks) × (e ≡ 128 * behind)) ⊎ ((blocks ≤ behind) × (e ≡ c))
     → Some (record { first = f; count = e - f }) ≡ next_run at (areas_in c t w)
 found c t w at block blocks behind f e fits start count is first inside from within touched free end
@@ -64,13 +64,13 @@ found c t w at block blocks behind f e fits start count is first inside from wit
             (omega (arith, h.0, h.1, is, low, start, inside, count), less)
       ])
       | inr same ↦ absurd (true_false (first.passes)
-          (ap (is_touched t w) (omega (arith, same, from))
+          (ap (is_touched_in t w) (omega (arith, same, from))
           ∙ free (omega (arith, same, from, inside))))
     ]) in
     sym (next_some 0 (areas_in c t w) at f e (spaced c t w fits) (omega (arith, is)) long.0
-    (λ s from_at less. in_areas c s (is_touched t w) (omega (arith, less, long.0, ends))
+    (λ s from_at less. in_areas c s (is_touched_in t w) (omega (arith, less, long.0, ends))
     ∙ first.earlier (s / 128) (omega (arith, from_at)) (omega (arith, less, is, from_at)))
-    (λ s from_f less. in_areas c s (is_touched t w) (omega (arith, less, ends))
+    (λ s from_f less. in_areas c s (is_touched_in t w) (omega (arith, less, ends))
     ∙ touched (s / 128) (omega (arith, from_f, is))
     (elim end [
       | inl h ↦ omega (arith, less, h.1)
@@ -79,18 +79,18 @@ found c t w at block blocks behind f e fits start count is first inside from wit
     ]))
     (elim end [
       | inl h ↦ elim (cases_lt e c) [
-        | inl less ↦ in_areas c e (is_touched t w) less ∙ ap (is_touched t w) (omega (arith, h.1))
+        | inl less ↦ in_areas c e (is_touched_in t w) less ∙ ap (is_touched_in t w) (omega (arith, h.1))
             ∙ free h.0
-        | inr past ↦ past_areas c e (is_touched t w) past
+        | inr past ↦ past_areas c e (is_touched_in t w) past
       ]
-      | inr h ↦ past_areas c e (is_touched t w) (omega (arith, h.1))
+      | inr h ↦ past_areas c e (is_touched_in t w) (omega (arith, h.1))
     ]))
 
 pub next_facts : (top at : ℕ) (t : TouchState) (w : Window) (r : Run) → top < 2 ^ 64
     → next_run at (areas_in top t w) ≡ Some r → Next (areas_in top t w) at top r
 next_facts top at t w r fits next =
     let k : SpacedWithin 0 top (areas_in top t w) =
-    runs_of-spaced (in_blocks (blocks_in top t w)) top fits in
+    runs_of-spaced (in_blocks (blocks_touched_in top t w)) top fits in
     next_is 0 top (areas_in top t w) at r k.spaced k.ends next
 
 -- a block that was touched behind a sector is in an area from there on
@@ -102,7 +102,7 @@ has_next c at b t w inside below first none =
     let less : s < c = omega (arith, inside, below) in
     let block : s / 128 ≡ b = (let low = first.from_on in omega (arith, low)) in
     let touched : in_runs (areas_in c t w) s ≡ true =
-    in_areas c s (is_touched t w) less ∙ ap (is_touched t w) block ∙ first.passes in
+    in_areas c s (is_touched_in t w) less ∙ ap (is_touched_in t w) block ∙ first.passes in
     false≢true (ap (λ (rs : List Run). in_runs rs s)
     (sym (areas_from-none (areas_in c t w) at none))
     ∙ areas_from_are_exact (areas_in c t w) at s ∙ (λ i. le-leb at s from i && touched i))

@@ -13,25 +13,25 @@ use Rattle.change_id.specs.History as history
 use Rattle.change_id.specs.declared.ChangeId.{ChangeId}
 use Rattle.change_id.specs.declared.Since.TheVariants.{All, From}
 use Rattle.change_id.proofs.IdMarks.{in_force-parts, same-epochs, marks_of_ids}
-use Rattle.change_tracker.specs.declared.kept.Kept.{Kept}
+use Rattle.change_tracker.specs.declared.frozen_snapshot.FrozenSnapshot.{FrozenSnapshot}
 use Rattle.change_tracker.specs.declared.refusals.TrackRefused.{TrackRefused}
 use Rattle.change_tracker.specs.declared.refusals.TrackRefused.TheVariants.{UnknownSnap, Range}
 use Rattle.change_tracker.specs.Tracker.{TrackerState, Snapshot}
-use Rattle.change_tracker.specs.Kept.{AreIds, is_accepted, in_force_of}
+use Rattle.change_tracker.specs.Fields.{IdsAscend, is_accepted, in_force_of}
 use Rattle.change_tracker.specs.History.{TrackStep, reading, runs_between, areas_between, answered, mark, id_at, is_met, changed_in, IsFrozenAs, StandsFor}
 use Rattle.sector_model.proofs.Among.{same_blocks}
 use Rattle.change_tracker.proofs.Steps.{epoch_of, number_of, force, place_of_id, apart}
 
 -- ---- the place of an id
 
-ids_past : (from bound : ℕ) (ks : List Kept) (j : ℕ) (d : Kept) → AreIds from bound ks
+ids_past : (from bound : ℕ) (ks : List FrozenSnapshot) (j : ℕ) (d : FrozenSnapshot) → IdsAscend from bound ks
     → j < length ks → from ≤ (get_or ks j d).id
 ids_past from bound [] j d are less = absurd (omega arith)
 ids_past from bound (k ∷ ks) zero d are less = are.0
 ids_past from bound (k ∷ ks) (suc j) d are less =
     omega (arith, ids_past (k.id + 1) bound ks j d are.1 (omega (arith, less)), are.0)
 
-pub ids_rise : (from bound : ℕ) (ks : List Kept) → AreIds from bound ks
+pub ids_rise : (from bound : ℕ) (ks : List FrozenSnapshot) → IdsAscend from bound ks
     → IsNonDecreasingBy (λ k. k.id) ks
 ids_rise from bound [] are i j d le less = absurd (omega arith)
 ids_rise from bound (k ∷ ks) are zero zero d le less = omega arith
@@ -41,18 +41,18 @@ ids_rise from bound (k ∷ ks) are (suc i) zero d le less = absurd (omega arith)
 ids_rise from bound (k ∷ ks) are (suc i) (suc j) d le less =
     ids_rise (k.id + 1) bound ks are.1 i j d (omega (arith, le)) (omega (arith, less))
 
-none_at : (p : Kept → Bool) (ks : List Kept)
-    → ((i : ℕ) (d : Kept) → i < length ks → p (get_or ks i d) ≡ false) → list_any p ks ≡ false
+none_at : (p : FrozenSnapshot → Bool) (ks : List FrozenSnapshot)
+    → ((i : ℕ) (d : FrozenSnapshot) → i < length ks → p (get_or ks i d) ≡ false) → list_any p ks ≡ false
 none_at p [] none = refl
 none_at p (k ∷ ks) none =
     (λ i. none 0 k (omega arith) i || none_at p ks
     (λ j d less. none (suc j) d (omega (arith, less))) i)
 
 -- the place behind the lower ids has another id, or there is none
-pub none_with_id : (ks : List Kept) (id place : ℕ) (r : Option (Bor Kept))
+pub none_with_id : (ks : List FrozenSnapshot) (id place : ℕ) (r : Option (Bor FrozenSnapshot))
     → IsPartitionPoint (λ k. ltb k.id id ≡ true) (λ k. ltb k.id id ≡ false) ks place
     → IsNonDecreasingBy (λ k. k.id) ks
-    → ((d : Kept) → place < length ks → (get_or ks place d).id ≢ id)
+    → ((d : FrozenSnapshot) → place < length ks → (get_or ks place d).id ≢ id)
     → list_any (λ k. k.id == id) ks ≡ false
 none_with_id ks id place r point rise other =
     none_at (λ k. k.id == id) ks (λ i d less. elim (cases_lt i place) [
@@ -65,22 +65,22 @@ none_with_id ks id place r point rise other =
           ne_eqb (get_or ks i d).id id (λ e. absurd (other d inside (omega (arith, e, high, up))))
     ])
 
-pub other_here : (ks : List Kept) (id place : ℕ) (x : Bor Kept) → IsItemAt ks place (Some x)
-    → (x.now.id ≡ id → ⊥) → (d : Kept) → place < length ks → (get_or ks place d).id ≢ id
+pub other_here : (ks : List FrozenSnapshot) (id place : ℕ) (x : Bor FrozenSnapshot) → IsItemAt ks place (Some x)
+    → (x.now.id ≡ id → ⊥) → (d : FrozenSnapshot) → place < length ks → (get_or ks place d).id ≢ id
 other_here ks id place x is other d less e =
-    other (ap (λ (k : Kept). k.id) (is.1 ∙ get_or_default ks place x.now d less) ∙ e)
+    other (ap (λ (k : FrozenSnapshot). k.id) (is.1 ∙ get_or_default ks place x.now d less) ∙ e)
 
-pub none_here : (ks : List Kept) (id place : ℕ) (r : Option (Bor Kept)) → IsItemAt ks place r
-    → r ≡ None → (d : Kept) → place < length ks → (get_or ks place d).id ≢ id
+pub none_here : (ks : List FrozenSnapshot) (id place : ℕ) (r : Option (Bor FrozenSnapshot)) → IsItemAt ks place r
+    → r ≡ None → (d : FrozenSnapshot) → place < length ks → (get_or ks place d).id ≢ id
 none_here ks id place None is none d less e = absurd (omega (arith, is.3, less))
 none_here ks id place (Some x) is some d less e = absurd (none-some x (sym some))
 
-pub known_at : (ks : List Kept) (place id : ℕ) (k : Kept) → slice_get ks place ≡ Some k → k.id ≡ id
+pub known_at : (ks : List FrozenSnapshot) (place id : ℕ) (k : FrozenSnapshot) → slice_get ks place ≡ Some k → k.id ≡ id
     → list_any (λ x. x.id == id) ks ≡ true
 known_at [] place id k at is = absurd (none-some k at)
 known_at (x ∷ ks) zero id k at is =
     ap (λ b. b || list_any (λ y. y.id == id) ks)
-    (eq-eqb x.id id (ap (λ (y : Kept). y.id) (same_Some x k at) ∙ is))
+    (eq-eqb x.id id (ap (λ (y : FrozenSnapshot). y.id) (same_Some x k at) ∙ is))
 known_at (x ∷ ks) (suc place) id k at is = ap (λ b. eqb x.id id || b) (known_at ks place id k at is)
     ∙ or_right (eqb x.id id) true refl
 

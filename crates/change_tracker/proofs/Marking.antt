@@ -10,7 +10,7 @@ use Rattle.change_tracker.specs.declared.word.Touch.{Touch}
 use Rattle.change_tracker.specs.declared.word.Window.{Window}
 use Rattle.change_tracker.specs.declared.maps.Maps.{Maps}
 use Rattle.basics.specs.Bits.{has_bit}
-use Rattle.change_tracker.specs.Touches.{WordState, TouchState, is_inside, is_of, touched_in, word_of, is_touched, HasSame, HasRoom, IsAdded}
+use Rattle.change_tracker.specs.Touches.{WordState, TouchState, is_inside, is_of, touched_in, word_of, is_touched_in, HasSame, HasRoom, IsAdded}
 use Rattle.change_tracker.specs.Maps.{window, KeepsPlaces, IsTouchedWhere, is_met_in, HasBlockRoom, HasRoomWhere}
 use Rattle.change_tracker.proofs.Bits.{and_has, not_has, met_iff}
 use Rattle.change_tracker.proofs.Walks.{Lowest, lowest, no_bits}
@@ -43,8 +43,8 @@ at_longer : (p e f : ℕ) (o : Option WordState) → e ≤ f → touched_in (win
 at_longer p e f None le is = is
 at_longer p e f (Some x) le is = any_longer p e f (x.latest ∷ x.earlier) le is
 
-pub longer : (t : TouchState) (b e f : ℕ) → e ≤ f → is_touched t (window 0 e) b ≡ true
-    → is_touched t (window 0 f) b ≡ true
+pub longer : (t : TouchState) (b e f : ℕ) → e ≤ f → is_touched_in t (window 0 e) b ≡ true
+    → is_touched_in t (window 0 f) b ≡ true
 longer t b e f le is = at_longer (b % 64) e f (word_of t (b / 64)) le is
 
 -- ---- the bits of a word that are new among the first touches
@@ -61,7 +61,7 @@ place_is b word is = omega (arith, is)
 pub new_has : (maps : Maps) (run : Run) (freezes word bits known b : ℕ)
     → Told maps run freezes word bits known → b / 64 ≡ word
     → has_bit (bit_and bits (bit_not w64 known)) (b % 64)
-    ≡ (meets b run.first run.count && not (is_touched maps.first (window 0 (freezes + 1)) b))
+    ≡ (meets b run.first run.count && not (is_touched_in maps.first (window 0 (freezes + 1)) b))
 new_has maps run freezes word bits known b told is =
     and_has bits (bit_not w64 known) (b % 64)
     ∙ (λ i. (told.met (b % 64) (omega arith)
@@ -78,7 +78,7 @@ new_fits bits known less = omega (arith, less, and_le_l bits (bit_not w64 known)
 pub a_new_block : (maps : Maps) (run : Run) (freezes word bits known : ℕ)
     → Told maps run freezes word bits known → bits < 2 ^ 64 → bit_and bits (bit_not w64 known) ≢ 0
     → (b : ℕ) × (b / 64 ≡ word) × (is_met_in word run b ≡ true)
-    × (is_touched maps.first (window 0 (freezes + 1)) b ≡ false)
+    × (is_touched_in maps.first (window 0 (freezes + 1)) b ≡ false)
 a_new_block maps run freezes word bits known told less some =
     let n : ℕ = bit_and bits (bit_not w64 known) in
     let k : ℕ = trailing_zeros w64 n in
@@ -93,7 +93,7 @@ a_new_block maps run freezes word bits known told less some =
       at,
       and_from _ _ (eq-eqb (b / 64) word at) parts.0,
       not-true
-          (is_touched maps.first (window 0 (freezes + 1)) b) parts.1,
+          (is_touched_in maps.first (window 0 (freezes + 1)) b) parts.1,
     )
 
 pub room_for_new : (maps : Maps) (run : Run) (freezes word bits known : ℕ)
@@ -157,53 +157,53 @@ pub record FirstAdded (old new : TouchState) (word freezes bits : ℕ) : Type 0 
 pub none_added : (old : TouchState) (word freezes bits : ℕ) → bits ≡ 0
     → IsAdded old old word freezes bits
 none_added old word freezes bits none = λ w b.
-    sym (none_new (is_touched old w b) (is_inside w freezes)
+    sym (none_new (is_touched_in old w b) (is_inside w freezes)
     (eqb (b / 64) word && has_bit bits (b % 64))
     (and_right (eqb (b / 64) word) (has_bit bits (b % 64)) (no_bits bits (b % 64) none)))
 
 pub first_marked : (maps : Maps) (new : TouchState) (run : Run) (freezes word bits known : ℕ)
     → Told maps run freezes word bits known
     → IsAdded maps.first new word freezes (bit_and bits (bit_not w64 known))
-    → (end b : ℕ) → is_touched new (window 0 end) b
-    ≡ (is_touched maps.first (window 0 end) b || (ltb freezes end && is_met_in word run b))
+    → (end b : ℕ) → is_touched_in new (window 0 end) b
+    ≡ (is_touched_in maps.first (window 0 end) b || (ltb freezes end && is_met_in word run b))
 first_marked maps new run freezes word bits known told added end b =
     added (window 0 end) b ∙ (elim (cases_eq (b / 64) word) [
       | inl at ↦
-          ap (λ x. is_touched maps.first (window 0 end) b ||
+          ap (λ x. is_touched_in maps.first (window 0 end) b ||
           ((leb 0 freezes && ltb freezes end) &&
           (x && has_bit (bit_and bits (bit_not w64 known)) (b % 64)))) (eq-eqb (b / 64) word at)
-          ∙ ap (λ x. is_touched maps.first (window 0 end) b ||
+          ∙ ap (λ x. is_touched_in maps.first (window 0 end) b ||
           ((x && ltb freezes end) && has_bit (bit_and bits (bit_not w64 known)) (b % 64)))
           (le-leb 0 freezes (omega arith))
-          ∙ ap (λ x. is_touched maps.first (window 0 end) b || (ltb freezes end && x))
+          ∙ ap (λ x. is_touched_in maps.first (window 0 end) b || (ltb freezes end && x))
           (new_has maps run freezes word bits known b told at)
-          ∙ fold_new (is_touched maps.first (window 0 end) b)
-          (is_touched maps.first (window 0 (freezes + 1)) b) (meets b run.first run.count)
+          ∙ fold_new (is_touched_in maps.first (window 0 end) b)
+          (is_touched_in maps.first (window 0 (freezes + 1)) b) (meets b run.first run.count)
           (ltb freezes end)
           (λ early touched. longer maps.first b (freezes + 1) end
           (omega (arith, ltb-true freezes end early)) touched)
-          ∙ ap (λ x. is_touched maps.first (window 0 end) b ||
+          ∙ ap (λ x. is_touched_in maps.first (window 0 end) b ||
           (ltb freezes end && (x && meets b run.first run.count)))
           (sym (eq-eqb (b / 64) word at))
       | inr other ↦
-          ap (λ x. is_touched maps.first (window 0 end) b ||
+          ap (λ x. is_touched_in maps.first (window 0 end) b ||
           ((leb 0 freezes && ltb freezes end) &&
           (x && has_bit (bit_and bits (bit_not w64 known)) (b % 64))))
           (ne_eqb (b / 64) word other)
-          ∙ none_new (is_touched maps.first (window 0 end) b) (leb 0 freezes && ltb freezes end)
+          ∙ none_new (is_touched_in maps.first (window 0 end) b) (leb 0 freezes && ltb freezes end)
           false refl
-          ∙ sym (ap (λ x. is_touched maps.first (window 0 end) b ||
+          ∙ sym (ap (λ x. is_touched_in maps.first (window 0 end) b ||
           (ltb freezes end && (x && meets b run.first run.count))) (ne_eqb (b / 64) word other)
-          ∙ none_new (is_touched maps.first (window 0 end) b) (ltb freezes end) false refl)
+          ∙ none_new (is_touched_in maps.first (window 0 end) b) (ltb freezes end) false refl)
     ])
 
 pub changes_marked : (old new : TouchState) (run : Run) (freezes word bits : ℕ)
     → ((p : ℕ) → p < 64 → has_bit bits p ≡ meets (64 * word + p) run.first run.count)
     → IsAdded old new word freezes bits
     → (w : Window) (b : ℕ)
-    → is_touched new w b ≡ (is_touched old w b || (is_inside w freezes && is_met_in word run b))
+    → is_touched_in new w b ≡ (is_touched_in old w b || (is_inside w freezes && is_met_in word run b))
 changes_marked old new run freezes word bits told added w b =
-    added w b ∙ ap (λ x. is_touched old w b || (is_inside w freezes && x))
+    added w b ∙ ap (λ x. is_touched_in old w b || (is_inside w freezes && x))
     (elim (cases_eq (b / 64) word) [
       | inl at ↦ ap (λ x. eqb (b / 64) word && x) (told (b % 64) (omega arith)
           ∙ ap (λ n. meets n run.first run.count) (place_is b word at))
@@ -214,8 +214,8 @@ changes_marked old new run freezes word bits told added w b =
 -- ---- rooms
 
 pub room_kept : (freezes b : ℕ) (old new : Maps)
-    → (is_touched new.first (window 0 (freezes + 1)) b ≡ false
-    → is_touched old.first (window 0 (freezes + 1)) b ≡ false) → KeepsPlaces freezes old new
+    → (is_touched_in new.first (window 0 (freezes + 1)) b ≡ false
+    → is_touched_in old.first (window 0 (freezes + 1)) b ≡ false) → KeepsPlaces freezes old new
     → HasBlockRoom old freezes b → HasBlockRoom new freezes b
 room_kept freezes b old new less kept room = record {
   first = λ none. kept.first (b / 64) (room.first (less none));
@@ -312,35 +312,35 @@ pub touched_then : (p q r : ℕ → Bool) (freezes : ℕ) (a b c : Maps) → IsT
     → IsTouchedWhere q freezes b c → ((n : ℕ) → r n ≡ (p n || q n)) → IsTouchedWhere r freezes a c
 touched_then p q r freezes a b c early late same = record {
   first = λ end n. late.first end n ∙ ap (λ x. x || (ltb freezes end && q n)) (early.first end n)
-      ∙ spread (is_touched a.first (window 0 end) n) (ltb freezes end) (p n) (q n)
-      ∙ ap (λ x. is_touched a.first (window 0 end) n || (ltb freezes end && x)) (sym (same n));
+      ∙ spread (is_touched_in a.first (window 0 end) n) (ltb freezes end) (p n) (q n)
+      ∙ ap (λ x. is_touched_in a.first (window 0 end) n || (ltb freezes end && x)) (sym (same n));
   changes = λ w n. late.changes w n
       ∙ ap (λ x. x || (is_inside w freezes && q n)) (early.changes w n)
-      ∙ spread (is_touched a.changes w n) (is_inside w freezes) (p n) (q n)
-      ∙ ap (λ x. is_touched a.changes w n || (is_inside w freezes && x)) (sym (same n));
+      ∙ spread (is_touched_in a.changes w n) (is_inside w freezes) (p n) (q n)
+      ∙ ap (λ x. is_touched_in a.changes w n || (is_inside w freezes && x)) (sym (same n));
 }
 
 pub touched_same : (p q : ℕ → Bool) (freezes : ℕ) (a b : Maps) → IsTouchedWhere p freezes a b
     → ((n : ℕ) → p n ≡ q n) → IsTouchedWhere q freezes a b
 touched_same p q freezes a b is same = record {
   first = λ end n. is.first end n
-      ∙ ap (λ x. is_touched a.first (window 0 end) n || (ltb freezes end && x)) (same n);
+      ∙ ap (λ x. is_touched_in a.first (window 0 end) n || (ltb freezes end && x)) (same n);
   changes = λ w n. is.changes w n
-      ∙ ap (λ x. is_touched a.changes w n || (is_inside w freezes && x)) (same n);
+      ∙ ap (λ x. is_touched_in a.changes w n || (is_inside w freezes && x)) (same n);
 }
 
 pub touched_none : (p : ℕ → Bool) (freezes : ℕ) (a : Maps) → ((n : ℕ) → p n ≡ false)
     → IsTouchedWhere p freezes a a
 touched_none p freezes a none = record {
-  first = λ end n. sym (none_new (is_touched a.first (window 0 end) n) (ltb freezes end) (p n)
+  first = λ end n. sym (none_new (is_touched_in a.first (window 0 end) n) (ltb freezes end) (p n)
       (none n));
-  changes = λ w n. sym (none_new (is_touched a.changes w n) (is_inside w freezes) (p n) (none n));
+  changes = λ w n. sym (none_new (is_touched_in a.changes w n) (is_inside w freezes) (p n) (none n));
 }
 
 -- a block that isn't touched by now wasn't before
 pub untouched_before : (p : ℕ → Bool) (freezes : ℕ) (a b : Maps) (end n : ℕ)
-    → IsTouchedWhere p freezes a b → is_touched b.first (window 0 end) n ≡ false
-    → is_touched a.first (window 0 end) n ≡ false
+    → IsTouchedWhere p freezes a b → is_touched_in b.first (window 0 end) n ≡ false
+    → is_touched_in a.first (window 0 end) n ≡ false
 untouched_before p freezes a b end n is none =
-    (or_parts (is_touched a.first (window 0 end) n) (ltb freezes end && p n)
+    (or_parts (is_touched_in a.first (window 0 end) n) (ltb freezes end && p n)
     (sym (is.first end n) ∙ none)).0

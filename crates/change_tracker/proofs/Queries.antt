@@ -11,22 +11,22 @@ use Rattle.change_id.specs.ChangeId.{packed}
 use Rattle.change_id.specs.declared.ChangeId.{ChangeId}
 use Rattle.change_id.specs.declared.Since.{Since}
 use Rattle.change_id.specs.declared.Since.TheVariants.{All, From}
-use Rattle.change_tracker.specs.declared.kept.Kept.{Kept}
+use Rattle.change_tracker.specs.declared.frozen_snapshot.FrozenSnapshot.{FrozenSnapshot}
 use Rattle.change_tracker.specs.declared.maps.Maps.{Maps}
 use Rattle.change_tracker.specs.declared.word.Window.{Window}
 use Rattle.change_tracker.specs.declared.refusals.TrackRefused.{TrackRefused}
 use Rattle.change_tracker.specs.declared.refusals.TrackRefused.TheVariants.{UnknownSnap, Range, Strange}
 use Rattle.change_tracker.specs.Tracker.{TrackerState}
-use Rattle.change_tracker.specs.Touches.{is_touched, areas_in}
+use Rattle.change_tracker.specs.Touches.{is_touched_in, areas_in}
 use Rattle.change_tracker.specs.Maps.{window}
-use Rattle.change_tracker.specs.Kept.{state_of, snapshot_at, is_accepted, window_from, in_force_of}
+use Rattle.change_tracker.specs.Fields.{state_of, snapshot_at, is_accepted, window_from, in_force_of}
 use Rattle.change_tracker.specs.History.{TrackStep, freezes, answered, changed_in, StandsFor, strange_refusal, query_refusal}
 use Rattle.sector_model.proofs.Among.{same_blocks}
 use Rattle.change_tracker.proofs.States.{view_get, view_find, in_changes}
 use Rattle.change_tracker.proofs.Lookups.{known_at, query_unknown, query_known, query_outside, query_within, since_told, since_strange, all_told}
 
-module _ (m d c r : ℕ) (counted : Option ℕ) (maps : Maps) (ks : List Kept) (free : ℕ)
-    (room : Option Run) (freeze_room : Bool) (id place : ℕ) (k : Kept) (steps : List TrackStep)
+module _ (m d c r : ℕ) (counted : Option ℕ) (maps : Maps) (ks : List FrozenSnapshot) (free : ℕ)
+    (room : Option Run) (freeze_room : Bool) (id place : ℕ) (k : FrozenSnapshot) (steps : List TrackStep)
     (stands : StandsFor (state_of m d c r counted maps ks free room freeze_room) steps)
     (at : slice_get ks place ≡ Some k) (same : k.id ≡ id) where
   abbrev now : TrackerState
@@ -54,7 +54,7 @@ module _ (m d c r : ℕ) (counted : Option ℕ) (maps : Maps) (ks : List Kept) (
       accepted
       ∙ ap (λ (bs : List ℕ). Ok (areas_of c bs))
       (same_blocks c (changed_in now (place + 1 - (x.seq - from.seq)) (place + 1))
-      (is_touched maps.changes (window (place + 1 - (x.seq - from.seq)) (place + 1)))
+      (is_touched_in maps.changes (window (place + 1 - (x.seq - from.seq)) (place + 1)))
       (λ b less. in_changes c maps ks (place + 1 - (x.seq - from.seq)) (place + 1) b (omega arith)
       (omega (arith, slice_get_within ks place k at)) less))
       ∙ ap (λ (v : Window). Ok (areas_in c maps.changes v)) (sym is)
@@ -130,7 +130,7 @@ module _ (m d c r : ℕ) (counted : Option ℕ) (maps : Maps) (ks : List Kept) (
       query_known (list_any (freezes id) steps) _ x known
       (query_outside _ _ x (le-ltb start c past) told)
 
-pub unknown_refuses : {T : Type 0} (m d c r : ℕ) (counted : Option ℕ) (maps : Maps) (ks : List Kept)
+pub unknown_refuses : {T : Type 0} (m d c r : ℕ) (counted : Option ℕ) (maps : Maps) (ks : List FrozenSnapshot)
     (free : ℕ) (room : Option Run) (freeze_room : Bool) (id : ℕ) (steps : List TrackStep)
     → StandsFor (state_of m d c r counted maps ks free room freeze_room) steps
     → list_any (λ k. k.id == id) ks ≡ false

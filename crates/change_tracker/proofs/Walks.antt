@@ -6,15 +6,15 @@ use Rattle.std.proofs.lemmas.Nat.Bits.{bit_at-trailing_zeros}
 use Rattle.change_tracker.specs.declared.word.Window.{Window}
 use Rattle.basics.specs.Bits.{has_bit}
 use Rattle.basics.proofs.Truth.{first_fails}
-use Rattle.change_tracker.specs.Touches.{TouchState, touched_in, word_of, is_touched}
+use Rattle.change_tracker.specs.Touches.{TouchState, touched_in, word_of, is_touched_in}
 use Rattle.change_tracker.proofs.Bits.{and_has, not_has, from_has, none_has}
 
 pub in_word : (t : TouchState) (w : Window) (b word : ℕ) → b / 64 ≡ word
-    → is_touched t w b ≡ touched_in w (b % 64) (word_of t word)
+    → is_touched_in t w b ≡ touched_in w (b % 64) (word_of t word)
 in_word t w b word at = ap (λ n. touched_in w (b % 64) (word_of t n)) at
 
 pub no_word : (t : TouchState) (w : Window) (b : ℕ) → word_of t (b / 64) ≡ None
-    → is_touched t w b ≡ false
+    → is_touched_in t w b ≡ false
 no_word t w b none = ap (touched_in w (b % 64)) none
 
 -- ---- the bits from a place on
@@ -62,7 +62,7 @@ pub record Met (t : TouchState) (w : Window) (at word bits : ℕ) : Type 0 where
 pub none_before : (t : TouchState) (w : Window) (at word bits first k b : ℕ) → Met t w at word bits
     → first ≡ max at (64 * word) → k ≤ 64
     → ((p : ℕ) → p < k → has_bit (masked bits first) p ≡ false) → at ≤ b → b < 64 * word + k
-    → is_touched t w b ≡ false
+    → is_touched_in t w b ≡ false
 none_before t w at word bits first k b met is few none from less =
     let low = met.from in
     elim (cases_lt (b / 64) word) [
@@ -75,7 +75,7 @@ none_before t w at word bits first k b met is few none from less =
 
 pub touched_here : (t : TouchState) (w : Window) (at word bits first k : ℕ) → Met t w at word bits
     → first ≡ max at (64 * word) → Lowest (masked bits first) k
-    → is_touched t w (64 * word + k) ≡ true
+    → is_touched_in t w (64 * word + k) ≡ true
 touched_here t w at word bits first k met is low =
     let inside = low.within in
     let same : (64 * word + k) / 64 ≡ word = omega (arith, inside) in
@@ -101,7 +101,7 @@ from_at at word bits first k from is low =
 pub all_before : (t : TouchState) (w : Window) (at bits k b : ℕ) → bits < 2 ^ 64
     → ((p : ℕ) → has_bit bits p ≡ touched_in w p (word_of t (at / 64))) → k ≤ 64
     → ((p : ℕ) → p < k → has_bit (masked (bit_not w64 bits) at) p ≡ false) → at ≤ b
-    → b < 64 * (at / 64) + k → is_touched t w b ≡ true
+    → b < 64 * (at / 64) + k → is_touched_in t w b ≡ true
 all_before t w at bits k b fits told few none from less =
     let same : b / 64 ≡ at / 64 = omega (arith, from, less, few) in
     ap (λ n. touched_in w (b % 64) (word_of t n)) same ∙ sym (told (b % 64))
@@ -112,7 +112,7 @@ all_before t w at bits k b fits told few none from less =
 pub untouched_here : (t : TouchState) (w : Window) (at bits k : ℕ) → bits < 2 ^ 64
     → ((p : ℕ) → has_bit bits p ≡ touched_in w p (word_of t (at / 64)))
     → Lowest (masked (bit_not w64 bits) at) k
-    → is_touched t w (64 * (at / 64) + k) ≡ false
+    → is_touched_in t w (64 * (at / 64) + k) ≡ false
 untouched_here t w at bits k fits told low =
     let inside = low.within in
     let same : (64 * (at / 64) + k) / 64 ≡ at / 64 = omega (arith, inside) in

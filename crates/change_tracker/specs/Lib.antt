@@ -3,5 +3,5 @@ pub mod History
 pub mod Rising
 pub mod Touches
 pub mod Maps
-pub mod Kept
+pub mod Fields
 pub mod Laws

@@ -5,7 +5,7 @@ use Rattle.sector_model.specs.declared.run.Run.{Run}
 use Rattle.change_tracker.specs.declared.maps.Maps.{Maps}
 use Rattle.change_tracker.specs.declared.word.TheConstants.{WORD_BLOCKS}
 use Rattle.change_tracker.specs.declared.word.Window.{Window}
-use Rattle.change_tracker.specs.Touches.{is_touched, is_inside, HasRoom, HasSame, KeepsRoom, NoneLater}
+use Rattle.change_tracker.specs.Touches.{is_touched_in, is_inside, HasRoom, HasSame, KeepsRoom, NoneLater}
 
 abbrev pub window : (from end : ℕ) → Window
 window from end = record { from = from; end = end }
@@ -28,10 +28,10 @@ pub record NoneTouchedLater (maps : Maps) (freezes : ℕ) : Type 0 where
 -- the blocks that pass a test are touched after this many freezes: among the changes, and among the
 -- touches since the beginning
 pub record IsTouchedWhere (test : ℕ → Bool) (freezes : ℕ) (old new : Maps) : Type 0 where
-  pub first : (end block : ℕ) → is_touched new.first (window 0 end) block
-      ≡ (is_touched old.first (window 0 end) block || (nat_lt freezes end && test block))
-  pub changes : (w : Window) (block : ℕ) → is_touched new.changes w block
-      ≡ (is_touched old.changes w block || (is_inside w freezes && test block))
+  pub first : (end block : ℕ) → is_touched_in new.first (window 0 end) block
+      ≡ (is_touched_in old.first (window 0 end) block || (nat_lt freezes end && test block))
+  pub changes : (w : Window) (block : ℕ) → is_touched_in new.changes w block
+      ≡ (is_touched_in old.changes w block || (is_inside w freezes && test block))
 
 -- the run meets the block
 abbrev pub is_met_by : Run → (block : ℕ) → Bool
@@ -44,7 +44,7 @@ is_met_in word run block = block / WORD_BLOCKS == word && meets block run.first 
 -- touching the block after this many freezes takes no memory: its word has its place among the
 -- changes, and among the first touches, where the block is new there
 pub record HasBlockRoom (maps : Maps) (freezes block : ℕ) : Type 0 where
-  pub first : is_touched maps.first (window 0 (freezes + 1)) block ≡ false
+  pub first : is_touched_in maps.first (window 0 (freezes + 1)) block ≡ false
       → HasRoom maps.first (block / WORD_BLOCKS) freezes
   pub changes : HasRoom maps.changes (block / WORD_BLOCKS) freezes
 

@@ -43,14 +43,14 @@ touched_in window place None = false
 touched_in window place (Some word) = touched_at window place word
 
 -- the block was touched inside the window
-abbrev pub is_touched : TouchState → Window → (block : ℕ) → Bool
-is_touched touches window block =
+abbrev pub is_touched_in : TouchState → Window → (block : ℕ) → Bool
+is_touched_in touches window block =
     touched_in window (block % WORD_BLOCKS) (word_of touches (block / WORD_BLOCKS))
 
 -- the same blocks were touched, inside each window
 abbrev pub HasSame : (old new : TouchState) → Type 0
 HasSame old new = (window : Window) (block : ℕ)
-    → is_touched new window block ≡ is_touched old window block
+    → is_touched_in new window block ≡ is_touched_in old window block
 
 -- a touch of the word after this many freezes takes no memory
 abbrev pub HasRoom : TouchState → (word freezes : ℕ) → Type 0
@@ -68,8 +68,8 @@ NoneLater touches freezes = (word : ℕ)
 -- the blocks of a word that have these bits are touched too, after this many freezes
 abbrev pub IsAdded : (old new : TouchState) (word freezes bits : ℕ) → Type 0
 IsAdded old new word freezes bits = (window : Window) (block : ℕ)
-    → is_touched new window block
-    ≡ (is_touched old window block
+    → is_touched_in new window block
+    ≡ (is_touched_in old window block
     || (is_inside window freezes
     && (block / WORD_BLOCKS == word && has_bit bits (block % WORD_BLOCKS))))
 
@@ -86,13 +86,13 @@ pub record IsAhead (touches : TouchState) (word next : ℕ) : Type 0 where
 -- the first block from one on that was touched inside the window
 pub record IsFirst (touches : TouchState) (window : Window) (from block : ℕ) : Type 0 where
   pub from_on : from ≤ block
-  pub passes : is_touched touches window block ≡ true
-  pub earlier : (b : ℕ) → from ≤ b → b < block → is_touched touches window b ≡ false
+  pub passes : is_touched_in touches window block ≡ true
+  pub earlier : (b : ℕ) → from ≤ b → b < block → is_touched_in touches window b ≡ false
 
 -- the blocks of the disk that were touched inside the window
-abbrev pub blocks_in : (capacity : ℕ) → TouchState → Window → List ℕ
-blocks_in capacity touches window = blocks_where capacity (is_touched touches window)
+abbrev pub blocks_touched_in : (capacity : ℕ) → TouchState → Window → List ℕ
+blocks_touched_in capacity touches window = blocks_where capacity (is_touched_in touches window)
 
 -- their areas
 abbrev pub areas_in : (capacity : ℕ) → TouchState → Window → List Run
-areas_in capacity touches window = areas_of capacity (blocks_in capacity touches window)
+areas_in capacity touches window = areas_of capacity (blocks_touched_in capacity touches window)

@@ -6,7 +6,7 @@
 //! block, when it was touched first, which outlives a reset.
 #![tactic(auto)]
 
-mod kept;
+mod frozen_snapshot;
 mod laws;
 mod maps;
 mod refusals;

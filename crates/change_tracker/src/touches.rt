@@ -3,7 +3,7 @@ ghost use Rattle.std.specs.Prelude.{◌≡◌, ◌+◌, ◌*◌, ◌/◌, ◌<�
 ghost use Rattle.sector_model.specs.Run.{block_count, next_run};
 ghost use Rattle.sector_model.specs.Page.{page_from};
 ghost use Rattle.basics.specs.Bits.{has_bit};
-ghost use Rattle.change_tracker.specs.Touches.{TouchState, word_of, is_touched, touched_in, HasSame, HasRoom, KeepsRoom, NoneLater, IsAdded, IsFirst, IsSeen, IsAhead, areas_in};
+ghost use Rattle.change_tracker.specs.Touches.{TouchState, word_of, is_touched_in, touched_in, HasSame, HasRoom, KeepsRoom, NoneLater, IsAdded, IsFirst, IsSeen, IsAhead, areas_in};
 
 use crate::word::{WORD_BLOCKS, Window, Word};
 use sector_model::{BLOCK_SECTORS, NoMemory, PAGE_AREAS, Page, Run};
@@ -137,7 +137,7 @@ impl Touches {
         requires small { end < 2 ^ 58 }
         requires seen { IsSeen self.now window seen.old.word seen.old.bits }
         ensures found { MatchOption result
-            ((b : ℕ) → block ≤ b → b < end → is_touched self.now window b ≡ false)
+            ((b : ℕ) → block ≤ b → b < end → is_touched_in self.now window b ≡ false)
             (λ b. IsFirst self.now window block b × (b < end)) }
         ensures seen { IsSeen self.now window seen.new.word seen.new.bits }
     {
@@ -165,8 +165,8 @@ impl Touches {
         requires seen { IsSeen self.now window seen.old.word seen.old.bits }
         ensures from { block ≤ result }
         ensures within { result ≤ end }
-        ensures touched { (b : ℕ) → block ≤ b → b < result → is_touched self.now window b ≡ true }
-        ensures found { result < end → is_touched self.now window result ≡ false }
+        ensures touched { (b : ℕ) → block ≤ b → b < result → is_touched_in self.now window b ≡ true }
+        ensures found { result < end → is_touched_in self.now window result ≡ false }
         ensures seen { IsSeen self.now window seen.new.word seen.new.bits }
     {
         let mut at = block;

@@ -3,10 +3,10 @@ ghost use Rattle.std.specs.Prelude.{◌≡◌, ◌+◌, ◌<◌, ◌≤◌, ◌^
 ghost use Rattle.std.specs.List.{list_any};
 ghost use Rattle.basics.specs.Refusal.{IsRefusedOr, IsRefusedBy};
 ghost use Rattle.sector_model.specs.Page.{page_from};
-ghost use Rattle.change_tracker.specs.Kept.{IsAscending, IsAt, is_accepted, window_from, in_force_of};
+ghost use Rattle.change_tracker.specs.Fields.{IsAscending, IsAt, is_accepted, window_from, in_force_of};
 
 use crate::TrackRefused;
-use crate::kept::Kept;
+use crate::frozen_snapshot::FrozenSnapshot;
 use crate::maps::Maps;
 use crate::touches::Touches;
 use crate::word::Window;
@@ -30,7 +30,7 @@ pub struct Tracker {
     /// Snapshots since tracking was enabled and last reset, or none before it was enabled.
     counted: Option<u64>,
     maps: Maps,
-    snapshots: Vec<Kept>,
+    snapshots: Vec<FrozenSnapshot>,
     free_from: u64,
     /// The run that has its places in the maps.
     mark_room: Option<Run>,
@@ -40,7 +40,7 @@ pub struct Tracker {
 
 impl Model for Tracker {
     ghost use Rattle.change_tracker.specs.Tracker.{TrackerState};
-    ghost use Rattle.change_tracker.specs.Kept.{state_of, IsKept};
+    ghost use Rattle.change_tracker.specs.Fields.{state_of, IsKept};
 
     ghost Value = { TrackerState };
 
@@ -169,7 +169,7 @@ impl Tracker {
         let uuid = pack(self.machine, self.disk, self.resets);
         self.counted = self.counted.map(|counted| counted + 1);
         let change_id = self.counted.map(|seq| ChangeId { uuid, seq });
-        self.snapshots.push(Kept { id, change_id }).unwrap();
+        self.snapshots.push(FrozenSnapshot { id, change_id }).unwrap();
         self.free_from = u64::from(id) + 1;
         self.mark_room = None;
         self.freeze_room = false;
@@ -264,7 +264,7 @@ impl Tracker {
 }
 
 /// The place of a snapshot in the list.
-fn place_of(snapshots: &[Kept], id: u32) -> Option<usize>
+fn place_of(snapshots: &[FrozenSnapshot], id: u32) -> Option<usize>
     requires { IsAscending snapshots.now }
     ensures { MatchOption result (list_any (λ kept. kept.id == id) snapshots.now ≡ false)
         (λ place. IsAt snapshots.now place id) }

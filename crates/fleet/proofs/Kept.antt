@@ -13,7 +13,7 @@ use Rattle.fleet.specs.Fleet.{VmState, FleetState, host_place, with_host, with_v
 use Rattle.fleet.specs.Sound.{IsFleet}
 use Rattle.fleet.specs.NameMap.{place_of, with_value_at}
 use Rattle.fleet.specs.Vm.{machine_under}
-use Rattle.fleet.specs.Kept.{host_state, vm_state, fleet_state, IsKept}
+use Rattle.fleet.specs.Fields.{host_state, vm_state, fleet_state, IsKept}
 use Rattle.fleet.proofs.Places.{position-map}
 use Rattle.fleet.proofs.StaysSound.{IsFleet-with_host, IsFleet-with_vm, IsFleet-set}
 use Rattle.fleet.proofs.Each.{Each-push, Each-set}

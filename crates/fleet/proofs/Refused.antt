@@ -12,7 +12,7 @@ use Rattle.fleet.specs.declared.refusals.FleetRefused.TheVariants.{NameTaken, Un
 use Rattle.fleet.specs.Fleet.{FleetState, host_place, vm_number}
 use Rattle.fleet.specs.Refusals.{add_host_refusal, add_vm_refusal}
 use Rattle.fleet.specs.NameMap.{place_of}
-use Rattle.fleet.specs.Kept.{host_state, vm_state, fleet_state}
+use Rattle.fleet.specs.Fields.{host_state, vm_state, fleet_state}
 use Rattle.fleet.proofs.Kept.{host_place-kept, vm_place-kept}
 
 -- where none stands, only the free one comes

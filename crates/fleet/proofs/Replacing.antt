@@ -14,7 +14,7 @@ use Rattle.fleet.specs.Fleet.{VmState, FleetState, vm_of, vm_in, machine_of, wit
 use Rattle.fleet.specs.Lending.{lifted, after_lift, after_lower, IsOver, MayGoBack}
 use Rattle.fleet.specs.NameMap.{value_at, with_value_at}
 use Rattle.fleet.specs.Vm.{machine_under}
-use Rattle.fleet.specs.Kept.{vm_state, fleet_state, IsKept}
+use Rattle.fleet.specs.Fields.{vm_state, fleet_state, IsKept}
 use Rattle.fleet.proofs.Each.{Each-set}
 use Rattle.fleet.proofs.StaysSound.{IsFleet-set, IsVm-at}
 

@@ -6,4 +6,4 @@ pub mod Laws
 pub mod Finding
 pub mod NameMap
 pub mod Vm
-pub mod Kept
+pub mod Fields

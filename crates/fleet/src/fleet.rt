@@ -32,7 +32,7 @@ impl Model for Fleet {
 
     ghost Value = { FleetState };
 
-    ghost use Rattle.fleet.specs.Kept.{fleet_state, IsKept};
+    ghost use Rattle.fleet.specs.Fields.{fleet_state, IsKept};
 
     ghost view = { λ a. fleet_state a.hosts a.vms };
 

@@ -2,7 +2,7 @@ pub mod Format
 pub mod Refusal
 pub mod Cells
 pub mod Journal
-pub mod Kept
+pub mod Fields
 pub mod Opening
 pub mod Unrepaired
 pub mod Devices

@@ -37,7 +37,7 @@ impl<D: Disk> Model for Journal<D> {
 
     ghost Value = { JournalState };
 
-    ghost use Rattle.journal.specs.Kept.{failure_of};
+    ghost use Rattle.journal.specs.Fields.{failure_of};
 
     ghost view = { λ j. record {
       records = j.records.items;

@@ -7,10 +7,10 @@ use Rattle.std.specs.Result.{IsErrAnd}
 use Rattle.snapshot_chain.specs.declared.chain.ChainRefused.{ChainRefused}
 use Rattle.snapshot_chain.specs.declared.chain.ChainRefused.TheVariants.{NoMemory}
 use Rattle.snapshot_chain.specs.Chain.{ChainState, IsKeptAfter}
-use Rattle.snapshot_chain.specs.Kept.{AreIds}
+use Rattle.snapshot_chain.specs.Fields.{IdsDiffer}
 
-pub ids-push : (free id : ℕ) (ids : List ℕ) → free ≤ id → AreIds free ids
-    → AreIds (id + 1) (ids ++ id ∷ [])
+pub ids-push : (free id : ℕ) (ids : List ℕ) → free ≤ id → IdsDiffer free ids
+    → IdsDiffer (id + 1) (ids ++ id ∷ [])
 ids-push free id [] le are = (omega arith, refl, tt)
 ids-push free id (j ∷ ids) le are = (
   omega (arith, le, are.0),
@@ -29,7 +29,7 @@ remove-none p (j ∷ ids) (suc i) none =
     or_from (p j) (list_any p (remove ids i)) ((or_parts (p j) (list_any p ids) none).0)
     (remove-none p ids i ((or_parts (p j) (list_any p ids) none).1))
 
-pub ids-remove : (free : ℕ) (ids : List ℕ) (i : ℕ) → AreIds free ids → AreIds free (remove ids i)
+pub ids-remove : (free : ℕ) (ids : List ℕ) (i : ℕ) → IdsDiffer free ids → IdsDiffer free (remove ids i)
 ids-remove free [] zero are = tt
 ids-remove free [] (suc i) are = tt
 ids-remove free (j ∷ ids) zero are = are.2

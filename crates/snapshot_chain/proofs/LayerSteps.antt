@@ -6,7 +6,7 @@ use Rattle.sector_model.specs.declared.sector.Sector.{Sector}
 use Rattle.snapshot_chain.specs.declared.chain.ChainRefused.TheVariants.{UnknownSnap, Range, NoMemory}
 use Rattle.snapshot_chain.specs.Chain.{ChainState, after_merging, contents_of, read_refusal}
 use Rattle.sector_model.specs.Run.{is_within}
-use Rattle.snapshot_chain.specs.Kept.{state_of, AreIds}
+use Rattle.snapshot_chain.specs.Fields.{state_of, IdsDiffer}
 use Rattle.snapshot_chain.proofs.Keeping.{all-set, all-at, all-remove}
 use Rattle.snapshot_chain.proofs.States.{merged_state}
 use Rattle.std.proofs.lemmas.List.{get_or-set_same, get_or_default}
@@ -92,7 +92,7 @@ merged_within c i old new merged less within =
 
 pub merged_holds : (c bound : ℕ) (ids : List ℕ) (free : ℕ) (freeze_room : Bool)
     (merge_room : Option ℕ) (id i : ℕ) (old new : List LayerState) → MergedAt i old new
-    → length old ≡ length ids + 1 → AreIds bound ids → position (nat_eq id) ids ≡ Some i
+    → length old ≡ length ids + 1 → IdsDiffer bound ids → position (nat_eq id) ids ≡ Some i
     → state_of c new (remove ids i) free freeze_room None
     ≡ after_merging id (state_of c old ids free freeze_room merge_room)
 merged_holds c bound ids free freeze_room merge_room id i old new merged long are at =

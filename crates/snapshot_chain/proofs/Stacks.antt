@@ -5,7 +5,7 @@ use Rattle.std.proofs.lemmas.Bool.{eq-eqb, or_parts}
 use Rattle.std.proofs.lemmas.Bool.Decides.{nat_tests}
 use Rattle.std.proofs.lemmas.List.Elements.{filter_agree}
 use Rattle.sector_model.proofs.Ranges.{map-range_same}
-use Rattle.snapshot_chain.specs.Kept.{AreIds}
+use Rattle.snapshot_chain.specs.Fields.{IdsDiffer}
 use Rattle.std.specs.List.{list_any, range_with_len, filter, remove, slice_get}
 use Rattle.sector_model.specs.Sector.{zero_sector}
 use Rattle.sector_model.specs.Run.{block_count}
@@ -186,7 +186,7 @@ head_merged c id below (k ∷ ids) lower up rest new apart merged =
 
 pub snapshots-merged : (c bound id : ℕ) (below : List LayerState) (ids : List ℕ)
     (layers : List LayerState) (i : ℕ) (new : LayerState) → slice_get ids i ≡ Some id
-    → AreIds bound ids
+    → IdsDiffer bound ids
     → length layers ≡ length ids + 1 → IsMerged (layer_at layers i) (layer_at layers (suc i)) new
     → snapshots_in c below (remove ids i) (set (remove layers i) i new)
     ≡ filter (λ s. not (s.id == id)) (snapshots_in c below ids layers)

@@ -20,7 +20,7 @@ use Rattle.snapshot_chain.specs.Page128.{run_at}
 use Rattle.snapshot_chain.specs.Layer.{LayerState, sector_in, HasSame, IsWritten, IsMerged}
 use Rattle.snapshot_chain.specs.Chain.{contents_of, after_writing, after_freezing, after_merging, fresh}
 use Rattle.snapshot_chain.specs.Layers.{found, sector_found, contents_in, has_found, blocks_in, snapshot_in, snapshots_in, layer_at}
-use Rattle.snapshot_chain.specs.Kept.{state_of, AreIds}
+use Rattle.snapshot_chain.specs.Fields.{state_of, IdsDiffer}
 use Rattle.snapshot_chain.specs.Reading.{layers_seen}
 use Rattle.snapshot_chain.proofs.Options.{or_assoc}
 use Rattle.snapshot_chain.proofs.Stacks.{HoldsSame, found-append, any-same, contents-same, blocks-same, snapshots-newest, snapshots-push, snapshots-merged, holds-merged}
@@ -118,7 +118,7 @@ frozen_state c layers ids free freeze_room merge_room id long =
 
 pub merged_state : (c bound : ℕ) (layers : List LayerState) (ids : List ℕ) (free : ℕ)
     (freeze_room : Bool) (merge_room : Option ℕ) (id i : ℕ) (new : LayerState)
-    → length layers ≡ length ids + 1 → AreIds bound ids → position (nat_eq id) ids ≡ Some i
+    → length layers ≡ length ids + 1 → IdsDiffer bound ids → position (nat_eq id) ids ≡ Some i
     → IsMerged (layer_at layers i) (layer_at layers (i + 1)) new
     → state_of c (set (remove layers i) i new) (remove ids i) free freeze_room None
     ≡ after_merging id (state_of c layers ids free freeze_room merge_room)

@@ -3,7 +3,7 @@ pub mod KeptPage
 pub mod Layer
 pub mod Layers
 pub mod Chain
-pub mod Kept
+pub mod Fields
 pub mod History
 pub mod Reading
 pub mod Laws

@@ -76,7 +76,7 @@ struct MergeRoom {
 
 impl Model for Chain {
     ghost use Rattle.snapshot_chain.specs.Chain.{ChainState};
-    ghost use Rattle.snapshot_chain.specs.Kept.{state_of, room_id, IsKept};
+    ghost use Rattle.snapshot_chain.specs.Fields.{state_of, room_id, IsKept};
 
     ghost Value = { ChainState };
 

@@ -27,7 +27,7 @@ use Rattle.sector_model.specs.declared.NoMemory.{NoMemory}
 use Rattle.source_disk.specs.Parts.{steps_of}
 use Rattle.source_disk.specs.SourceDisk.{SourceDiskState, machine_of, number_of, capacity_of, has_snapshot, contents_of, with_freeze_room}
 use Rattle.source_disk.specs.StandsFor.{StandsFor}
-use Rattle.source_disk.specs.Told.{contents_told, allocated_told, id_told, changes_told}
+use Rattle.source_disk.specs.FromLog.{contents_told, allocated_told, id_told, changes_told}
 use Rattle.source_disk.specs.Refusals.{read_refusal, snapshot_refusal, id_refusal, query_refusal}
 use Rattle.source_disk.proofs.Steps as steps
 use Rattle.std.proofs.lemmas.Result.{on_ok_weaker}

@@ -24,7 +24,7 @@ use Rattle.snapshot_chain.proofs.Histories.{live_at}
 use Rattle.source_disk.specs.Parts.{chain_event, events_of}
 use Rattle.source_disk.specs.SourceDisk.{SourceDiskState, number_of, capacity_of, has_snapshot}
 use Rattle.source_disk.specs.StandsFor.{StandsFor}
-use Rattle.source_disk.specs.Told.{contents_told, allocated_told}
+use Rattle.source_disk.specs.FromLog.{contents_told, allocated_told}
 use Rattle.source_disk.specs.Laws.{HoldsTheLog, NextIsFree}
 use Rattle.source_disk.proofs.Events.{present_told, live_told, frozen_told, areas_told}
 use Rattle.source_disk.proofs.Steps.{epoch_told}

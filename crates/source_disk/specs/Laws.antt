@@ -11,7 +11,7 @@ use Rattle.log_model.specs.Marks.{epoch}
 use Rattle.log_model.specs.Refusals.{is_live}
 use Rattle.source_disk.specs.SourceDisk.{SourceDiskState, number_of, capacity_of, epoch_of, has_snapshot, IsFree, contents_of, blocks_of, IsSameButRoom}
 use Rattle.source_disk.specs.StandsFor.{StandsFor, Takes, concerns}
-use Rattle.source_disk.specs.Told.{contents_told, allocated_told}
+use Rattle.source_disk.specs.FromLog.{contents_told, allocated_told}
 
 pub record HoldsTheLog (d : SourceDiskState) (log : List Entry) : Type 0 where
   -- what it holds now

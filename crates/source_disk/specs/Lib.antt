@@ -1,6 +1,6 @@
 pub mod Parts
 pub mod SourceDisk
 pub mod StandsFor
-pub mod Told
+pub mod FromLog
 pub mod Refusals
 pub mod Laws

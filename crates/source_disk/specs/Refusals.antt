@@ -10,7 +10,7 @@ use Rattle.change_tracker.specs.History.{strange_refusal}
 use Rattle.change_tracker.specs.declared.refusals.TrackRefused.{TrackRefused}
 use Rattle.change_tracker.specs.declared.refusals.TrackRefused.TheVariants.{UnknownSnap, Range}
 use Rattle.source_disk.specs.SourceDisk.{SourceDiskState, capacity_of}
-use Rattle.source_disk.specs.Told.{changes_told}
+use Rattle.source_disk.specs.FromLog.{changes_told}
 
 -- ---- by what the disk holds: those of its chain
 

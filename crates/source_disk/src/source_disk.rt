@@ -38,7 +38,7 @@ impl Model for SourceDisk {
 impl SourceDisk {
     ghost use Rattle.source_disk.specs.SourceDisk.{fresh, number_of, capacity_of, epoch_of, has_snapshot, next_id, IsFree, contents_of, blocks_of, after_writing, after_freezing, after_merging, after_enabling, after_reset, has_freeze_room, HasMergeRoom, with_freeze_room, with_merge_room, IsSameButRoom};
     ghost use Rattle.source_disk.specs.StandsFor.{StandsFor, Takes};
-    ghost use Rattle.source_disk.specs.Told.{contents_told, allocated_told, id_told, changes_told};
+    ghost use Rattle.source_disk.specs.FromLog.{contents_told, allocated_told, id_told, changes_told};
     ghost use Rattle.source_disk.specs.Refusals.{write_refusal, snapshot_refusal, read_refusal, id_refusal, query_refusal};
 
     /// A disk of that many sectors that was never written, of a machine's log without entries. The

@@ -2,7 +2,7 @@ use Rattle.std.proofs.Common.{◌≡◌, ℕ, ◌%◌, ◌+◌, ◌*◌, ◌^◌
 use Rattle.std.proofs.lemmas.Bool.{cases_lt}
 use Rattle.std.proofs.lemmas.Nat.{and_le_l}
 use Rattle.change_tracker.specs.declared.word.Window.{Window}
-use Rattle.change_tracker.specs.Touches.{TouchState, is_touched}
+use Rattle.change_tracker.specs.Touches.{TouchState, is_touched_in}
 use Rattle.change_tracker.proofs.Walks.{Met, Lowest, lowest, masked, no_bits, none_before, touched_here, from_at}
 use Rattle.change_tracker.proofs.touches.Touches.next_touched.Goals as goal
 
@@ -16,9 +16,9 @@ fits bits first less =
     )
 
 up_to : (t : TouchState) (w : Window) (block at top : ℕ)
-    → ((b : ℕ) → block ≤ b → b < at → is_touched t w b ≡ false)
-    → ((b : ℕ) → at ≤ b → b < top → is_touched t w b ≡ false) → (b : ℕ) → block ≤ b → b < top
-    → is_touched t w b ≡ false
+    → ((b : ℕ) → block ≤ b → b < at → is_touched_in t w b ≡ false)
+    → ((b : ℕ) → at ≤ b → b < top → is_touched_in t w b ≡ false) → (b : ℕ) → block ≤ b → b < top
+    → is_touched_in t w b ≡ false
 up_to t w block at top none more b from less =
     elim (cases_lt b at) [ inl early ↦ none b from early | inr late ↦ more b late less ]
 

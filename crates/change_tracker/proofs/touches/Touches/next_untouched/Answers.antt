@@ -3,7 +3,7 @@ use Rattle.std.specs.Int.{bit_not}
 use Rattle.std.proofs.lemmas.Bool.{cases_lt}
 use Rattle.std.proofs.lemmas.Nat.{and_le_l}
 use Rattle.change_tracker.specs.declared.word.Window.{Window}
-use Rattle.change_tracker.specs.Touches.{TouchState, IsSeen, touched_in, word_of, is_touched}
+use Rattle.change_tracker.specs.Touches.{TouchState, IsSeen, touched_in, word_of, is_touched_in}
 use Rattle.change_tracker.proofs.Walks.{Lowest, lowest, masked, no_bits, all_before, untouched_here, from_here}
 use Rattle.change_tracker.proofs.touches.Touches.next_untouched.Goals as goal
 
@@ -15,9 +15,9 @@ fits bits first = omega (
 )
 
 up_to : (t : TouchState) (w : Window) (block at top : ℕ)
-    → ((b : ℕ) → block ≤ b → b < at → is_touched t w b ≡ true)
-    → ((b : ℕ) → at ≤ b → b < top → is_touched t w b ≡ true) → (b : ℕ) → block ≤ b → b < top
-    → is_touched t w b ≡ true
+    → ((b : ℕ) → block ≤ b → b < at → is_touched_in t w b ≡ true)
+    → ((b : ℕ) → at ≤ b → b < top → is_touched_in t w b ≡ true) → (b : ℕ) → block ≤ b → b < top
+    → is_touched_in t w b ≡ true
 up_to t w block at top all more b from less =
     elim (cases_lt b at) [ inl early ↦ all b from early | inr late ↦ more b late less ]
 
@@ -58,7 +58,7 @@ returns-then-bits-ne0-clause-found c =
     lowest _ _ c.if-bits-ne0.true (fits bits c.loop-at.at) c.from.ensures in
     λ less. let same : c.min.result ≡ 64 * (c.loop-at.at / 64) + c.from.result =
     omega (arith, less, c.min.ensures) in
-    ap (is_touched c.args.self.now c.args.window) same
+    ap (is_touched_in c.args.self.now c.args.window) same
     ∙ untouched_here c.args.self.now c.args.window c.loop-at.at bits c.from.result small is low
 
 pub loop-at-preserved : goal.loop-at-preserved

@@ -2,9 +2,9 @@ use Rattle.std.proofs.Common.{◌≡◌, ℕ, ◌+◌, ◌≤◌, ◌∷◌, ◌
 use Rattle.std.proofs.lemmas.Bool.{false≢true}
 use Rattle.change_id.specs.ChangeId.{id_of, packed}
 use Rattle.change_id.specs.declared.ChangeId.{ChangeId}
-use Rattle.change_tracker.specs.declared.kept.Kept.{Kept}
+use Rattle.change_tracker.specs.declared.frozen_snapshot.FrozenSnapshot.{FrozenSnapshot}
 use Rattle.change_tracker.specs.Tracker.{TrackerState, after_freezing}
-use Rattle.change_tracker.specs.Kept.{state_of, AreIds}
+use Rattle.change_tracker.specs.Fields.{state_of, IdsAscend}
 use Rattle.change_tracker.proofs.States.{frozen_state, ids_push, by_now_more, no_later_more, none_later_more}
 use Rattle.change_tracker.proofs.tracker.Tracker.add_snapshot.Goals as goal
 
@@ -21,7 +21,7 @@ numbered u (Some n) = refl
 pub invariant_of-self : goal.invariant_of-self
 invariant_of-self c =
     let was = c.self.inside in
-    let k : Kept = record { id = c.args.id; change_id = c.map-change_id.result } in
+    let k : FrozenSnapshot = record { id = c.args.id; change_id = c.map-change_id.result } in
     let items : c.push.new.self.items ≡ was.snapshots.items ++ k ∷ [] = search rules in
     let counted : c.map-self-inside.result ≡ option_map (λ n. n + 1) was.counted = search rules in
     let long : length c.push.new.self.items ≡ length was.snapshots.items + 1 =
@@ -30,8 +30,8 @@ invariant_of-self c =
     subst (λ (s : TrackerState). s.free_from ≤ c.args.id) (sym c.self.view_is) c.requires.free
     in
     record {
-      ascending = (let P : List Kept → Type 0 = λ ks. AreIds 0 (c.from.result + 1) ks in
-          let Q : ℕ → Type 0 = λ n. AreIds 0 (n + 1) (was.snapshots.items ++ k ∷ []) in
+      ascending = (let P : List FrozenSnapshot → Type 0 = λ ks. IdsAscend 0 (c.from.result + 1) ks in
+          let Q : ℕ → Type 0 = λ n. IdsAscend 0 (n + 1) (was.snapshots.items ++ k ∷ []) in
           subst P (sym items) (subst Q (sym c.from.ensures)
           (ids_push 0 was.free_from was.snapshots.items k c.self.invariant.ascending free)));
       few = (let P : Option ℕ → Type 0 = λ o. unwrap_or o 0 ≤ length c.push.new.self.items in
@@ -50,7 +50,7 @@ invariant_of-self c =
 pub returns-clause-frozen : goal.returns-clause-frozen
 returns-clause-frozen c =
     let was = c.self.inside in
-    let k : Kept = record { id = c.args.id; change_id = c.map-change_id.result } in
+    let k : FrozenSnapshot = record { id = c.args.id; change_id = c.map-change_id.result } in
     let items : c.push.new.self.items ≡ was.snapshots.items ++ k ∷ [] = search rules in
     let counted : c.map-self-inside.result ≡ option_map (λ n. n + 1) was.counted = search rules in
     let uuid : c.pack-uuid.result ≡ packed was.machine was.disk was.resets = c.pack-uuid.ensures in

@@ -2,7 +2,7 @@ use Rattle.std.proofs.Common.{◌≡◌, ◌∷◌, ◌++◌, [], false, true, O
 use Rattle.std.proofs.lemmas.Bool.{false≢true}
 use Rattle.change_tracker.specs.Tracker.{TrackerState, after_enabling}
 use Rattle.change_tracker.specs.History.{Enabled, StandsFor}
-use Rattle.change_tracker.specs.Kept.{state_of}
+use Rattle.change_tracker.specs.Fields.{state_of}
 use Rattle.change_tracker.proofs.Histories.{stands_enabled}
 use Rattle.change_tracker.proofs.tracker.Tracker.enable.Goals as goal
 

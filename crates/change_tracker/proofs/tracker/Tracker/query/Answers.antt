@@ -5,21 +5,21 @@ use Rattle.basics.specs.Refusal.{IsRefusedBy}
 use Rattle.sector_model.specs.Page.{page_from}
 use Rattle.change_id.specs.ChangeId.{packed}
 use Rattle.change_id.specs.declared.ChangeId.{ChangeId}
-use Rattle.change_tracker.specs.declared.kept.Kept.{Kept}
+use Rattle.change_tracker.specs.declared.frozen_snapshot.FrozenSnapshot.{FrozenSnapshot}
 use Rattle.change_tracker.specs.declared.refusals.TrackRefused.{TrackRefused}
 use Rattle.change_tracker.specs.declared.refusals.TrackRefused.TheVariants.{UnknownSnap, Range, Strange}
 use Rattle.change_tracker.specs.Tracker.{TrackerState}
 use Rattle.change_tracker.specs.History.{answered, query_refusal, StandsFor}
-use Rattle.change_tracker.specs.Kept.{is_accepted, window_from, in_force_of}
+use Rattle.change_tracker.specs.Fields.{is_accepted, window_from, in_force_of}
 use Rattle.change_tracker.proofs.Queries.{all_page, all_accepts, since_page, since_accepts, since_refuses, outside_refuses, unknown_refuses, some_window, no_window}
 use Rattle.change_tracker.proofs.tracker.Tracker.query.Goals as goal
 
 abbrev Answer : Type 0
 Answer = Result (Unit {0}) TrackRefused
 
-at_of : (seen ks : List Kept) (place : ℕ) (k : Kept) → seen ≡ ks → slice_get seen place ≡ Some k
+at_of : (seen ks : List FrozenSnapshot) (place : ℕ) (k : FrozenSnapshot) → seen ≡ ks → slice_get seen place ≡ Some k
     → slice_get ks place ≡ Some k
-at_of seen ks place k same is = ap (λ (xs : List Kept). slice_get xs place) (sym same) ∙ is
+at_of seen ks place k same is = ap (λ (xs : List FrozenSnapshot). slice_get xs place) (sym same) ∙ is
 
 pub overflow_add-window : goal.overflow_add-window
 overflow_add-window c =
@@ -43,7 +43,7 @@ pub returns-in_default-clause-refused : goal.returns-in_default-clause-refused
 returns-in_default-clause-refused c = λ steps.
     let was = c.self.inside in
     let none : list_any (λ k. k.id == c.args.id) was.snapshots.items ≡ false =
-    ap (λ (ks : List Kept). list_any (λ k. k.id == c.args.id) ks) (sym c.as_slice.ensures.value)
+    ap (λ (ks : List FrozenSnapshot). list_any (λ k. k.id == c.args.id) ks) (sym c.as_slice.ensures.value)
     ∙ (rw c.in_default.is at c.place_of.ensures) in
     let x : Answer = Err UnknownSnap in
     let P : TrackerState → Type 0 = λ t. StandsFor t steps
@@ -101,10 +101,10 @@ returns-in-All-clause-areas c = λ steps.
 abbrev accepted_as : (uuid : ℕ) (at : Option ChangeId) (from : ChangeId) → Bool
 accepted_as uuid at from = is_accepted uuid at from
 
-told_at : (ks : List Kept) (place : ℕ) (k read : Kept) → slice_get ks place ≡ Some k
+told_at : (ks : List FrozenSnapshot) (place : ℕ) (k read : FrozenSnapshot) → slice_get ks place ≡ Some k
     → read ≡ get_or ks place read → read.change_id ≡ k.change_id
 told_at ks place k read at is =
-    ap (λ (x : Kept). x.change_id) (is ∙ get_or_from_slice_get ks place k read at)
+    ap (λ (x : FrozenSnapshot). x.change_id) (is ∙ get_or_from_slice_get ks place k read at)
 
 pub returns-in_default-window_since-clause-refused :
     goal.returns-in_default-window_since-clause-refused

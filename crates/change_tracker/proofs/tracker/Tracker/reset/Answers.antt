@@ -1,7 +1,7 @@
 use Rattle.std.proofs.Common.{◌≡◌, ◌+◌, ◌∷◌, ◌++◌, [], Option, option_map, None, sym, ap, subst, refl, ◌∙◌, ℕ, rules}
 use Rattle.change_tracker.specs.Tracker.{TrackerState, after_reset}
 use Rattle.change_tracker.specs.History.{Reset, StandsFor}
-use Rattle.change_tracker.specs.Kept.{state_of}
+use Rattle.change_tracker.specs.Fields.{state_of}
 use Rattle.change_tracker.specs.declared.maps.Maps.{Maps}
 use Rattle.change_tracker.proofs.States.{reset_state}
 use Rattle.change_tracker.proofs.Histories.{stands_reset}

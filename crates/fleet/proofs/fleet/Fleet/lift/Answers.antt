@@ -5,7 +5,7 @@ use Rattle.log_model.specs.declared.entry.TheConstants.{MIGRATION_CALLER}
 use Rattle.source_vm.specs.Machine.{link_of}
 use Rattle.fleet.specs.NameMap.{value_at, with_value_at}
 use Rattle.fleet.specs.declared.vm.Vm.{Vm}
-use Rattle.fleet.specs.Kept.{fleet_state}
+use Rattle.fleet.specs.Fields.{fleet_state}
 use Rattle.fleet.proofs.Replacing.{entry_at, shows_lifted, lifts, IsKept-lifted}
 use Rattle.fleet.proofs.fleet.Fleet.lift.Goals as goal
 

@@ -9,7 +9,7 @@ use Rattle.edge_traits.specs.Disk.{settled}
 use Rattle.journal.specs.declared.refusal.JournalRefused.TheVariants.{DiskFault}
 use Rattle.journal.specs.Format.{cell}
 use Rattle.journal.specs.Journal.{JournalState}
-use Rattle.journal.specs.Kept.{failure_of}
+use Rattle.journal.specs.Fields.{failure_of}
 use Rattle.journal.proofs.Keeping.{cell_len, kept_by, cut_by, answered_ok, answered_err}
 use Rattle.journal.proofs.journal.Journal.append.Goals as goal
 

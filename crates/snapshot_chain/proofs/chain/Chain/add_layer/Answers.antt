@@ -2,7 +2,7 @@
 use Rattle.std.proofs.Common.{◌≡◌, ◌∷◌, [], ◌++◌, arith, length-append, ◌≤◌}
 use Rattle.std.proofs.lemmas.Bool.{false≢true}
 use Rattle.basics.proofs.Each.{each_pushed}
-use Rattle.snapshot_chain.specs.Kept.{room_id}
+use Rattle.snapshot_chain.specs.Fields.{room_id}
 use Rattle.snapshot_chain.specs.Layer.{IsWithin}
 use Rattle.snapshot_chain.proofs.States.{frozen_state}
 use Rattle.snapshot_chain.proofs.Keeping.{ids-push}

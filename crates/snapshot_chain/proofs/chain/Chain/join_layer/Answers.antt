@@ -2,7 +2,7 @@
 use Rattle.std.proofs.Common.{◌≡◌, ℕ, ◌+◌, ◌<◌, List, length, nat_eq, Some, is_some, sym, ap, ◌∙◌, arith}
 use Rattle.std.specs.List.{position}
 use Rattle.std.proofs.lemmas.List.Edits.{length-remove}
-use Rattle.snapshot_chain.specs.Kept.{room_id}
+use Rattle.snapshot_chain.specs.Fields.{room_id}
 use Rattle.snapshot_chain.proofs.States.{at_position, live_in}
 use Rattle.snapshot_chain.proofs.Keeping.{ids-remove}
 use Rattle.snapshot_chain.proofs.LayerSteps.{merged_long, merged_within, merged_holds}

@@ -2,7 +2,7 @@
 use Rattle.std.proofs.Common.{◌≡◌, ◌+◌, ◌*◌, ◌≤◌, List, length, take, Some, None, sym, ap, ◌∙◌, [], arith, length-take}
 use Rattle.std.proofs.lemmas.Nat.{mul-le}
 use Rattle.std.specs.Option.{option_map}
-use Rattle.snapshot_chain.specs.Kept.{room_id}
+use Rattle.snapshot_chain.specs.Fields.{room_id}
 use Rattle.snapshot_chain.specs.Layer.{LayerState}
 use Rattle.snapshot_chain.specs.Layers.{contents_in, sector_found}
 use Rattle.snapshot_chain.specs.Chain.{contents_of}

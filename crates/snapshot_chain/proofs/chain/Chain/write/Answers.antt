@@ -1,6 +1,6 @@
 -- Only the newest layer changes.
 use Rattle.std.proofs.Common.{◌≡◌, ℕ, None, ◌+◌, ◌<◌, ◌≤◌, length, sym, ◌∙◌, subst, arith, length-set}
-use Rattle.snapshot_chain.specs.Kept.{room_id}
+use Rattle.snapshot_chain.specs.Fields.{room_id}
 use Rattle.snapshot_chain.specs.Layer.{IsWithin}
 use Rattle.snapshot_chain.specs.Layers.{layer_at}
 use Rattle.snapshot_chain.specs.Chain.{ChainState}

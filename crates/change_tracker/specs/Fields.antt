@@ -9,24 +9,24 @@ use Rattle.std.specs.declared.alloc.Global.{Global}
 use Rattle.change_id.specs.ChangeId.{counted_id}
 use Rattle.change_id.specs.declared.ChangeId.{ChangeId}
 use Rattle.sector_model.specs.declared.run.Run.{Run}
-use Rattle.change_tracker.specs.declared.kept.Kept.{Kept}
+use Rattle.change_tracker.specs.declared.frozen_snapshot.FrozenSnapshot.{FrozenSnapshot}
 use Rattle.change_tracker.specs.declared.word.Window.{Window}
 use Rattle.change_tracker.specs.declared.maps.Maps.{Maps}
-use Rattle.change_tracker.specs.Touches.{TouchState, is_touched, blocks_in}
+use Rattle.change_tracker.specs.Touches.{TouchState, is_touched_in, blocks_touched_in}
 use Rattle.change_tracker.specs.Maps.{window, is_met_by, HasRoomWhere, NoneTouchedLater}
 use Rattle.change_tracker.specs.Tracker.{TrackerState, Snapshot}
 
 -- the snapshot at a place of the list
-abbrev pub snapshot_at : (capacity : ℕ) (maps : Maps) → ℕ × Kept → Snapshot
+abbrev pub snapshot_at : (capacity : ℕ) (maps : Maps) → ℕ × FrozenSnapshot → Snapshot
 snapshot_at capacity maps (place, kept) = record {
   id = kept.id;
   change_id = kept.change_id;
-  blocks = blocks_in capacity maps.first (window 0 (place + 1));
-  changes = blocks_in capacity maps.changes (window place (place + 1));
+  blocks = blocks_touched_in capacity maps.first (window 0 (place + 1));
+  changes = blocks_touched_in capacity maps.changes (window place (place + 1));
 }
 
 abbrev pub state_of : (machine disk capacity resets : ℕ) (counted : Option ℕ)
-    (maps : Maps) (snapshots : List Kept) (free_from : ℕ)
+    (maps : Maps) (snapshots : List FrozenSnapshot) (free_from : ℕ)
     (mark_room : Option Run) (freeze_room : Bool) → TrackerState
 state_of machine disk capacity resets counted maps snapshots free_from mark_room
     freeze_room = record {
@@ -35,8 +35,8 @@ state_of machine disk capacity resets counted maps snapshots free_from mark_room
       capacity = capacity;
       epoch = resets;
       counted = counted;
-      blocks = blocks_in capacity maps.first (window 0 (length snapshots + 1));
-      changes = blocks_in capacity maps.changes (window (length snapshots) (length snapshots + 1));
+      blocks = blocks_touched_in capacity maps.first (window 0 (length snapshots + 1));
+      changes = blocks_touched_in capacity maps.changes (window (length snapshots) (length snapshots + 1));
       snapshots = map (snapshot_at capacity maps) (enumerate_from 0 snapshots);
       free_from = free_from;
       mark_room = mark_room;
@@ -44,18 +44,18 @@ state_of machine disk capacity resets counted maps snapshots free_from mark_room
     }
 
 -- the ids ascend, each below a bound
-abbrev pub AreIds : (from bound : ℕ) → List Kept → Type 0
-AreIds from bound [] = from ≤ bound
-AreIds from bound (kept ∷ rest) = (from ≤ kept.id) × AreIds (kept.id + 1) bound rest
+abbrev pub IdsAscend : (from bound : ℕ) → List FrozenSnapshot → Type 0
+IdsAscend from bound [] = from ≤ bound
+IdsAscend from bound (kept ∷ rest) = (from ≤ kept.id) × IdsAscend (kept.id + 1) bound rest
 
 -- some ids that ascend
-abbrev pub IsAscending : List Kept → Type 0
-IsAscending snapshots = (bound : ℕ) × AreIds 0 bound snapshots
+abbrev pub IsAscending : List FrozenSnapshot → Type 0
+IsAscending snapshots = (bound : ℕ) × IdsAscend 0 bound snapshots
 
 -- the snapshot at this place of the list has the id
-abbrev pub IsAt : List Kept → (place id : ℕ) → Type 0
+abbrev pub IsAt : List FrozenSnapshot → (place id : ℕ) → Type 0
 IsAt snapshots place id =
-    (kept : Kept) × (slice_get snapshots place ≡ Some kept) × (kept.id ≡ id)
+    (kept : FrozenSnapshot) × (slice_get snapshots place ≡ Some kept) × (kept.id ≡ id)
 
 -- the run lies within the disk, and marking it after this many freezes takes no memory
 pub record CanMark (capacity : ℕ) (maps : Maps) (freezes : ℕ) (run : Run) : Type 0 where
@@ -66,17 +66,17 @@ pub record CanMark (capacity : ℕ) (maps : Maps) (freezes : ℕ) (run : Run) : 
 -- no block was touched after more than this many freezes
 abbrev pub NoLater : TouchState → (freezes : ℕ) → Type 0
 NoLater touches freezes = (w : Window) (block : ℕ) → freezes < w.from
-    → is_touched touches w block ≡ false
+    → is_touched_in touches w block ≡ false
 
 -- each first touch came after at most this many freezes
 abbrev pub IsByNow : TouchState → (freezes : ℕ) → Type 0
 IsByNow touches freezes = (end block : ℕ) → freezes < end
-    → is_touched touches (window 0 end) block ≡ is_touched touches (window 0 (freezes + 1)) block
+    → is_touched_in touches (window 0 end) block ≡ is_touched_in touches (window 0 (freezes + 1)) block
 
 pub record IsKept (capacity : ℕ) (counted : Option ℕ) (maps : Maps)
-    (snapshots : Vec Kept Global) (free_from : ℕ) (mark_room : Option Run) (freeze_room : Bool)
+    (snapshots : Vec FrozenSnapshot Global) (free_from : ℕ) (mark_room : Option Run) (freeze_room : Bool)
     : Type 0 where
-  pub ascending : AreIds 0 free_from snapshots.items
+  pub ascending : IdsAscend 0 free_from snapshots.items
   pub few : unwrap_or counted 0 ≤ length snapshots.items
   pub later : NoneTouchedLater maps (length snapshots.items)
   pub first_past : IsByNow maps.first (length snapshots.items)

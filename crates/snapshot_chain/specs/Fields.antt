@@ -22,9 +22,9 @@ state_of c layers ids free_from freeze_room merge_room = record {
 }
 
 -- no two ids are one, and each is below a bound
-abbrev pub AreIds : ℕ → List ℕ → Type 0
-AreIds bound [] = Unit {0}
-AreIds bound (id ∷ ids) = (id < bound) × (list_any (nat_eq id) ids ≡ false) × AreIds bound ids
+abbrev pub IdsDiffer : ℕ → List ℕ → Type 0
+IdsDiffer bound [] = Unit {0}
+IdsDiffer bound (id ∷ ids) = (id < bound) × (list_any (nat_eq id) ids ≡ false) × IdsDiffer bound ids
 
 -- the snapshot for whose merge there is room
 abbrev pub room_id : Option MergeRoom → Option ℕ
@@ -39,7 +39,7 @@ pub record HasMergeRoom (layers : List LayerState) (ids : List ℕ) (room : Merg
 pub record IsKept (c : ℕ) (layers : Vec LayerState Global) (ids : Vec ℕ Global)
     (free_from : ℕ) (freeze_room : Bool) (merge_room : Option MergeRoom) : Type 0 where
   pub long : length layers.items ≡ length ids.items + 1
-  pub distinct : AreIds free_from ids.items
+  pub distinct : IdsDiffer free_from ids.items
   pub within : AllByRecursion (IsWithin c) layers.items
   pub can_freeze : freeze_room ≡ true → (vec_len ids < vec_capacity ids)
       × (vec_len layers < vec_capacity layers)
