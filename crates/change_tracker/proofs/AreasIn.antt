@@ -79,7 +79,8 @@ found c t w at block blocks behind f e fits start count is first inside from wit
     ]))
     (elim end [
       | inl h ↦ elim (cases_lt e c) [
-        | inl less ↦ in_areas c e (is_touched_in t w) less ∙ ap (is_touched_in t w) (omega (arith, h.1))
+        | inl less ↦ in_areas c e (is_touched_in t w) less
+            ∙ ap (is_touched_in t w) (omega (arith, h.1))
             ∙ free h.0
         | inr past ↦ past_areas c e (is_touched_in t w) past
       ]

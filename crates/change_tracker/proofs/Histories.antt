@@ -564,7 +564,8 @@ new_changes id old h place le stands is =
           let bound = slice_get_within (old.snapshots ++ frozen_snapshot id old ∷ []) later other
           at_other in
           let same : later ≡ length old.snapshots = omega (arith, bound, long, upward, is) in
-          let other_is = slice_get-pushed old.snapshots (frozen_snapshot id old) later other at_other in
+          let other_is = slice_get-pushed old.snapshots
+          (frozen_snapshot id old) later other at_other in
           ap (λ (xs : List Snapshot). list_any (λ s. list_any (nat_eq b) s.changes) xs)
           (range-none (old.snapshots ++ frozen_snapshot id old ∷ []) (place + 1) (later + 1)
           (omega (arith, same, is)))
@@ -618,7 +619,8 @@ stands_frozen id old le h stands = record {
   frozen = λ place k at. elim
       (slice_get-pushed old.snapshots (frozen_snapshot id old) place k at) [
         | inl was ↦ frozen_by (after_freezing id old) (h ++ Frozen id ∷ []) k
-            (facts_stay old.machine old.disk old.capacity k.id k.change_id k.blocks h (Frozen id ∷ [])
+            (facts_stay old.machine old.disk old.capacity k.id k.change_id k.blocks h
+            (Frozen id ∷ [])
             (facts_of old h k (stands.frozen place k was.1)))
         | inr last ↦ let P : Snapshot → Type 0 =
             λ x. IsFrozenAs (after_freezing id old) (h ++ Frozen id ∷ []) x in

@@ -24,7 +24,8 @@ use Rattle.change_tracker.proofs.Steps.{epoch_of, number_of, force, place_of_id,
 
 -- ---- the place of an id
 
-ids_past : (from bound : ℕ) (ks : List FrozenSnapshot) (j : ℕ) (d : FrozenSnapshot) → IdsAscend from bound ks
+ids_past : (from bound : ℕ) (ks : List FrozenSnapshot) (j : ℕ) (d : FrozenSnapshot)
+    → IdsAscend from bound ks
     → j < length ks → from ≤ (get_or ks j d).id
 ids_past from bound [] j d are less = absurd (omega arith)
 ids_past from bound (k ∷ ks) zero d are less = are.0
@@ -42,7 +43,8 @@ ids_rise from bound (k ∷ ks) are (suc i) (suc j) d le less =
     ids_rise (k.id + 1) bound ks are.1 i j d (omega (arith, le)) (omega (arith, less))
 
 none_at : (p : FrozenSnapshot → Bool) (ks : List FrozenSnapshot)
-    → ((i : ℕ) (d : FrozenSnapshot) → i < length ks → p (get_or ks i d) ≡ false) → list_any p ks ≡ false
+    → ((i : ℕ) (d : FrozenSnapshot) → i < length ks → p (get_or ks i d) ≡ false) → list_any p ks
+    ≡ false
 none_at p [] none = refl
 none_at p (k ∷ ks) none =
     (λ i. none 0 k (omega arith) i || none_at p ks
@@ -65,17 +67,20 @@ none_with_id ks id place r point rise other =
           ne_eqb (get_or ks i d).id id (λ e. absurd (other d inside (omega (arith, e, high, up))))
     ])
 
-pub other_here : (ks : List FrozenSnapshot) (id place : ℕ) (x : Bor FrozenSnapshot) → IsItemAt ks place (Some x)
+pub other_here : (ks : List FrozenSnapshot) (id place : ℕ) (x : Bor FrozenSnapshot)
+    → IsItemAt ks place (Some x)
     → (x.now.id ≡ id → ⊥) → (d : FrozenSnapshot) → place < length ks → (get_or ks place d).id ≢ id
 other_here ks id place x is other d less e =
     other (ap (λ (k : FrozenSnapshot). k.id) (is.1 ∙ get_or_default ks place x.now d less) ∙ e)
 
-pub none_here : (ks : List FrozenSnapshot) (id place : ℕ) (r : Option (Bor FrozenSnapshot)) → IsItemAt ks place r
+pub none_here : (ks : List FrozenSnapshot) (id place : ℕ) (r : Option (Bor FrozenSnapshot))
+    → IsItemAt ks place r
     → r ≡ None → (d : FrozenSnapshot) → place < length ks → (get_or ks place d).id ≢ id
 none_here ks id place None is none d less e = absurd (omega (arith, is.3, less))
 none_here ks id place (Some x) is some d less e = absurd (none-some x (sym some))
 
-pub known_at : (ks : List FrozenSnapshot) (place id : ℕ) (k : FrozenSnapshot) → slice_get ks place ≡ Some k → k.id ≡ id
+pub known_at : (ks : List FrozenSnapshot) (place id : ℕ) (k : FrozenSnapshot) → slice_get ks place
+    ≡ Some k → k.id ≡ id
     → list_any (λ x. x.id == id) ks ≡ true
 known_at [] place id k at is = absurd (none-some k at)
 known_at (x ∷ ks) zero id k at is =

@@ -201,7 +201,8 @@ pub changes_marked : (old new : TouchState) (run : Run) (freezes word bits : ℕ
     → ((p : ℕ) → p < 64 → has_bit bits p ≡ meets (64 * word + p) run.first run.count)
     → IsAdded old new word freezes bits
     → (w : Window) (b : ℕ)
-    → is_touched_in new w b ≡ (is_touched_in old w b || (is_inside w freezes && is_met_in word run b))
+    → is_touched_in new w b ≡ (is_touched_in old w b ||
+    (is_inside w freezes && is_met_in word run b))
 changes_marked old new run freezes word bits told added w b =
     added w b ∙ ap (λ x. is_touched_in old w b || (is_inside w freezes && x))
     (elim (cases_eq (b / 64) word) [
@@ -334,7 +335,8 @@ pub touched_none : (p : ℕ → Bool) (freezes : ℕ) (a : Maps) → ((n : ℕ) 
 touched_none p freezes a none = record {
   first = λ end n. sym (none_new (is_touched_in a.first (window 0 end) n) (ltb freezes end) (p n)
       (none n));
-  changes = λ w n. sym (none_new (is_touched_in a.changes w n) (is_inside w freezes) (p n) (none n));
+  changes = λ w n. sym (none_new (is_touched_in a.changes w n) (is_inside w freezes) (p n)
+      (none n));
 }
 
 -- a block that isn't touched by now wasn't before

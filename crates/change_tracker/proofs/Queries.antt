@@ -26,7 +26,8 @@ use Rattle.change_tracker.proofs.States.{view_get, view_find, in_changes}
 use Rattle.change_tracker.proofs.Lookups.{known_at, query_unknown, query_known, query_outside, query_within, since_told, since_strange, all_told}
 
 module _ (m d c r : ℕ) (counted : Option ℕ) (maps : Maps) (ks : List FrozenSnapshot) (free : ℕ)
-    (room : Option Run) (freeze_room : Bool) (id place : ℕ) (k : FrozenSnapshot) (steps : List TrackStep)
+    (room : Option Run) (freeze_room : Bool) (id place : ℕ) (k : FrozenSnapshot)
+    (steps : List TrackStep)
     (stands : StandsFor (state_of m d c r counted maps ks free room freeze_room) steps)
     (at : slice_get ks place ≡ Some k) (same : k.id ≡ id) where
   abbrev now : TrackerState
@@ -130,7 +131,8 @@ module _ (m d c r : ℕ) (counted : Option ℕ) (maps : Maps) (ks : List FrozenS
       query_known (list_any (freezes id) steps) _ x known
       (query_outside _ _ x (le-ltb start c past) told)
 
-pub unknown_refuses : {T : Type 0} (m d c r : ℕ) (counted : Option ℕ) (maps : Maps) (ks : List FrozenSnapshot)
+pub unknown_refuses : {T : Type 0} (m d c r : ℕ) (counted : Option ℕ) (maps : Maps)
+    (ks : List FrozenSnapshot)
     (free : ℕ) (room : Option Run) (freeze_room : Bool) (id : ℕ) (steps : List TrackStep)
     → StandsFor (state_of m d c r counted maps ks free room freeze_room) steps
     → list_any (λ k. k.id == id) ks ≡ false

@@ -60,7 +60,8 @@ at_joins a m c p None low high = refl
 at_joins a m c p (Some x) low high = any_joins a m c p (x.latest ∷ x.earlier) low high
 
 pub joins : (t : TouchState) (a m c b : ℕ) → a ≤ m → m ≤ c
-    → is_touched_in t (window a c) b ≡ (is_touched_in t (window a m) b || is_touched_in t (window m c) b)
+    → is_touched_in t (window a c) b
+    ≡ (is_touched_in t (window a m) b || is_touched_in t (window m c) b)
 joins t a m c b low high = at_joins a m c (b % 64) (word_of t (b / 64)) low high
 
 none_inside : (a n : ℕ) → (leb a n && ltb n a) ≡ false
@@ -85,7 +86,8 @@ empty_window t a b = at_none a (b % 64) (word_of t (b / 64))
 abbrev pub view : (c : ℕ) (maps : Maps) (from : ℕ) → List FrozenSnapshot → List Snapshot
 view c maps from ks = map (snapshot_at c maps) (enumerate_from from ks)
 
-pub view_get : (c : ℕ) (maps : Maps) (from : ℕ) (ks : List FrozenSnapshot) (n : ℕ) (k : FrozenSnapshot)
+pub view_get : (c : ℕ) (maps : Maps) (from : ℕ) (ks : List FrozenSnapshot) (n : ℕ)
+    (k : FrozenSnapshot)
     → slice_get ks n ≡ Some k
     → slice_get (view c maps from ks) n ≡ Some (snapshot_at c maps (from + n, k))
 view_get c maps from [] n k is = absurd (none-some k is)
@@ -97,7 +99,8 @@ view_get c maps from (x ∷ ks) (suc n) k is =
     ∙ (let e : from + 1 + n ≡ from + suc n = omega arith in
     ap (λ (m : ℕ). Some (snapshot_at c maps (m, k))) e)
 
-pub view_same : (c bound : ℕ) (a b : Maps) (from : ℕ) (ks : List FrozenSnapshot) → from + length ks ≤ bound
+pub view_same : (c bound : ℕ) (a b : Maps) (from : ℕ) (ks : List FrozenSnapshot)
+    → from + length ks ≤ bound
     → ((n : ℕ) (k : FrozenSnapshot) → n < bound → snapshot_at c a (n, k) ≡ snapshot_at c b (n, k))
     → view c a from ks ≡ view c b from ks
 view_same c bound a b from [] le same = refl
@@ -155,13 +158,16 @@ take_changes : (c : ℕ) (maps : Maps) (from n b : ℕ) (ks : List FrozenSnapsho
     ≡ is_touched_in maps.changes (window from (from + n)) b
 take_changes c maps from zero b ks le less =
     sym ((let e : from + 0 ≡ from = omega arith in
-    ap (λ (m : ℕ). is_touched_in maps.changes (window from m) b) e) ∙ empty_window maps.changes from b)
+    ap (λ (m : ℕ). is_touched_in maps.changes (window from m) b) e)
+    ∙ empty_window maps.changes from b)
 take_changes c maps from (suc n) b [] le less = absurd (omega arith)
 take_changes c maps from (suc n) b (k ∷ ks) le less =
-    (λ i. among c (is_touched_in maps.changes (window from (from + 1))) b less i || take_changes c maps
+    (λ i. among c (is_touched_in maps.changes (window from (from + 1))) b less i || take_changes c
+    maps
     (from + 1) n b ks (omega (arith, le)) less i)
     ∙ (let e : from + 1 + n ≡ from + suc n = omega arith in
-    ap (λ (m : ℕ). is_touched_in maps.changes (window from (from + 1)) b || is_touched_in maps.changes
+    ap (λ (m : ℕ). is_touched_in maps.changes
+    (window from (from + 1)) b || is_touched_in maps.changes
     (window (from + 1) m) b) e)
     ∙ sym (joins maps.changes from (from + 1) (from + suc n) b (omega arith) (omega arith))
 
@@ -181,7 +187,8 @@ in_changes c maps ks from end b low high less =
 -- ---- states
 
 blocks_same : (c : ℕ) (s t : TouchState) (w : Window)
-    → ((b : ℕ) → is_touched_in t w b ≡ is_touched_in s w b) → blocks_touched_in c t w ≡ blocks_touched_in c s w
+    → ((b : ℕ) → is_touched_in t w b ≡ is_touched_in s w b) → blocks_touched_in c t w
+    ≡ blocks_touched_in c s w
 blocks_same c s t w same = same_blocks c (is_touched_in t w) (is_touched_in s w) (λ b less. same b)
 
 abbrev snapshot : (id : ℕ) (told : Option ChangeId) (blocks changes : List ℕ) → Snapshot
@@ -189,7 +196,8 @@ snapshot id told blocks changes =
     record { id = id; change_id = told; blocks = blocks; changes = changes }
 
 -- maps with the same touches
-pub same_state : (m d c r : ℕ) (counted : Option ℕ) (old new : Maps) (ks : List FrozenSnapshot) (free : ℕ)
+pub same_state : (m d c r : ℕ) (counted : Option ℕ) (old new : Maps) (ks : List FrozenSnapshot)
+    (free : ℕ)
     (room : Option Run) (freeze_room : Bool) → HasSameTouches old new
     → state_of m d c r counted new ks free room freeze_room
     ≡ state_of m d c r counted old ks free room freeze_room
@@ -219,7 +227,8 @@ same_state m d c r counted old new ks free room freeze_room same =
     })
 
 -- a run is marked after the last snapshot
-pub marked_state : (m d c r : ℕ) (counted : Option ℕ) (old new : Maps) (ks : List FrozenSnapshot) (free : ℕ)
+pub marked_state : (m d c r : ℕ) (counted : Option ℕ) (old new : Maps) (ks : List FrozenSnapshot)
+    (free : ℕ)
     (room : Option Run) (freeze_room : Bool) (run : Run)
     → IsTouchedWhere (is_met_by run) (length ks) old new
     → state_of m d c r counted new ks free None freeze_room
@@ -275,7 +284,8 @@ marked_state m d c r counted old new ks free room freeze_room run is =
     gone false false m = refl
 
 -- a snapshot is added
-pub frozen_state : (m d c r : ℕ) (counted : Option ℕ) (maps : Maps) (ks : List FrozenSnapshot) (free : ℕ)
+pub frozen_state : (m d c r : ℕ) (counted : Option ℕ) (maps : Maps) (ks : List FrozenSnapshot)
+    (free : ℕ)
     (room : Option Run) (freeze_room : Bool) (k : FrozenSnapshot)
     → IsByNow maps.first (length ks) → NoLater maps.changes (length ks)
     → k.change_id ≡ option_map (λ n. record { uuid = packed m d r; seq = n + 1 }) counted
@@ -298,7 +308,8 @@ frozen_state m d c r counted maps ks free room freeze_room k first_past changes_
     ∙ none_pass (range_with_len 0 (block_count c)) in
     let last : snapshot_at c maps (0 + F, k)
     ≡ snapshot k.id (option_map (λ n. record { uuid = packed m d r; seq = n + 1 }) counted)
-    (blocks_touched_in c maps.first (window 0 (F + 1))) (blocks_touched_in c maps.changes (window F (F + 1))) =
+    (blocks_touched_in c maps.first (window 0 (F + 1)))
+    (blocks_touched_in c maps.changes (window F (F + 1))) =
     (let e : 0 + F ≡ F = omega arith in ap (λ (n : ℕ). snapshot_at c maps (n, k)) e)
     ∙ (λ i. snapshot k.id (told i) (blocks_touched_in c maps.first (window 0 (F + 1)))
     (blocks_touched_in c maps.changes (window F (F + 1)))) in
@@ -318,7 +329,8 @@ frozen_state m d c r counted maps ks free room freeze_room k first_past changes_
     })
 
 -- the changes are forgotten
-pub reset_state : (m d c r : ℕ) (counted : Option ℕ) (old new : Maps) (ks : List FrozenSnapshot) (free : ℕ)
+pub reset_state : (m d c r : ℕ) (counted : Option ℕ) (old new : Maps) (ks : List FrozenSnapshot)
+    (free : ℕ)
     (room : Option Run) (freeze_room : Bool) → new.first ≡ old.first → new.changes ≡ []
     → state_of m d c (r + 1) (option_map (λ n. 0) counted) new ks free None freeze_room
     ≡ after_reset (state_of m d c r counted old ks free room freeze_room)
@@ -411,7 +423,8 @@ by_now_marked p n old new is past = λ end b less.
 
 -- ---- ids
 
-pub ids_push : (from free : ℕ) (ks : List FrozenSnapshot) (k : FrozenSnapshot) → IdsAscend from free ks → free ≤ k.id
+pub ids_push : (from free : ℕ) (ks : List FrozenSnapshot) (k : FrozenSnapshot)
+    → IdsAscend from free ks → free ≤ k.id
     → IdsAscend from (k.id + 1) (ks ++ k ∷ [])
 ids_push from free [] k are le = (omega (arith, are, le), omega arith)
 ids_push from free (x ∷ ks) k are le = (are.0, ids_push (x.id + 1) free ks k are.1 le)

@@ -36,7 +36,8 @@ state_of machine disk capacity resets counted maps snapshots free_from mark_room
       epoch = resets;
       counted = counted;
       blocks = blocks_touched_in capacity maps.first (window 0 (length snapshots + 1));
-      changes = blocks_touched_in capacity maps.changes (window (length snapshots) (length snapshots + 1));
+      changes = blocks_touched_in capacity maps.changes
+          (window (length snapshots) (length snapshots + 1));
       snapshots = map (snapshot_at capacity maps) (enumerate_from 0 snapshots);
       free_from = free_from;
       mark_room = mark_room;
@@ -71,10 +72,12 @@ NoLater touches freezes = (w : Window) (block : ℕ) → freezes < w.from
 -- each first touch came after at most this many freezes
 abbrev pub IsByNow : TouchState → (freezes : ℕ) → Type 0
 IsByNow touches freezes = (end block : ℕ) → freezes < end
-    → is_touched_in touches (window 0 end) block ≡ is_touched_in touches (window 0 (freezes + 1)) block
+    → is_touched_in touches (window 0 end) block
+    ≡ is_touched_in touches (window 0 (freezes + 1)) block
 
 pub record IsKept (capacity : ℕ) (counted : Option ℕ) (maps : Maps)
-    (snapshots : Vec FrozenSnapshot Global) (free_from : ℕ) (mark_room : Option Run) (freeze_room : Bool)
+    (snapshots : Vec FrozenSnapshot Global) (free_from : ℕ) (mark_room : Option Run)
+    (freeze_room : Bool)
     : Type 0 where
   pub ascending : IdsAscend 0 free_from snapshots.items
   pub few : unwrap_or counted 0 ≤ length snapshots.items

@@ -165,7 +165,8 @@ impl Touches {
         requires seen { IsSeen self.now window seen.old.word seen.old.bits }
         ensures from { block ≤ result }
         ensures within { result ≤ end }
-        ensures touched { (b : ℕ) → block ≤ b → b < result → is_touched_in self.now window b ≡ true }
+        ensures touched { (b : ℕ) → block ≤ b → b < result
+            → is_touched_in self.now window b ≡ true }
         ensures found { result < end → is_touched_in self.now window result ≡ false }
         ensures seen { IsSeen self.now window seen.new.word seen.new.bits }
     {

@@ -169,7 +169,9 @@ impl Tracker {
         let uuid = pack(self.machine, self.disk, self.resets);
         self.counted = self.counted.map(|counted| counted + 1);
         let change_id = self.counted.map(|seq| ChangeId { uuid, seq });
-        self.snapshots.push(FrozenSnapshot { id, change_id }).unwrap();
+        self.snapshots
+            .push(FrozenSnapshot { id, change_id })
+            .unwrap();
         self.free_from = u64::from(id) + 1;
         self.mark_room = None;
         self.freeze_room = false;

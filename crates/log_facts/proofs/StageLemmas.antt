@@ -96,7 +96,8 @@ pub touched_more : (c d b i : ℕ) (entries : List Entry) (e : Entry) (old new :
     → new ≡ (old || (ltb b (block_count c) && option_map_or (touches b) (write_to d e.act) false))
     → new ≡ (ltb b (block_count c) && list_any (touches b) (writes_of d (take (i + 1) entries)))
 touched_more c d b i entries e old new less is was put =
-    put ∙ ap (λ x. x || (ltb b (block_count c) && option_map_or (touches b) (write_to d e.act) false)) was
+    put ∙ ap (λ x. x || (ltb b (block_count c) && option_map_or (touches b)
+    (write_to d e.act) false)) was
     ∙ and_or (ltb b (block_count c)) (list_any (touches b) (writes_of d (take i entries)))
     (option_map_or (touches b) (write_to d e.act) false)
     ∙ ap (λ x. ltb b (block_count c) && x) (sym (touched_last d b (take i entries) e))

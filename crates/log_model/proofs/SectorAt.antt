@@ -111,5 +111,6 @@ read_is capacities d first count log legal within =
     let c : ℕ = capacity_of capacities d in
     let on_disk = and_parts (is_known capacities d) (is_within c first count) within in
     let parts = and_parts (leb 1 count) (leb (first + count) c) on_disk.1 in
-    slice_is (all_of capacities) c d first count log (ltb-true d (length capacities) on_disk.0, refl)
+    slice_is (all_of capacities) c d first count log
+    (ltb-true d (length capacities) on_disk.0, refl)
     legal (leb-true (first + count) c parts.1)

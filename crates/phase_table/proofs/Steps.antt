@@ -4,7 +4,7 @@ use Rattle.std.specs.Prelude.{◌==◌, ◌&&◌, ◌||◌, nat_lt, nat_le, slic
 use Rattle.std.specs.List.{list_any, list_all, find, AllByRecursion}
 use Rattle.std.proofs.lemmas.Bool.{and_parts, false≢true}
 use Rattle.std.proofs.lemmas.Bool.Decides.{nat_tests}
-use Rattle.std.proofs.lemmas.Option.{same_Some}
+use Rattle.std.proofs.lemmas.Option.{same_Some, none-some}
 use Rattle.std.proofs.lemmas.List.Elements.{All-from_recursion, recursion_from_All, All-contains}
 use Rattle.std.proofs.lemmas.Map.Views.{Contains-from_any}
 use Rattle.phase_table.specs.declared.phases.Phase.{Phase}
@@ -157,15 +157,12 @@ no_late_back_edge p q h e =
 abbrev Misses : Phase → Fact → Row → Type 0
 Misses p f row = ¬ (Fits row p f)
 
-not_some : (q : Phase) → Some q ≡ None → ⊥
-not_some q e = cc
-
 -- by what the test of the first row gives
 none_split : (p : Phase) (f : Fact) (row : Row) (rows : List Row) (b : Bool) → fits row p f ≡ b
     → option_map (λ r. r.successor) (cond b (Some row) (find (λ r. fits r p f) rows)) ≡ None
     → (successor_in rows p f ≡ None → AllByRecursion (Misses p f) rows)
     → AllByRecursion (Misses p f) (row ∷ rows)
-none_split p f row rows true e none rest = absurd (not_some row.successor none)
+none_split p f row rows true e none rest = absurd (none-some row.successor (sym none))
 none_split p f row rows false e none rest =
     ((λ h. false≢true (sym e ∙ (fits_means row p f).1 h)), rest none)
 
@@ -228,4 +225,4 @@ pub ends_have_no_successor : EndsHaveNoSuccessor
 ends_have_no_successor Completed = (λ t. nothing_behind_completed, λ h. refl)
 ends_have_no_successor Cancelled = (λ t. nothing_behind_cancelled, λ h. refl)
 ends_have_no_successor Failed = (λ t. nothing_behind_failed, λ h. refl)
-ends_have_no_successor _ = (λ t. absurd (false≢true t), λ h. absurd (not_some Cancelled (h Cancel)))
+ends_have_no_successor _ = (λ t. absurd (false≢true t), λ h. absurd (none-some Cancelled (sym (h Cancel))))

@@ -4,7 +4,7 @@ use Rattle.std.proofs.Common.{◌≡◌, ℕ, zero, suc, ◌+◌, ◌<◌, ◌�
 use Rattle.std.specs.Prelude.{◌==◌, nat_lt, nat_le, ◌&&◌, ◌||◌, slice_index_or, option_map, if◌then◌else◌}
 use Rattle.std.specs.List.{AllByRecursion}
 use Rattle.std.proofs.lemmas.Bool.{eqb-true, ltb-true, lt-ltb}
-use Rattle.std.proofs.lemmas.Option.{same_Some}
+use Rattle.std.proofs.lemmas.Option.{same_Some, none-some}
 use Rattle.std.proofs.lemmas.Bool.Decides.{nat_tests}
 use Rattle.std.proofs.lemmas.List.{length-drop}
 use Rattle.record_codec.specs.declared.record.Record.{Record}
@@ -131,7 +131,8 @@ fixed_back MigrationStartedKind bytes r h e =
           (Word (word_at (drop 4 bytes)) ∷ Word (word_at (drop 4 (drop 4 bytes))) ∷ Word
           (word_at (drop 4 (drop 4 (drop 4 bytes)))) ∷ []) h
           (λ h. stands_word 8 (drop 4 bytes)
-          (Word (word_at (drop 4 (drop 4 bytes))) ∷ Word (word_at (drop 4 (drop 4 (drop 4 bytes)))) ∷
+          (Word (word_at (drop 4 (drop 4 bytes))) ∷ Word
+          (word_at (drop 4 (drop 4 (drop 4 bytes)))) ∷
           []) h (λ h. stands_word 4 (drop 4 (drop 4 bytes))
           (Word (word_at (drop 4 (drop 4 (drop 4 bytes)))) ∷ []) h
           (λ h. stands_word 0 (drop 4 (drop 4 (drop 4 bytes))) ([]) h
@@ -178,8 +179,10 @@ fixed_back CheckpointAddedKind bytes r h e =
       same_kind = refl;
       is_fixed = refl;
       stands = stands_word 9 bytes
-          (Word (word_at (drop 4 bytes)) ∷ Word (word_at (drop 4 (drop 4 bytes))) ∷ Flag flag ∷ []) h
-          (λ h. stands_word 5 (drop 4 bytes) (Word (word_at (drop 4 (drop 4 bytes))) ∷ Flag flag ∷ [])
+          (Word (word_at (drop 4 bytes)) ∷ Word (word_at (drop 4 (drop 4 bytes))) ∷ Flag flag ∷ [])
+          h
+          (λ h. stands_word 5 (drop 4 bytes)
+          (Word (word_at (drop 4 (drop 4 bytes))) ∷ Flag flag ∷ [])
           h (λ h. stands_word 1 (drop 4 (drop 4 bytes)) (Flag flag ∷ []) h
           (λ h. stands_flag 0 (drop 4 (drop 4 (drop 4 bytes))) ([]) flag o h
           (λ h. stands_end (drop 1 (drop 4 (drop 4 (drop 4 bytes)))) h))));
@@ -274,7 +277,8 @@ fixed_back FinalSnapTakenKind bytes r h e =
           (Word (word_at (drop 4 bytes)) ∷ Long (long_at (drop 4 (drop 4 bytes))) ∷ Long
           (long_at (drop 8 (drop 4 (drop 4 bytes)))) ∷ []) h
           (λ h. stands_word 16 (drop 4 bytes)
-          (Long (long_at (drop 4 (drop 4 bytes))) ∷ Long (long_at (drop 8 (drop 4 (drop 4 bytes)))) ∷
+          (Long (long_at (drop 4 (drop 4 bytes))) ∷ Long
+          (long_at (drop 8 (drop 4 (drop 4 bytes)))) ∷
           []) h (λ h. stands_long 8 (drop 4 (drop 4 bytes))
           (Long (long_at (drop 8 (drop 4 (drop 4 bytes)))) ∷ []) h
           (λ h. stands_long 0 (drop 8 (drop 4 (drop 4 bytes))) ([]) h
@@ -553,9 +557,6 @@ fixed_spells kind bytes r fit e =
       spelled = λ i. kind_byte (sym from.same_kind i) ∷ from.stands.spelled i;
     }
 
-not_none : (r : Record) → None ≡ Some r → ⊥
-not_none r e = cc
-
 pub fixed_only : (kind : Kind) (bytes : List ℕ) → nat_lt 0 (fixed_size kind) ≡ true
     → parse_fixed kind bytes ≡ None
     → (r : Record) → Spells (kind_byte kind ∷ bytes) r → ⊥
@@ -573,4 +574,4 @@ fixed_only kind bytes fixed none r spells =
     let parsed : parse_fixed (kind_of r) (spelled_fields (fields_of r)) ≡ Some r =
     parse_some (kind_of r) (spelled_fields (fields_of r)) r read.len read.read
     (rule_forth r fixed' spells.record_has.rule) in
-    not_none r (sym none ∙ (λ i. parse_fixed (same i) (rest i)) ∙ parsed)
+    none-some r (sym none ∙ (λ i. parse_fixed (same i) (rest i)) ∙ parsed)

@@ -22,7 +22,8 @@ pub last_pushed : (xs : List Run) (r d : Run)
     → get_or (xs ++ r ∷ []) (length (xs ++ r ∷ []) - 1) d ≡ r
 last_pushed xs r d =
     let last : length (xs ++ r ∷ []) - 1 ≡ length xs = omega (arith, length-append xs (r ∷ [])) in
-    ap (λ i. get_or (xs ++ r ∷ []) i d) last ∙ get_or_from_slice_get (xs ++ r ∷ []) (length xs) r d (slice_get-last xs r)
+    ap (λ i. get_or (xs ++ r ∷ []) i d) last
+    ∙ get_or_from_slice_get (xs ++ r ∷ []) (length xs) r d (slice_get-last xs r)
 
 page_is : (start long other : ℕ) (areas others : List Run) → long ≡ other → areas ≡ others
     → ◌≡◌ {A = PageContents} (record { start = start; length = long; areas = areas })

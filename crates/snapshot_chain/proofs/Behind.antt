@@ -91,7 +91,8 @@ built_behind page offset xs is above within =
       is_page = is;
       above = above;
       same = λ k less. rw (run_before offset xs k less) refl;
-    }) (λ i less. rw (run_from offset xs (offset + i) (omega arith)) (let at : offset + i - offset ≡ i =
+    }) (λ i less. rw (run_from offset xs (offset + i) (omega arith))
+    (let at : offset + i - offset ≡ i =
     omega arith in rw at (or_inside xs i (sector_at page (offset + i)) less)))
 
 pub page_behind : (page : PageState) (offset : ℕ) (xs : List Sector) → IsPage page

@@ -29,7 +29,8 @@ remove-none p (j ∷ ids) (suc i) none =
     or_from (p j) (list_any p (remove ids i)) ((or_parts (p j) (list_any p ids) none).0)
     (remove-none p ids i ((or_parts (p j) (list_any p ids) none).1))
 
-pub ids-remove : (free : ℕ) (ids : List ℕ) (i : ℕ) → IdsDiffer free ids → IdsDiffer free (remove ids i)
+pub ids-remove : (free : ℕ) (ids : List ℕ) (i : ℕ) → IdsDiffer free ids
+    → IdsDiffer free (remove ids i)
 ids-remove free [] zero are = tt
 ids-remove free [] (suc i) are = tt
 ids-remove free (j ∷ ids) zero are = are.2

@@ -154,7 +154,8 @@ block_more layers first block from offset count a n k buf part from_is place_is 
       | inr late ↦
           let inside : k - a < length part =
           omega (arith, late, long, n_is, count_is, place_is, from_is, a_is, less, now) in
-          let at : length (take a buf) + (k - a) ≡ k = omega (arith, late, fits, length-take a buf) in
+          let at : length (take a buf) + (k - a)
+          ≡ k = omega (arith, late, fits, length-take a buf) in
           let block_at : (first + k) / 128 ≡ block =
           omega (arith, late, a_is, from_is, less, now, low) in
           let place_at : (first + k) % 128 ≡ offset + (k - a) =

@@ -167,7 +167,8 @@ filter-apart c id below (j ∷ ids) (l ∷ layers) apart =
       eqb_sym j id,
       (or_parts (nat_eq id j) (list_any (nat_eq id) ids) apart).0,
       filter-apart c id
-          (below ++ l ∷ []) ids layers ((or_parts (nat_eq id j) (list_any (nat_eq id) ids) apart).1),
+          (below ++ l ∷ []) ids layers
+          ((or_parts (nat_eq id j) (list_any (nat_eq id) ids) apart).1),
     )
     refl
 

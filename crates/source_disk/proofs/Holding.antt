@@ -49,7 +49,8 @@ pub told_as : (d : SourceDiskState) (log : List Entry) (s : ℕ) → StandsFor d
 told_as d log s stands =
     IfSome_then (snapshot_of s d.chain) (stands.chain.frozen s) (λ x is. record {
       contents = is.contents ∙ frozen_told (capacity_of d) s (number_of d) log;
-      areas = ap (areas_of (capacity_of d)) is.blocks ∙ areas_told (capacity_of d) s (number_of d) log;
+      areas = ap (areas_of (capacity_of d)) is.blocks
+          ∙ areas_told (capacity_of d) s (number_of d) log;
     })
 
 contents_at : (d : SourceDiskState) (log : List Entry) (s : ℕ) (o : Option Snapshot)

@@ -24,12 +24,16 @@ pub clear-asked : (c d from end : ℕ) (entries : List Entry) (b : Bool) → end
     → MatchBool b (AreMissed d from end entries) (AreMet d from end entries)
     → (IsTrue b → (s : ℕ) → from ≤ s → s < end → in_blocks (touched_by c d entries) s ≡ false)
     × (((s : ℕ) → from ≤ s → s < end → in_blocks (touched_by c d entries) s ≡ false) → IsTrue b)
-clear-asked c d from end entries true within h =
-    (λ _ s low less. in_touched_blocks c d s entries (omega (arith, less, within)) ∙ h s low less, λ _. refl)
+clear-asked c d from end entries true within h = (
+  λ _ s low less. in_touched_blocks c d s entries (omega (arith, less, within))
+      ∙ h s low less,
+  λ _. refl,
+)
 clear-asked c d from end entries false within h = (
   λ is. absurd (false≢true is),
   λ none. absurd (false≢true
-      (sym (none h.0 h.1 h.2) ∙ in_touched_blocks c d h.0 entries (omega (arith, h.2, within)) ∙ h.3)),
+      (sym (none h.0 h.1 h.2) ∙ in_touched_blocks c d h.0 entries (omega (arith, h.2, within))
+      ∙ h.3)),
 )
 
 -- and where a partial stage has nothing to write there

@@ -57,7 +57,8 @@ grounds_stay machine c d log more base snap ground legal =
       ground = record {
         small = ground.small;
         legal = legal;
-        base_is = λ b is. stays-has (reading_of d) machine d b.id log more b.mark (ground.base_is b is);
+        base_is = λ b is. stays-has (reading_of d) machine d b.id log more b.mark
+            (ground.base_is b is);
         from_base = ground.from_base;
         snap_is = snap-later log more snap ground.snap_is;
       };

@@ -30,7 +30,8 @@ invariant_of-self c =
     subst (λ (s : TrackerState). s.free_from ≤ c.args.id) (sym c.self.view_is) c.requires.free
     in
     record {
-      ascending = (let P : List FrozenSnapshot → Type 0 = λ ks. IdsAscend 0 (c.from.result + 1) ks in
+      ascending = (let P : List FrozenSnapshot
+          → Type 0 = λ ks. IdsAscend 0 (c.from.result + 1) ks in
           let Q : ℕ → Type 0 = λ n. IdsAscend 0 (n + 1) (was.snapshots.items ++ k ∷ []) in
           subst P (sym items) (subst Q (sym c.from.ensures)
           (ids_push 0 was.free_from was.snapshots.items k c.self.invariant.ascending free)));

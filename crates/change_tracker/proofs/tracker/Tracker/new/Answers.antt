@@ -11,7 +11,8 @@ use Rattle.change_tracker.proofs.tracker.Tracker.new.Goals as goal
 pub returns-clause-fresh : goal.returns-clause-fresh
 returns-clause-fresh c =
     let maps : Maps = record { first = c.new.result; changes = c.new-2.result } in
-    ap (λ (ks : List FrozenSnapshot). state_of c.args.machine c.args.disk c.args.capacity 0 None maps ks 0
+    ap (λ (ks : List FrozenSnapshot). state_of c.args.machine c.args.disk c.args.capacity 0 None
+    maps ks 0
     None false) c.new-3.ensures.items
     ∙ fresh_state c.args.machine c.args.disk c.args.capacity maps c.new.ensures c.new-2.ensures
 

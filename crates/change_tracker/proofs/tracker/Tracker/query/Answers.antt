@@ -17,9 +17,11 @@ use Rattle.change_tracker.proofs.tracker.Tracker.query.Goals as goal
 abbrev Answer : Type 0
 Answer = Result (Unit {0}) TrackRefused
 
-at_of : (seen ks : List FrozenSnapshot) (place : ℕ) (k : FrozenSnapshot) → seen ≡ ks → slice_get seen place ≡ Some k
+at_of : (seen ks : List FrozenSnapshot) (place : ℕ) (k : FrozenSnapshot) → seen ≡ ks
+    → slice_get seen place ≡ Some k
     → slice_get ks place ≡ Some k
-at_of seen ks place k same is = ap (λ (xs : List FrozenSnapshot). slice_get xs place) (sym same) ∙ is
+at_of seen ks place k same is = ap (λ (xs : List FrozenSnapshot). slice_get xs place) (sym same)
+    ∙ is
 
 pub overflow_add-window : goal.overflow_add-window
 overflow_add-window c =
@@ -43,7 +45,8 @@ pub returns-in_default-clause-refused : goal.returns-in_default-clause-refused
 returns-in_default-clause-refused c = λ steps.
     let was = c.self.inside in
     let none : list_any (λ k. k.id == c.args.id) was.snapshots.items ≡ false =
-    ap (λ (ks : List FrozenSnapshot). list_any (λ k. k.id == c.args.id) ks) (sym c.as_slice.ensures.value)
+    ap (λ (ks : List FrozenSnapshot). list_any (λ k. k.id == c.args.id) ks)
+    (sym c.as_slice.ensures.value)
     ∙ (rw c.in_default.is at c.place_of.ensures) in
     let x : Answer = Err UnknownSnap in
     let P : TrackerState → Type 0 = λ t. StandsFor t steps
@@ -101,7 +104,8 @@ returns-in-All-clause-areas c = λ steps.
 abbrev accepted_as : (uuid : ℕ) (at : Option ChangeId) (from : ChangeId) → Bool
 accepted_as uuid at from = is_accepted uuid at from
 
-told_at : (ks : List FrozenSnapshot) (place : ℕ) (k read : FrozenSnapshot) → slice_get ks place ≡ Some k
+told_at : (ks : List FrozenSnapshot) (place : ℕ) (k read : FrozenSnapshot) → slice_get ks place
+    ≡ Some k
     → read ≡ get_or ks place read → read.change_id ≡ k.change_id
 told_at ks place k read at is =
     ap (λ (x : FrozenSnapshot). x.change_id) (is ∙ get_or_from_slice_get ks place k read at)

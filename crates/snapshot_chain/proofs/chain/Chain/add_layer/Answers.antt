@@ -27,7 +27,8 @@ invariant_of-self c =
       distinct = rw (ids, c.from.ensures)
           (ids-push c.self.inside.free_from c.args.id c.self.inside.ids.items free
           c.self.invariant.distinct);
-      within = rw layers (each_pushed (IsWithin c.self.inside.capacity) c.self.inside.layers.items []
+      within = rw layers (each_pushed
+          (IsWithin c.self.inside.capacity) c.self.inside.layers.items []
           c.self.invariant.within (λ block some. absurd (false≢true some)));
       can_freeze = λ full. absurd (false≢true full);
       can_merge = tt;

@@ -63,7 +63,8 @@ merge_all-requires c =
     let same : length roomed ≡ length disks =
     c.reserve_merges.auto.disks ∙ ap length c.deref_mut.ensures.value in
     let met : c.deref_mut-2.result.now ≡ roomed =
-    c.deref_mut-2.ensures.value ∙ take-written c.self.inside.disks.len roomed disks (sym (same ∙ len_is)) in
+    c.deref_mut-2.ensures.value
+    ∙ take-written c.self.inside.disks.len roomed disks (sym (same ∙ len_is)) in
     subst (λ (xs : List SourceDiskState). All (HasMergeRoom c.args.id) xs) (sym met)
     (where_ok c.reserve_merges.result (sym c.is_err-else-is_err.ensures.value ∙ c.if-is_err-2.false)
     c.reserve_merges.ensures.room)

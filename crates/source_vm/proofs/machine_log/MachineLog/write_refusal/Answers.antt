@@ -9,5 +9,6 @@ overflow_add-is_full c =
       arith,
       c.self.invariant.stand.sectors,
       written_bounded
-          (all_of c.self.inside.capacities.items) c.self.inside.entries.items c.self.invariant.legal,
+          (all_of c.self.inside.capacities.items) c.self.inside.entries.items
+          c.self.invariant.legal,
     )
