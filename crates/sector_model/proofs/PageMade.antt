@@ -1,7 +1,7 @@
 -- When a page is full, and when it is the last.
-use Rattle.std.proofs.Common.{◌≡◌, ℕ, ◌-◌, ◌<◌, ◌≤◌, List, [], ◌∷◌, ◌++◌, length, get_or, take, cond, refl, sym, ap, ◌∙◌, arith, length-append}
+use Rattle.std.proofs.Common.{◌≡◌, ℕ, ◌-◌, ◌<◌, ◌≤◌, List, [], ◌∷◌, ◌++◌, length, get_or, take, cond, sym, ap, ◌∙◌, arith, length-append}
 use Rattle.std.proofs.lemmas.Bool.{lt-ltb, le-ltb}
-use Rattle.std.proofs.lemmas.List.{take_all, take-append-le, append-nil}
+use Rattle.std.proofs.lemmas.List.{take_all, take-append-le, append-nil, get_or_push}
 use Rattle.std.proofs.Math.ListN.{get_or-append}
 use Rattle.sector_model.specs.Run.{end_of}
 use Rattle.sector_model.specs.Page.{PageContents, areas_from, page_from, page_end}
@@ -16,15 +16,10 @@ pub one_area_more : (start at : ℕ) (areas told : List Run) (r : Run)
 one_area_more start at areas told r joined next =
     joined ∙ ap (λ (rest : List Run). told ++ rest) next
 
-pub get_or-pushed : (xs : List Run) (r d : Run) → get_or (xs ++ r ∷ []) (length xs) d ≡ r
-get_or-pushed [] r d = refl
-get_or-pushed (x ∷ xs) r d = get_or-pushed xs r d
-
 pub last_pushed : (xs : List Run) (r d : Run)
     → get_or (xs ++ r ∷ []) (length (xs ++ r ∷ []) - 1) d ≡ r
 last_pushed xs r d =
-    let last : length (xs ++ r ∷ []) - 1 ≡ length xs = omega (arith, length-append xs (r ∷ [])) in
-    ap (λ i. get_or (xs ++ r ∷ []) i d) last ∙ get_or-pushed xs r d
+    get_or_push xs r d (length (xs ++ r ∷ []) - 1) (omega (arith, length-append xs (r ∷ [])))
 
 page_is : (start long other : ℕ) (areas others : List Run) → long ≡ other → areas ≡ others
     → ◌≡◌ {A = PageContents} (record { start = start; length = long; areas = areas })

@@ -1,8 +1,9 @@
 -- A page lies between its start and the capacity, and its areas in it.
-use Rattle.std.proofs.Common.{◌≡◌, ℕ, zero, suc, ◌+◌, ◌-◌, ◌^◌, ◌<◌, ◌≤◌, Bool, true, false, cond, ltb, List, [], ◌∷◌, length, get_or, take, refl, sym, subst, arith, inl, inr, length-take}
+use Rattle.std.proofs.Common.{◌≡◌, ℕ, zero, suc, ◌+◌, ◌-◌, ◌<◌, ◌≤◌, Bool, true, false, cond, ltb, List, [], ◌∷◌, length, get_or, take, refl, sym, subst, arith, inl, inr, length-take}
 use Rattle.std.specs.List.{AllByRecursion, All}
 use Rattle.std.proofs.lemmas.Bool.{ltb-true, ltb-false, cases_lt}
 use Rattle.std.proofs.lemmas.List.Elements.{recursion_from_All, All-from_recursion}
+use Rattle.basics.proofs.Each.{each_taken}
 use Rattle.sector_model.specs.Run.{end_of, AreSpacedFrom, AreSpaced}
 use Rattle.sector_model.specs.Page.{areas_from, page_from, LiesWithin}
 use Rattle.sector_model.specs.declared.run.Run.{Run}
@@ -14,12 +15,6 @@ pub spaced-take : (m n : ℕ) (rs : List Run) → AreSpacedFrom m rs → AreSpac
 spaced-take m zero rs h = spaced-bound m rs h
 spaced-take m (suc n) [] h = h
 spaced-take m (suc n) (r ∷ rs) h = (h.0, h.1, spaced-take (end_of r + 1) n rs h.2)
-
-each-take : (P : Run → Type 0) (n : ℕ) (rs : List Run) → AllByRecursion P rs
-    → AllByRecursion P (take n rs)
-each-take P zero rs h = tt
-each-take P (suc n) [] h = h
-each-take P (suc n) (r ∷ rs) h = (h.0, each-take P n rs h.1)
 
 -- what is told from a sector on begins there or later, and ends by the capacity
 begins : (c start : ℕ) (r : Run) → start < end_of r → end_of r ≤ c → (b : Bool)
@@ -116,7 +111,7 @@ ends_at false c start areas few spaced ends before =
     record {
       above = before;
       within = omega arith;
-      areas = each-take (λ q. end_of q ≤ c) PAGE_AREAS rest
+      areas = each_taken (λ q. end_of q ≤ c) PAGE_AREAS rest
           (seconds (λ q. start ≤ q.first) (λ q. end_of q ≤ c) rest
           (areas_from-inside c start areas ends));
     }
@@ -134,7 +129,7 @@ page_lies_within c areas start spaced all before =
       few = omega (arith, length-take PAGE_AREAS rest);
       spaced = spaced-take 0 PAGE_AREAS rest (areas_from-spaced 0 start areas spaced);
       begin_inside = All-from_recursion (λ r. start ≤ r.first) (take PAGE_AREAS rest)
-          (each-take (λ r. start ≤ r.first) PAGE_AREAS rest
+          (each_taken (λ r. start ≤ r.first) PAGE_AREAS rest
           (firsts (λ q. start ≤ q.first) (λ q. end_of q ≤ c) rest
           (areas_from-inside c start areas ends)));
       end_inside = All-from_recursion (λ r. end_of r ≤ e) (take PAGE_AREAS rest)
