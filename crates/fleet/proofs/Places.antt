@@ -9,7 +9,7 @@ use Rattle.std.specs.String.{string_eq}
 use Rattle.indexmap.specs.IndexMap.{insert_entry}
 use Rattle.indexmap.specs.Layout.{set_value_at}
 use Rattle.indexmap.proofs.MapLemmas.{absent_from_lookup, some_index, insert_entry-absent}
-use Rattle.log_model.proofs.Options.{none_is}
+use Rattle.basics.proofs.Options.{none_is}
 use Rattle.fleet.specs.NameMap.{with_bytes, place_of, value_at, with_value_at}
 
 prefix_len-map : {X Y : Type 0} (p : Y → Bool) (f : X → Y) (xs : List X)

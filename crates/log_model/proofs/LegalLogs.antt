@@ -1,17 +1,15 @@
 -- Legal logs and their prefixes.
-use Rattle.std.proofs.Common.{◌≡◌, ℕ, ◌+◌, ◌<◌, ◌≤◌, List, [], ◌∷◌, ◌++◌, length, take, Some, subst, sym, ap, ◌∙◌, arith, ◌⊎◌, inl, inr, length-append, length-take}
+use Rattle.std.proofs.Common.{◌≡◌, ℕ, ◌+◌, ◌<◌, ◌≤◌, List, [], ◌∷◌, ◌++◌, length, take, Some, subst, sym, ap, ◌∙◌, arith, inl, inr, length-append, length-take}
 use Rattle.std.specs.List.{slice_get}
-use Rattle.std.proofs.lemmas.Bool.{cases_eq}
 use Rattle.std.proofs.lemmas.List.{take-take, take-append-le}
-use Rattle.std.proofs.lemmas.Option.{slice_get_within, same_Some}
+use Rattle.std.proofs.lemmas.Option.{slice_get_within}
 use Rattle.std.proofs.Math.Seq.{take-append_seam}
 use Rattle.log_model.specs.declared.entry.Act.{Act}
 use Rattle.log_model.specs.declared.entry.Act.TheVariants.{Write, Snap, Remove, Reset, Enable, Off, On}
 use Rattle.log_model.specs.declared.entry.Entry.{Entry}
 use Rattle.log_model.specs.Legal.{Disks, all_of, only, HasDisk, Legal, MayStand, ActMayStand, capacity_of}
 use Rattle.log_model.specs.Laws.{PrefixesAreLegal, LegalGrows, LegalGrew, LegalForEachDisk}
-use Rattle.basics.proofs.ItemAt.{slice_get-front, slice_get-take}
-use Rattle.basics.proofs.ItemAt.{slice_get-last}
+use Rattle.basics.proofs.ItemAt.{slice_get-take, slice_get-last, slice_get-pushed}
 
 pub length-take-le : {X : Type 0} (n : ℕ) (xs : List X) → length (take n xs) ≤ length xs
 length-take-le n xs = omega (arith, length-take n xs)
@@ -31,27 +29,11 @@ prefixes_are_legal disks log n legal = record {
       (legal.each place e whole);
 }
 
--- the entry at a place of a log with one more is an old one, or the new one at the end
-last_or_old : (log : List Entry) (e x : Entry) (k : ℕ) → slice_get (log ++ e ∷ []) k ≡ Some x
-    → ((k < length log) × (slice_get log k ≡ Some x)) ⊎ ((k ≡ length log) × (e ≡ x))
-last_or_old log e x k read =
-    let inside : k < length log + 1 =
-    omega (arith, slice_get_within (log ++ e ∷ []) k x read, length-append log (e ∷ [])) in
-    elim (cases_eq k (length log)) [
-      | inl same ↦ inr (
-        same,
-        same_Some e x (sym (slice_get-last log e)
-            ∙ ap (slice_get (log ++ e ∷ [])) (sym same) ∙ read),
-      )
-      | inr other ↦ let old : k < length log = omega arith in
-          inl (old, sym (slice_get-front log (e ∷ []) k old) ∙ read)
-    ]
-
 pub legal_grows : LegalGrows
 legal_grows disks log e legal room stands = record {
   short = omega (arith, length-append log (e ∷ []));
   each = λ place x read.
-      elim (last_or_old log e x place read) [
+      elim (slice_get-pushed log e place x read) [
         | inl old ↦
             let le : place ≤ length log = omega (arith, old.0) in
             subst (λ (front : List Entry). MayStand disks front x)

@@ -17,4 +17,3 @@ pub mod Live
 pub mod SnapMarks
 pub mod OffPlace
 pub mod LinkLaws
-pub mod Options

@@ -1,9 +1,10 @@
 -- Calls of a link in a row.
-use Rattle.std.proofs.Common.{◌≡◌, ℕ, ◌≤◌, List, [], ◌∷◌, ◌++◌, length, take, drop, cond, true, Result, Ok, Err, subst, sym, ap, refl, ◌∙◌, arith, append_assoc, length-take}
+use Rattle.std.proofs.Common.{◌≡◌, ℕ, List, [], ◌∷◌, ◌++◌, length, take, drop, cond, true, Result, Ok, Err, subst, sym, ap, refl, ◌∙◌, arith, append_assoc}
 use Rattle.std.specs.List.{filter}
 use Rattle.std.proofs.lemmas.Bool.{eq-eqb}
-use Rattle.std.proofs.lemmas.List.{append-nil, take_all, drop_all, take-take, take-append-le, take-append-drop, drop-append-le}
+use Rattle.std.proofs.lemmas.List.{append-nil, take_all, drop_all, take-append-le, take-append-drop, drop-append-le}
 use Rattle.std.proofs.lemmas.List.Elements.{filter-append}
+use Rattle.basics.proofs.Prefix.{prefix-fits, prefix-trans}
 use Rattle.log_model.specs.declared.entry.Act.{Act}
 use Rattle.log_model.specs.declared.entry.Entry.{Entry}
 use Rattle.log_model.specs.declared.refusals.LinkRefused.{LinkRefused}
@@ -12,15 +13,6 @@ use Rattle.log_model.specs.Link.{LinkState, IsCall, OnlyReads, AddsAct, FollowsF
 use Rattle.log_model.specs.Laws.{CallsFollow, ReadsArePart, CallsAlone}
 
 -- ---- a list that begins with another
-
-pub prefix-fits : (xs ys : List Entry) → take (length xs) ys ≡ xs → length xs ≤ length ys
-prefix-fits xs ys h = omega (arith, ap length h, length-take (length xs) ys)
-
-pub prefix-join : (xs ys zs : List Entry) → take (length xs) ys ≡ xs → take (length ys) zs ≡ ys
-    → take (length xs) zs ≡ xs
-prefix-join xs ys zs first second =
-    sym (take-take (length xs) (length ys) zs (prefix-fits xs ys first))
-    ∙ ap (take (length xs)) second ∙ first
 
 -- what is new behind the first is what is new behind it up to the second, and what is new behind
 -- that
@@ -102,7 +94,7 @@ in-a-row a b c first second =
       caller = second.caller ∙ first.caller;
       turn = second.turn ∙ first.turn;
       unshared = second.unshared ∙ first.unshared;
-      seen = prefix-join a.seen b.seen c.seen first.seen second.seen;
+      seen = prefix-trans a.seen b.seen c.seen first.seen second.seen;
       own = second.own ∙ ap (λ (who : ℕ). b.own ++ filter (is_by who) (drop (length b.seen) c.seen))
           first.caller
           ∙ ap (λ (xs : List Entry). xs ++ filter (is_by a.caller) (drop (length b.seen) c.seen))
@@ -140,7 +132,7 @@ reads_are_part a b c log added first second =
       new_is = second.new_is ∙ ap (λ (x : LinkState). after_call x log added) first.new_is
           ∙ ap (λ (xs : List Entry). record a { seen = log ++ added; own = xs ++ added })
           (append-nil a.own);
-      goes_on = prefix-join a.seen b.seen log first.goes_on second.goes_on;
+      goes_on = prefix-trans a.seen b.seen log first.goes_on second.goes_on;
       others = ap (filter (is_by a.caller))
           (new-joins a.seen b.seen log first.goes_on second.goes_on)
           ∙ filter-append (is_by a.caller) (drop (length a.seen) b.seen) (drop (length b.seen) log)

@@ -27,7 +27,7 @@ use Rattle.source_disk.specs.Told.{contents_told, allocated_told}
 use Rattle.source_disk.specs.Laws.{HoldsTheLog, NextIsFree}
 use Rattle.source_disk.proofs.Events.{present_told, live_told, frozen_told, areas_told}
 use Rattle.source_disk.proofs.Steps.{epoch_told}
-use Rattle.log_model.proofs.Options.{none_is}
+use Rattle.basics.proofs.Options.{none_is}
 
 pub live_as : (d : SourceDiskState) (log : List Entry) (s : ℕ) → StandsFor d log
     → has_snapshot s d ≡ log_model.is_live s log

@@ -10,7 +10,7 @@ use Rattle.log_model.specs.declared.entry.Owner.{Owner}
 use Rattle.log_model.specs.declared.entry.Act.{Act}
 use Rattle.log_model.specs.declared.entry.Act.TheVariants.{Write, Snap, Remove, Reset, Enable}
 use Rattle.log_model.specs.declared.entry.Entry.{Entry}
-use Rattle.log_model.proofs.Options.{none_is}
+use Rattle.basics.proofs.Options.{none_is}
 use Rattle.snapshot_chain.specs.Chain.{ChainState}
 use Rattle.snapshot_chain.specs.History as chain
 use Rattle.snapshot_chain.proofs.Histories as chains

@@ -3,7 +3,7 @@ use Rattle.std.proofs.Common.{◌≡◌, true, false, is_some, None, refl, ap, �
 use Rattle.fleet.specs.NameMap.{place_of}
 use Rattle.fleet.proofs.Kept.{IsKept-host}
 use Rattle.fleet.proofs.Refused.{host_taken, host_full, host_fits, none_stands}
-use Rattle.log_model.proofs.Options.{none_is}
+use Rattle.basics.proofs.Options.{none_is}
 use Rattle.fleet.proofs.fleet.Fleet.add_host.Goals as goal
 
 pub returns-then-is_some-clause-refused : goal.returns-then-is_some-clause-refused
