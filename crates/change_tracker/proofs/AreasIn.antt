@@ -2,19 +2,16 @@
 use Rattle.std.proofs.Common.{◌≡◌, ℕ, ◌-◌, ◌*◌, ◌/◌, ◌^◌, ◌<◌, ◌≤◌, max, List, ◌++◌, length, get_or, true, false, ◌&&◌, Option, MatchOption, arith, inl, inr, sym, ap, ◌∙◌, refl, Some, None, ◌⊎◌}
 use Rattle.std.specs.Int.{div_ceil}
 use Rattle.std.proofs.lemmas.Bool.{cases_lt, le-leb, false≢true}
-use Rattle.sector_model.specs.Run.{block_count, in_blocks, in_runs, end_of, AreSpaced, next_run}
+use Rattle.sector_model.specs.Run.{block_count, in_runs, end_of, next_run}
 use Rattle.sector_model.specs.Page.{areas_from, page_from}
 use Rattle.sector_model.specs.declared.run.Run.{Run}
-use Rattle.sector_model.proofs.Spacing.{SpacedWithin, runs_of-spaced}
-use Rattle.sector_model.proofs.NextRun.{Next, next_is, next_some, next_none, true_false, areas_from-none}
+use Rattle.sector_model.proofs.Spacing.{areas_of-spaced}
+use Rattle.sector_model.proofs.Among.{in_areas, past_areas}
+use Rattle.sector_model.proofs.NextRun.{next_area, next_some, next_none, true_false, areas_from-none}
 use Rattle.sector_model.proofs.PageMade.{full_page, last_page}
 use Rattle.sector_model.proofs.PageSectors.{areas_from_are_exact}
 use Rattle.change_tracker.specs.declared.word.Window.{Window}
 use Rattle.change_tracker.specs.Touches.{TouchState, is_touched_in, blocks_touched_in, areas_in, IsFirst}
-use Rattle.sector_model.proofs.Areas.{in_areas, past_areas}
-
-pub spaced : (c : ℕ) (t : TouchState) (w : Window) → c < 2 ^ 64 → AreSpaced (areas_in c t w)
-spaced c t w fits = (runs_of-spaced (in_blocks (blocks_touched_in c t w)) c fits).spaced
 
 pub count : (c blocks : ℕ) → blocks ≡ div_ceil c 128 → blocks ≡ block_count c
 count c blocks is = omega (arith, is)
@@ -22,17 +19,18 @@ count c blocks is = omega (arith, is)
 pub none_at_end : (c at : ℕ) (t : TouchState) (w : Window) → c < 2 ^ 64 → at ≡ c
     → next_run at (areas_in c t w) ≡ None
 none_at_end c at t w fits is =
-    next_none 0 (areas_in c t w) at (spaced c t w fits)
-    (λ s from. past_areas c s (is_touched_in t w) (omega (arith, is, from)))
+    next_none 0 (areas_in c t w) at (areas_of-spaced c (blocks_touched_in c t w) fits).spaced
+    (λ s from. past_areas c s (blocks_touched_in c t w) (omega (arith, is, from)))
 
 pub none_from : (c at blocks : ℕ) (t : TouchState) (w : Window) → c < 2 ^ 64
     → blocks ≡ block_count c → ((b : ℕ) → at / 128 ≤ b → b < blocks → is_touched_in t w b ≡ false)
     → next_run at (areas_in c t w) ≡ None
 none_from c at blocks t w fits is none =
-    next_none 0 (areas_in c t w) at (spaced c t w fits) (λ s from. elim (cases_lt s c) [
+    next_none 0 (areas_in c t w) at (areas_of-spaced c (blocks_touched_in c t w) fits).spaced
+    (λ s from. elim (cases_lt s c) [
       | inl less ↦ in_areas c s (is_touched_in t w) less
           ∙ none (s / 128) (omega (arith, from)) (omega (arith, less, is))
-      | inr past ↦ past_areas c s (is_touched_in t w) past
+      | inr past ↦ past_areas c s (blocks_touched_in c t w) past
     ])
 
 pub block_found : (c at blocks : ℕ) (t : TouchState) (w : Window) (o : Option ℕ) → c < 2 ^ 64
@@ -67,7 +65,9 @@ found c t w at block blocks behind f e fits start count is first inside from wit
           (ap (is_touched_in t w) (omega (arith, same, from))
           ∙ free (omega (arith, same, from, inside))))
     ]) in
-    sym (next_some 0 (areas_in c t w) at f e (spaced c t w fits) (omega (arith, is)) long.0
+    sym (next_some 0 (areas_in c t w) at f e
+    (areas_of-spaced c (blocks_touched_in c t w) fits).spaced
+    (omega (arith, is)) long.0
     (λ s from_at less. in_areas c s (is_touched_in t w) (omega (arith, less, long.0, ends))
     ∙ first.earlier (s / 128) (omega (arith, from_at)) (omega (arith, less, is, from_at)))
     (λ s from_f less. in_areas c s (is_touched_in t w) (omega (arith, less, ends))
@@ -82,17 +82,10 @@ found c t w at block blocks behind f e fits start count is first inside from wit
         | inl less ↦ in_areas c e (is_touched_in t w) less
             ∙ ap (is_touched_in t w) (omega (arith, h.1))
             ∙ free h.0
-        | inr past ↦ past_areas c e (is_touched_in t w) past
+        | inr past ↦ past_areas c e (blocks_touched_in c t w) past
       ]
-      | inr h ↦ past_areas c e (is_touched_in t w) (omega (arith, h.1))
+      | inr h ↦ past_areas c e (blocks_touched_in c t w) (omega (arith, h.1))
     ]))
-
-pub next_facts : (top at : ℕ) (t : TouchState) (w : Window) (r : Run) → top < 2 ^ 64
-    → next_run at (areas_in top t w) ≡ Some r → Next (areas_in top t w) at top r
-next_facts top at t w r fits next =
-    let k : SpacedWithin 0 top (areas_in top t w) =
-    runs_of-spaced (in_blocks (blocks_touched_in top t w)) top fits in
-    next_is 0 top (areas_in top t w) at r k.spaced k.ends next
 
 -- a block that was touched behind a sector is in an area from there on
 has_next : (c at b : ℕ) (t : TouchState) (w : Window) → at < c → 128 * b < c
@@ -123,7 +116,7 @@ pub full_then : (c start at b : ℕ) (t : TouchState) (w : Window) (told : List 
     ≡ page_from c (areas_in c t w) start
 full_then c start at b t w told fits first below inside joined long ended =
     let r = some_next c at b t w (next_run at (areas_in c t w)) inside below first refl in
-    let facts = next_facts c at t w r.0 fits r.1 in
+    let facts = next_area c at (blocks_touched_in c t w) r.0 fits r.1 in
     full_page c start at (areas_in c t w) told (areas_from (end_of r.0) (areas_in c t w)) r.0
     (joined ∙ ap (λ (rest : List Run). told ++ rest) facts.areas) long ended
 

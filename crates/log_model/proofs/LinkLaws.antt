@@ -1,11 +1,10 @@
 -- Calls of a link in a row.
-use Rattle.std.proofs.Common.{◌≡◌, ℕ, ◌≤◌, List, [], ◌∷◌, ◌++◌, length, take, drop, cond, true, Result, Ok, Err, subst, sym, ap, refl, ◌∙◌, arith, append_assoc, length-take}
+use Rattle.std.proofs.Common.{◌≡◌, ℕ, List, [], ◌∷◌, ◌++◌, length, take, drop, cond, true, Result, Ok, Err, subst, sym, ap, refl, ◌∙◌, arith, append_assoc}
 use Rattle.std.specs.List.{filter}
 use Rattle.std.proofs.lemmas.Bool.{eq-eqb}
-use Rattle.std.proofs.lemmas.List.{append-nil, take_all, drop_all, take-take, take-append-le, take-append-drop, drop-append-le}
+use Rattle.std.proofs.lemmas.List.{append-nil, take_all, drop_all, take-append-le, take-append-drop, drop-append-le}
 use Rattle.std.proofs.lemmas.List.Elements.{filter-append}
 use Rattle.basics.proofs.Prefix.{prefix-fits, prefix-trans}
-use Rattle.basics.specs.Prefix.{IsPrefix}
 use Rattle.log_model.specs.declared.entry.Act.{Act}
 use Rattle.log_model.specs.declared.entry.Entry.{Entry}
 use Rattle.log_model.specs.declared.refusals.LinkRefused.{LinkRefused}
@@ -17,7 +16,7 @@ use Rattle.log_model.specs.Laws.{CallsFollow, ReadsArePart, CallsAlone}
 
 -- what is new behind the first is what is new behind it up to the second, and what is new behind
 -- that
-pub new-joins : (xs ys zs : List Entry) → IsPrefix xs ys → IsPrefix ys zs
+pub new-joins : (xs ys zs : List Entry) → take (length xs) ys ≡ xs → take (length ys) zs ≡ ys
     → drop (length xs) zs ≡ drop (length xs) ys ++ drop (length ys) zs
 new-joins xs ys zs first second =
     ap (drop (length xs)) (sym (take-append-drop (length ys) zs)

@@ -1,15 +1,16 @@
 -- The blocks of a disk that pass a test, one run more of those that were met, and sets of blocks.
-use Rattle.std.proofs.Common.{◌≡◌, ℕ, ◌<◌, ◌+◌, List, [], ◌∷◌, Bool, true, false, ◌&&◌, ◌||◌, nat_eq, nat_cmp, eqb, sym, ap, refl, ◌∙◌, arith, inl, inr}
+use Rattle.std.proofs.Common.{◌≡◌, ℕ, ◌<◌, ◌≤◌, ◌/◌, List, [], ◌∷◌, Bool, false, ◌&&◌, ◌||◌, nat_eq, nat_cmp, eqb, sym, ap, refl, ◌∙◌, arith, inl, inr}
 use Rattle.std.specs.List.{filter, list_any, range_with_len}
 use Rattle.std.proofs.Math.Bool.{and-true}
 use Rattle.std.specs.BTreeMap.{is_at}
 use Rattle.std.specs.Cmp.{nat_cmp_total}
-use Rattle.std.proofs.lemmas.Bool.{cases_eq, eqb-true, eq-eqb, ne_eqb, false_from_ne_true}
+use Rattle.std.proofs.lemmas.Bool.{cases_eq, lt-ltb, le-ltb, eqb-true, eq-eqb, ne_eqb, false_from_ne_true}
 use Rattle.std.proofs.lemmas.Cmp.{eq_by_cmp_equiv}
 use Rattle.std.proofs.lemmas.Map.Lookups.{exact_unsigned}
 use Rattle.std.proofs.lemmas.Map.Views.{any-filter_same, tells_apart}
-use Rattle.sector_model.specs.Run.{blocks_where, block_count, meets, with_met}
+use Rattle.sector_model.specs.Run.{blocks_where, block_count, meets, with_met, in_blocks, in_runs, areas_of}
 use Rattle.sector_model.specs.declared.run.Run.{Run}
+use Rattle.sector_model.proofs.Exact.{in_runs_of}
 use Rattle.sector_model.proofs.Touched.{any_below, filter-range_same}
 
 -- whether a number of a range is among those that pass a test
@@ -24,6 +25,20 @@ among_range p b n less =
 pub among : (c : ℕ) (test : ℕ → Bool) (b : ℕ) → b < block_count c
     → list_any (nat_eq b) (blocks_where c test) ≡ test b
 among c test b less = among_range test b (block_count c) less
+
+-- a sector is in the areas of blocks that pass a test exactly where its block does
+pub in_areas : (c s : ℕ) (test : ℕ → Bool) → s < c
+    → in_runs (areas_of c (blocks_where c test)) s ≡ test (s / 128)
+in_areas c s test less =
+    in_runs_of (in_blocks (blocks_where c test)) c s
+    ∙ ap (λ x. x && in_blocks (blocks_where c test) s) (lt-ltb s c less)
+    ∙ among c test (s / 128) (omega arith)
+
+-- no areas have a sector past the capacity
+pub past_areas : (c s : ℕ) (blocks : List ℕ) → c ≤ s → in_runs (areas_of c blocks) s ≡ false
+past_areas c s blocks past =
+    in_runs_of (in_blocks blocks) c s
+    ∙ ap (λ x. x && in_blocks blocks s) (le-ltb s c past)
 
 -- tests that agree on the blocks of the disk keep the same blocks
 pub same_blocks : (c : ℕ) (p q : ℕ → Bool) → ((b : ℕ) → b < block_count c → p b ≡ q b)

@@ -16,4 +16,3 @@ pub mod Volumes
 pub mod NextAt
 pub mod Joined
 pub mod LooseRuns
-pub mod Areas

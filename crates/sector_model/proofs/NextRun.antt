@@ -1,14 +1,14 @@
 -- The next run of a list of runs: where it begins and ends, found sector by sector, and what it
 -- leaves of the areas.
-use Rattle.std.proofs.Common.{◌≡◌, ℕ, ◌+◌, ◌-◌, ◌<◌, ◌≤◌, List, [], ◌∷◌, Bool, true, false, cond, ltb, Option, Some, None, MatchOption, refl, sym, ap, subst, ◌∙◌, arith, ◌⊎◌, inl, inr}
+use Rattle.std.proofs.Common.{◌≡◌, ℕ, ◌+◌, ◌-◌, ◌^◌, ◌<◌, ◌≤◌, List, [], ◌∷◌, Bool, true, false, cond, ltb, Option, Some, None, MatchOption, refl, sym, ap, subst, ◌∙◌, arith, ◌⊎◌, inl, inr}
 use Rattle.std.specs.List.{AllByRecursion, All}
 use Rattle.std.proofs.lemmas.Bool.{lt-ltb, le-ltb, cases_lt, ltb-true, ltb-false, false≢true}
 use Rattle.std.proofs.lemmas.Option.{none-some, same_Some}
 use Rattle.std.proofs.lemmas.List.Elements.{recursion_from_All}
-use Rattle.sector_model.specs.Run.{end_of, from_sector, next_run, in_runs, AreSpacedFrom, AreSpaced, NoneFrom, IsNext}
+use Rattle.sector_model.specs.Run.{end_of, from_sector, next_run, in_runs, areas_of, AreSpacedFrom, AreSpaced, NoneFrom, IsNext}
 use Rattle.sector_model.specs.Page.{areas_from}
 use Rattle.sector_model.specs.declared.run.Run.{Run}
-use Rattle.sector_model.proofs.Spacing.{none_before, none_in_gap, in_first, past_first}
+use Rattle.sector_model.proofs.Spacing.{SpacedWithin, areas_of-spaced, none_before, none_in_gap, in_first, past_first}
 use Rattle.sector_model.proofs.PageLaws.{clip_end, kept, dropped, areas_from-later}
 
 pub run_is : (a b m n : ℕ) → a ≡ b → m ≡ n
@@ -179,6 +179,13 @@ next_is m c (x ∷ rs) at r spaced ends next =
           (next_is (end_of x + 1) c rs at r spaced.2 ends.1 (sym (next_dropped x rs at over)
           ∙ next))
     ]
+
+-- the next of the areas of blocks
+pub next_area : (c at : ℕ) (blocks : List ℕ) (r : Run) → c < 2 ^ 64
+    → next_run at (areas_of c blocks) ≡ Some r → Next (areas_of c blocks) at c r
+next_area c at blocks r fits next =
+    let k : SpacedWithin 0 c (areas_of c blocks) = areas_of-spaced c blocks fits in
+    next_is 0 c (areas_of c blocks) at r k.spaced k.ends next
 
 none_next : (rs : List Run) (at : ℕ) → next_run at rs ≡ None
     → NoneFrom rs at × (areas_from at rs ≡ [])

@@ -3,7 +3,7 @@ use Rattle.std.proofs.Common.{◌≡◌, ℕ, zero, suc, ◌+◌, ◌^◌, ◌<�
 use Rattle.std.specs.List.{AllByRecursion, sum_by, find, slice_get}
 use Rattle.std.proofs.lemmas.Bool.{eqb-true, eqb-false, le-ltb, lt-ltb, le-leb, lt-leb}
 use Rattle.std.proofs.lemmas.List.Sums.{sum_by-cons}
-use Rattle.sector_model.specs.Run.{end_of, in_runs, AreSpacedFrom, AreSpaced, with_sector, runs_of}
+use Rattle.sector_model.specs.Run.{end_of, in_runs, AreSpacedFrom, AreSpaced, with_sector, runs_of, areas_of, in_blocks}
 use Rattle.sector_model.specs.declared.run.Run.{Run}
 
 EndBy : ℕ → List Run → Type 0
@@ -61,6 +61,11 @@ unfolding runs_of
 runs_of-spaced test zero fits = record { spaced = omega arith; ends = tt }
 runs_of-spaced test (suc n) fits =
     spaced_step (test n) (runs_of test n) n (runs_of-spaced test n (omega arith)) fits
+
+-- so are the areas of blocks
+pub areas_of-spaced : (c : ℕ) (blocks : List ℕ) → c < 2 ^ 64
+    → SpacedWithin 0 c (areas_of c blocks)
+areas_of-spaced c blocks fits = runs_of-spaced (in_blocks blocks) c fits
 
 -- ---- sums
 

@@ -1,31 +1,24 @@
-use Rattle.std.proofs.Common.{◌≡◌, ℕ, ◌-◌, ◌<◌, ◌^◌, List, [], ◌∷◌, ◌++◌, length, get_or, Some, append_assoc, length-append, sym, ap, ◌∙◌, arith}
-use Rattle.sector_model.specs.Run.{end_of, in_blocks, next_run, touched_blocks}
+use Rattle.std.proofs.Common.{◌≡◌, ◌-◌, List, [], ◌∷◌, ◌++◌, length, get_or, append_assoc, length-append, sym, ap, ◌∙◌, arith}
+use Rattle.sector_model.specs.Run.{end_of, touched_blocks}
 use Rattle.sector_model.specs.Page.{PageContents, areas_from}
 use Rattle.sector_model.specs.declared.run.Run.{Run}
-use Rattle.sector_model.proofs.Spacing.{SpacedWithin, runs_of-spaced}
-use Rattle.log_model.specs.declared.entry.Entry.{Entry}
 use Rattle.log_model.specs.Entry.{writes_of}
-use Rattle.sector_model.proofs.NextRun.{Next, next_is, areas_from-none}
+use Rattle.sector_model.proofs.NextRun.{next_area, areas_from-none}
 use Rattle.log_model.proofs.AreaLemmas.{touched_runs}
 use Rattle.sector_model.proofs.PageMade.{one_area_more, last_pushed, full_page, last_page}
 use Rattle.log_model.proofs.query.answer_page.Goals as goal
 
-next_facts : (top d at : ℕ) (log : List Entry) (r : Run) → top < 2 ^ 64
-    → next_run at (touched_runs top d log) ≡ Some r → Next (touched_runs top d log) at top r
-next_facts top d at log r fits next =
-    let k : SpacedWithin 0 top (touched_runs top d log) =
-    runs_of-spaced (in_blocks (touched_blocks top (writes_of d log))) top fits in
-    next_is 0 top (touched_runs top d log) at r k.spaced k.ends next
-
 pub overflow_add-at : goal.overflow_add-at
 overflow_add-at c =
-    let facts = next_facts c.args.capacity c.args.disk c.loop-run.at c.args.log.now c.in-Some.run'
+    let facts = next_area c.args.capacity c.loop-run.at
+    (touched_blocks c.args.capacity (writes_of c.args.disk c.args.log.now)) c.in-Some.run'
     (omega arith) (sym c.in-Some.ensures) in
     omega (arith, facts.is.inside)
 
 pub loop-run-smaller : goal.loop-run-smaller
 loop-run-smaller c =
-    let facts = next_facts c.args.capacity c.args.disk c.loop-run.at c.args.log.now c.in-Some.run'
+    let facts = next_area c.args.capacity c.loop-run.at
+    (touched_blocks c.args.capacity (writes_of c.args.disk c.args.log.now)) c.in-Some.run'
     (omega arith) (sym c.in-Some.ensures) in
     omega (arith, facts.is.inside, facts.is.from, facts.is.some)
 
@@ -34,7 +27,8 @@ loop-run-preserved c =
     let r : Run = c.in-Some.run' in
     let areas : List Run = touched_runs c.args.capacity c.args.disk c.args.log.now in
     let told : List Run = c.loop-run.page.areas in
-    let facts = next_facts c.args.capacity c.args.disk c.loop-run.at c.args.log.now r (omega arith)
+    let facts = next_area c.args.capacity c.loop-run.at
+    (touched_blocks c.args.capacity (writes_of c.args.disk c.args.log.now)) r (omega arith)
     (sym c.in-Some.ensures) in
     let pushed : c.push.new.self.areas ≡ told ++ r ∷ [] =
     ap (λ (p : PageContents). p.areas) c.push.ensures in
@@ -62,7 +56,8 @@ returns-then-areas-eq-PAGE_AREAS c =
     let r : Run = c.in-Some.run' in
     let areas : List Run = touched_runs c.args.capacity c.args.disk c.args.log.now in
     let told : List Run = c.loop-run.page.areas in
-    let facts = next_facts c.args.capacity c.args.disk c.loop-run.at c.args.log.now r (omega arith)
+    let facts = next_area c.args.capacity c.loop-run.at
+    (touched_blocks c.args.capacity (writes_of c.args.disk c.args.log.now)) r (omega arith)
     (sym c.in-Some.ensures) in
     let long : length told ≡ 1024 =
     sym (ap length c.areas.ensures) ∙ c.if-areas-eq-PAGE_AREAS.true in

@@ -1,22 +1,25 @@
-use Rattle.std.proofs.Common.{◌≡◌, ℕ, ◌-◌, List, [], ◌∷◌, ◌++◌, length, get_or, append_assoc, length-append, sym, ap, ◌∙◌, arith}
+use Rattle.std.proofs.Common.{◌≡◌, ◌-◌, List, [], ◌∷◌, ◌++◌, length, get_or, append_assoc, length-append, sym, ap, ◌∙◌, arith}
 use Rattle.sector_model.specs.Run.{end_of}
 use Rattle.sector_model.specs.Page.{PageContents, areas_from}
 use Rattle.sector_model.specs.declared.run.Run.{Run}
 use Rattle.sector_model.proofs.PageMade.{one_area_more, last_pushed}
-use Rattle.change_tracker.specs.Touches.{areas_in}
-use Rattle.change_tracker.proofs.AreasIn.{next_facts, full_then, full_last}
+use Rattle.sector_model.proofs.NextRun.{next_area}
+use Rattle.change_tracker.specs.Touches.{areas_in, blocks_touched_in}
+use Rattle.change_tracker.proofs.AreasIn.{full_then, full_last}
 use Rattle.change_tracker.proofs.touches.Touches.fill_page.Goals as goal
 use Rattle.change_tracker.proofs.touches.Touches.fill_page.Goals.{in-Some-next_block, in-None}
 
 pub overflow_add-at : goal.overflow_add-at
 overflow_add-at c =
-    let facts = next_facts c.args.capacity c.loop-seen.at c.args.self.now c.args.window
+    let facts = next_area c.args.capacity c.loop-seen.at
+    (blocks_touched_in c.args.capacity c.args.self.now c.args.window)
     c.in-Some.run' (omega arith) (sym c.in-Some.ensures.found) in
     omega (arith, facts.is.inside)
 
 pub loop-seen-smaller : goal.loop-seen-smaller
 loop-seen-smaller c =
-    let facts = next_facts c.args.capacity c.loop-seen.at c.args.self.now c.args.window
+    let facts = next_area c.args.capacity c.loop-seen.at
+    (blocks_touched_in c.args.capacity c.args.self.now c.args.window)
     c.in-Some.run' (omega arith) (sym c.in-Some.ensures.found) in
     omega (arith, facts.is.inside, facts.is.from, facts.is.some)
 
@@ -25,7 +28,8 @@ loop-seen-preserved c =
     let r : Run = c.in-Some.run' in
     let areas : List Run = areas_in c.args.capacity c.args.self.now c.args.window in
     let told : List Run = c.loop-seen.page.areas in
-    let facts = next_facts c.args.capacity c.loop-seen.at c.args.self.now c.args.window r
+    let facts = next_area c.args.capacity c.loop-seen.at
+    (blocks_touched_in c.args.capacity c.args.self.now c.args.window) r
     (omega arith) (sym c.in-Some.ensures.found) in
     let pushed : c.push.new.self.areas ≡ told ++ r ∷ [] =
     ap (λ (p : PageContents). p.areas) c.push.ensures in

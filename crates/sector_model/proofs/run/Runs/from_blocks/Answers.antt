@@ -1,7 +1,7 @@
 use Rattle.std.proofs.Common.{◌*◌, ◌<◌, take, get_or, refl, subst, sym, ap, ◌∙◌, arith}
-use Rattle.sector_model.specs.Run.{with_run, areas_of, in_blocks, AreSpaced}
+use Rattle.sector_model.specs.Run.{with_run, areas_of, AreSpaced}
 use Rattle.sector_model.proofs.RunsOf.{areas-none, areas-more}
-use Rattle.sector_model.proofs.Spacing.{runs_of-spaced}
+use Rattle.sector_model.proofs.Spacing.{areas_of-spaced}
 use Rattle.sector_model.proofs.run.Runs.from_blocks.Goals as goal
 
 pub loop-block-init : goal.loop-block-init
@@ -21,5 +21,5 @@ loop-block-preserved c =
 pub invariant_of-result : goal.invariant_of-result
 invariant_of-result c =
     subst AreSpaced (sym c.loop-block.invariant)
-    (runs_of-spaced (in_blocks (take c.loop-block.block-index c.args.blocks.now))
-    c.args.capacity (omega arith)).spaced
+    (areas_of-spaced c.args.capacity (take c.loop-block.block-index c.args.blocks.now)
+    (omega arith)).spaced
