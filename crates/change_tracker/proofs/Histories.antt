@@ -517,9 +517,9 @@ old_changes : (id : ℕ) (old : TrackerState) (h : List TrackStep) (place : ℕ)
     → old.free_from ≤ id → StandsFor old h → slice_get old.snapshots place ≡ Some k
     → IsOfEpoch old k
     → TellsChanges (after_freezing id old) (h ++ Frozen id ∷ []) place k
-old_changes id old h place k le stands was.1 of =
+old_changes id old h place k le stands was of =
     let tells = stands.changes place k was of in
-    let inside = (stands.frozen place k was.1).within in
+    let inside = (stands.frozen place k was).within in
     let less = slice_get_within old.snapshots place k was in
     let at = place_new id h (Frozen id) (fresh_id id old h stands le) (eq-eqb id id refl) in
     let long : length (old.snapshots ++ frozen_snapshot id old ∷ []) ≡ length old.snapshots + 1 =
