@@ -29,6 +29,14 @@ fn unsigned(numeral: &Numeral<'_>) -> Option<u64>
 pub(crate) fn is_number(text: &str) -> bool
     ensures { result ≡ is_some (number_of text.now) }
 {
+    unsigned_of(text).is_some() || is_any_number(text)
+}
+
+// The same. It is apart, since it takes several times as long.
+#[inline(never)]
+fn is_any_number(text: &str) -> bool
+    ensures { result ≡ is_some (number_of text.now) }
+{
     let bytes = text.as_bytes();
     if has_minus(bytes) {
         is_negative(&Numeral::scan(&bytes[1..]))

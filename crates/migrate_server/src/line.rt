@@ -7,7 +7,7 @@ ghost use Rattle.migrate_server.specs.LineBuffer.{Holds};
 use crate::line_buffer::LineBuffer;
 use answers::Refusal;
 use basics::NoMemory;
-use cmd_json::{CmdRefused, Command, read_command};
+use cmd_json::{CmdRefused, Command, CommandReader};
 use std::alloc::Global;
 
 /// The most bytes of a line, without its LF.
@@ -37,17 +37,21 @@ impl Line {
 }
 
 /// Says what a line is. It answers only want of memory.
-pub(crate) fn meaning_of(alloc: Global, line: &LineBuffer) -> Result<Line, NoMemory>
+pub(crate) fn meaning_of(
+    alloc: Global,
+    commands: &mut CommandReader,
+    line: &LineBuffer,
+) -> Result<Line, NoMemory>
     ensures means { IfOk result (λ what. (text : List ℕ) → Holds line.now text → Means text what) }
     ensures known { IfOk result AsksInRange }
 {
     if line.is_long() {
         return Ok(Line::Refuses(Refusal::Long));
     }
-    read_line(alloc, line.as_slice())
+    read_line(alloc, commands, line.as_slice())
 }
 
-fn read_line(alloc: Global, line: &[u8]) -> Result<Line, NoMemory>
+fn read_line(alloc: Global, commands: &mut CommandReader, line: &[u8]) -> Result<Line, NoMemory>
     requires { length line.now ≤ LINE_LIMIT }
     ensures means { IfOk result (Means line.now) }
     ensures known { IfOk result AsksInRange }
@@ -55,7 +59,7 @@ fn read_line(alloc: Global, line: &[u8]) -> Result<Line, NoMemory>
     if is_blank(line) {
         return Ok(Line::Blank);
     }
-    match read_command(alloc, line) {
+    match commands.read(alloc, line) {
         Ok(command) => Ok(Line::Asks(command)),
         Err(CmdRefused::Json) => Ok(Line::Refuses(Refusal::Json)),
         Err(CmdRefused::Command) => Ok(Line::Refuses(Refusal::Command)),

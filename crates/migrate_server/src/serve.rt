@@ -23,7 +23,7 @@ use crate::line_buffer::LineBuffer;
 use crate::reader::{LineReader, NoLine};
 use answers::{Answer, Refusal, line_for};
 use basics::{Name, NoMemory, Text};
-use cmd_json::Command;
+use cmd_json::{Command, CommandReader};
 use ctl_state::Controller;
 use edge_traits::{Disk, Sink, Source};
 use fleet::{Fleet, fleet_is_sound};
@@ -145,11 +145,12 @@ pub(crate) fn serve<S: Source, K: Sink, D: Disk, T: VolumeStore>(
         return Err(Stop::NoMemory);
     };
     let mut line = LineBuffer::new(alloc);
+    let mut commands = CommandReader::new(alloc);
     loop {
         if !reader.next(&mut line, input)? {
             return Ok(());
         }
-        let quits = serve_line(alloc, &line, out, fleet, controller)?;
+        let quits = serve_line(alloc, &mut commands, &line, out, fleet, controller)?;
         if quits {
             return Ok(());
         }
@@ -160,6 +161,7 @@ pub(crate) fn serve<S: Source, K: Sink, D: Disk, T: VolumeStore>(
 /// kept before its reply is put.
 fn serve_line<K: Sink, D: Disk, T: VolumeStore>(
     alloc: Global,
+    commands: &mut CommandReader,
     line: &LineBuffer,
     out: &mut K,
     fleet: &mut Fleet,
@@ -182,7 +184,7 @@ fn serve_line<K: Sink, D: Disk, T: VolumeStore>(
         (server_of fleet.old controller.old.journal (T.state controller.old.store))
         (server_of fleet.new controller.new.journal (T.state controller.new.store))) }
 {
-    let what = meaning_of(alloc, line)?;
+    let what = meaning_of(alloc, commands, line)?;
     let quits = what.quits();
     if let Some(answer) = answer_to(alloc, what, fleet, controller)? {
         put_answer(alloc, answer, out)?;

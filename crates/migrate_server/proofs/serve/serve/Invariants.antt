@@ -5,8 +5,8 @@ use Rattle.migrate_server.specs.World.{desk_of, server_of}
 use Rattle.migrate_server.proofs.Serving.{Progress}
 use Rattle.migrate_server.proofs.serve.serve.Given as goal
 
-abbrev pub invariant-loop-line : goal.invariant-loop-line
-invariant-loop-line g l = record {
+abbrev pub invariant-loop-commands : goal.invariant-loop-commands
+invariant-loop-commands g l = record {
   progress : Progress
       (desk_of (g.S.Source.state l.fn.input) (g.K.Sink.state l.fn.out)
       (server_of l.fn.fleet l.fn.controller.journal
@@ -18,5 +18,5 @@ invariant-loop-line g l = record {
   taken : AllWouldBeTaken l.fleet l.controller.journal;
 }
 
-abbrev pub decreases-loop-line : goal.decreases-loop-line
-decreases-loop-line g l = budget l.reader
+abbrev pub decreases-loop-commands : goal.decreases-loop-commands
+decreases-loop-commands g l = budget l.reader

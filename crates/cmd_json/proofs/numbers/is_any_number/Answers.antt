@@ -3,7 +3,7 @@ use Rattle.std.specs.Prelude.{is_some}
 use Rattle.fast_float.specs.Text.{scan}
 use Rattle.serde_json.specs.Read.{number_of, number_from}
 use Rattle.cmd_json.proofs.NumberLemmas.{number_of-minus, number_of-plain}
-use Rattle.cmd_json.proofs.numbers.is_number.Goals as goal
+use Rattle.cmd_json.proofs.numbers.is_any_number.Goals as goal
 
 pub returns-then-has_minus : goal.returns-then-has_minus
 returns-then-has_minus c =
