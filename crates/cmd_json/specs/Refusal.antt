@@ -1,8 +1,6 @@
 -- The numbers and texts of the refusals.
 use Rattle.std.specs.Prelude.{ℕ, List, ◌++◌, Option, Some, None, codes}
 use Rattle.cmd_json.specs.declared.refusal.CmdRefused.{CmdRefused}
-use Rattle.json.specs.declared.error.Error.{Error}
-use Rattle.json.specs.declared.error.Error.TheVariants.{Invalid, OutOfMemory, TooLong, DuplicateKey}
 use Rattle.cmd_json.specs.declared.refusal.CmdRefused.TheVariants.{Json, Command, Field, Number, NoMemory}
 
 -- want of memory has no number
@@ -19,10 +17,3 @@ refusal_text Command = codes "there is no such command"
 refusal_text (Field name) = codes "missing, wrong or unknown: " ++ name
 refusal_text (Number name) = codes "not in its range: " ++ name
 refusal_text NoMemory = codes "memory ran out"
-
--- a text that the reader of JSON refuses isn't JSON, unless memory ran out
-abbrev pub reader_refusal : Error → CmdRefused
-reader_refusal Invalid = Json
-reader_refusal OutOfMemory = NoMemory
-reader_refusal TooLong = Json
-reader_refusal DuplicateKey = Json

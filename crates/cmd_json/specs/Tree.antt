@@ -1,5 +1,5 @@
--- The data that a tree of a text's values is. The members of an object are put in one after
--- another, so that of several members of one name the last stays.
+-- A tree of `json` in the words of `serde_json`: its numbers as numbers, and each object with one
+-- member of a name, which is the last of them.
 use Rattle.std.specs.Prelude.{ℕ, List, Bool, true, ◌&&◌, is_some, unwrap_or, negsuc}
 use Rattle.json.specs.Json as json
 use Rattle.json.specs.Value.{value_view}
@@ -8,14 +8,14 @@ use Rattle.serde_json.specs.Data.{Num, negative, Data, null, boolean, number, st
 use Rattle.serde_json.specs.Read.{number_of}
 
 -- the number of a text; where it is too large to be one, any number that isn't unsigned
-abbrev pub num : List ℕ → Num
-num text = unwrap_or (number_of text) (negative (negsuc 0))
+abbrev pub number_or_other : List ℕ → Num
+number_or_other text = unwrap_or (number_of text) (negative (negsuc 0))
 
 abbrev mutual
   pub tree_data : json.Json → Data
   tree_data json.null = null
   tree_data (json.boolean b) = boolean b
-  tree_data (json.number text) = number (num text)
+  tree_data (json.number text) = number (number_or_other text)
   tree_data (json.string text) = string text
   tree_data (json.array js) = array (items_data js)
   tree_data (json.object js) = object (put_all js no_members)

@@ -174,7 +174,7 @@ pub(crate) fn number_of(value: &Value<'_>, low: u64, high: u64) -> Result<u64, M
     ensures value { result ≡ a_number low high (value_data value.now) }
     ensures within { IfOk result (IsWithin low high) }
 {
-    let number = unsigned_of(value)?;
+    let number = whole_number_of(value)?;
     if low <= number && number <= high {
         Ok(number)
     } else {
@@ -183,7 +183,7 @@ pub(crate) fn number_of(value: &Value<'_>, low: u64, high: u64) -> Result<u64, M
 }
 
 // The number of a value that is a whole number of 64 bits.
-fn unsigned_of(value: &Value<'_>) -> Result<u64, Misfit>
+fn whole_number_of(value: &Value<'_>) -> Result<u64, Misfit>
     ensures { result ≡ a_number_that (λ _. true) (value_data value.now) }
 {
     let text = value.as_number().ok_or(Misfit::Field)?;
@@ -206,7 +206,7 @@ impl Kind for SectorStartKind {
     ghost known = { λ _ number. number % SECTOR_START_UNIT ≡ 0 };
 
     fn read(&self, _alloc: Global, value: Value<'_>) -> Result<u64, Misfit> {
-        let number = unsigned_of(&value)?;
+        let number = whole_number_of(&value)?;
         if number % SECTOR_START_UNIT == 0 {
             Ok(number)
         } else {

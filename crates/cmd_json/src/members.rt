@@ -138,7 +138,7 @@ fn refusal_of(alloc: Global, name: &str, misfit: Misfit) -> CmdRefused
     }
 }
 
-// The place of the last member of that name.
+// The place of the last member of that name, which is looked for from the end.
 fn last_named(list: &Vec<(&str, Value<'_>)>, name: &str) -> Option<usize>
     ensures within { IfSome result (λ place. place < vec_len list.now) }
     ensures none { IfNone result (json.get_member name.now (members_view list.now.items) ≡ None) }
@@ -156,6 +156,7 @@ fn last_named(list: &Vec<(&str, Value<'_>)>, name: &str) -> Option<usize>
     None
 }
 
+// Takes out all members of that name.
 fn keep_others(list: &mut Vec<(&str, Value<'_>)>, name: &str)
     ensures { list.new.items ≡ filter (has_other_name name.now) list.old.items }
 {

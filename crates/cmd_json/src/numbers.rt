@@ -1,5 +1,6 @@
-//! Numbers by their texts, without keeping them as numbers.
-ghost use Rattle.std.specs.Prelude.{◌≡◌, ◌<◌, ◌==◌, length, slice_index, IsTrue, true, false, is_some, option_and_then};
+//! What the text of a number says: whether it can be held, and the whole number that it is. Numbers
+//! stay text in the tree, so this is asked of each.
+ghost use Rattle.std.specs.Prelude.{◌≡◌, ◌==◌, slice_index, true, false, drop, is_some, option_and_then, MatchOption};
 ghost use Rattle.std.specs.Float.{binary64, float_is_finite};
 ghost use Rattle.fast_float.specs.Text.{nearest};
 ghost use Rattle.serde_json.specs.Find.{as_u64};
@@ -11,11 +12,9 @@ use fast_float::Numeral;
 pub(crate) fn unsigned_of(text: &str) -> Option<u64>
     ensures { result ≡ option_and_then as_u64 (number_of text.now) }
 {
-    let bytes = text.as_bytes();
-    if has_minus(bytes) {
-        None
-    } else {
-        unsigned(&Numeral::scan(bytes))
+    match behind_minus(text.as_bytes()) {
+        Some(_) => None,
+        None => unsigned(&Numeral::scan(text.as_bytes())),
     }
 }
 
@@ -37,11 +36,9 @@ pub(crate) fn is_number(text: &str) -> bool
 fn is_any_number(text: &str) -> bool
     ensures { result ≡ is_some (number_of text.now) }
 {
-    let bytes = text.as_bytes();
-    if has_minus(bytes) {
-        is_negative(&Numeral::scan(&bytes[1..]))
-    } else {
-        is_unsigned(&Numeral::scan(bytes))
+    match behind_minus(text.as_bytes()) {
+        Some(digits) => is_negative(&Numeral::scan(digits)),
+        None => is_unsigned(&Numeral::scan(text.as_bytes())),
     }
 }
 
@@ -64,9 +61,13 @@ fn has_float(negative: bool, numeral: &Numeral<'_>) -> bool
     numeral.to_float::<f64>(negative).is_finite()
 }
 
-fn has_minus(bytes: &[u8]) -> bool
-    ensures value { result ≡ (slice_index bytes.now 0 == 45) }
-    ensures some { IsTrue result → 0 < length bytes.now }
+// What stands behind the minus, where the text begins with one.
+fn behind_minus(text: &[u8]) -> Option<&[u8]>
+    ensures { MatchOption result ((slice_index text.now 0 == 45) ≡ false)
+        (λ rest. ((slice_index text.now 0 == 45) ≡ true) × (rest.now ≡ drop 1 text.now)) }
 {
-    !bytes.is_empty() && bytes[0] == b'-'
+    match text {
+        [b'-', rest @ ..] => Some(rest),
+        _ => None,
+    }
 }

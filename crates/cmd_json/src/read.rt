@@ -63,8 +63,8 @@ pub fn read_command(alloc: Global, line: &[u8]) -> Result<Command, CmdRefused>
     CommandReader::new(alloc).read(alloc, line)
 }
 
-/// Reads one line after another, and keeps the memory that reading takes: that is about twice the
-/// longest line, and 16 KiB.
+/// Reads one line after another, and keeps the memory that reading takes: 16 KiB, and at most twice
+/// the longest line.
 #[derive(Drop)]
 pub struct CommandReader {
     scratch: Scratch,
@@ -78,7 +78,8 @@ impl CommandReader {
         }
     }
 
-    /// The same as [`read_command`]. What was read before changes nothing.
+    /// The same as [`read_command`]. What was read before makes no difference, but perhaps whether
+    /// memory runs out.
     pub fn read(&mut self, alloc: Global, line: &[u8]) -> Result<Command, CmdRefused>
         ensures read { Gives refused.NoMemory (command_of line.now) result }
         ensures known { IfOk result IsAskable }
@@ -113,10 +114,8 @@ fn read_text(
         (ok_or (read text.now) refused.Json)) result }
     ensures known { IfOk result IsAskable }
 {
-    match tree_of(alloc, text, scratch) {
-        Ok(value) => read_value(alloc, built, value),
-        Err(refused) => Err(refused),
-    }
+    let value = tree_of(alloc, text, scratch)?;
+    read_value(alloc, built, value)
 }
 
 fn read_value(alloc: Global, built: &[&str], value: Value<'_>) -> Result<Command, CmdRefused>

@@ -4,7 +4,6 @@ ghost use Rattle.cmd_json.specs.Refusal.{refusal_number};
 
 use crate::Text;
 use basics::NoMemory;
-use json::Error as JsonError;
 use std::error::Error;
 use std::fmt;
 
@@ -66,19 +65,5 @@ impl From<NoMemory> for CmdRefused {
 
     fn from(_refused: NoMemory) -> Self {
         CmdRefused::NoMemory
-    }
-}
-
-impl From<JsonError> for CmdRefused {
-    ghost use Rattle.cmd_json.specs.Refusal.{reader_refusal};
-    ghost use Rattle.std.specs.Prelude.{◌≡◌};
-
-    ghost from_gives = { λ error refusal. refusal ≡ reader_refusal error };
-
-    fn from(error: JsonError) -> Self {
-        match error {
-            JsonError::OutOfMemory => CmdRefused::NoMemory,
-            JsonError::Invalid | JsonError::TooLong | JsonError::DuplicateKey => CmdRefused::Json,
-        }
     }
 }

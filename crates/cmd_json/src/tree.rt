@@ -1,5 +1,6 @@
-//! A text as the tree of its values, which borrow from it.
-ghost use Rattle.std.specs.Prelude.{◌≡◌, ◌≢◌, Some, None, IfOk, IfErr, option_map};
+//! A text as the tree of its values, which borrow from it. `json` takes numbers of any size, so they
+//! are tested once the tree stands.
+ghost use Rattle.std.specs.Prelude.{◌≡◌, ◌≢◌, Some, None, IfOk, IfErr};
 ghost use Rattle.json.specs.Value.{value_view, items_view, members_view};
 ghost use Rattle.serde_json.specs.Read.{read};
 ghost use Rattle.cmd_json.specs.Tree.{value_data, is_in_range, are_in_range, members_in_range};
@@ -26,7 +27,11 @@ pub(crate) fn tree_of<'a>(
     let Ok(mut reader) = Reader::new(text, scratch) else {
         return Err(CmdRefused::NoMemory);
     };
-    let value = Value::read(alloc, &mut reader, MAX_DEPTH)?;
+    let value = match Value::read(alloc, &mut reader, MAX_DEPTH) {
+        Ok(value) => value,
+        Err(Error::OutOfMemory) => return Err(CmdRefused::NoMemory),
+        Err(_) => return Err(CmdRefused::Json),
+    };
     if reader.next().is_some() {
         return Err(CmdRefused::Json);
     }

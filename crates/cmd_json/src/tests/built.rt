@@ -36,6 +36,24 @@ fn a_command_that_is_built_is_read(rt: HostRuntime) -> Result<(), Fail> {
 }
 
 #[test]
+fn a_reader_reads_one_line_after_another(rt: HostRuntime) -> Result<(), Fail> {
+    let mut reader = CommandReader::new(rt.alloc());
+    let lines = [
+        r#"{"cmd":"\u0071uit"}"#,
+        "x",
+        r#"{"cmd":"host","name":"a-name-that-is-longer"}"#,
+        r#"{"cmd":"quit","b":1,"a":2}"#,
+        r#"{"cmd":"quit"}"#,
+    ];
+    for line in lines {
+        let kept = told(rt.alloc(), reader.read(rt.alloc(), line.as_bytes()))?;
+        let fresh = told(rt.alloc(), read_command(rt.alloc(), line.as_bytes()))?;
+        assert_eq!(rt; kept.as_str(), fresh.as_str(), "{line}");
+    }
+    Ok(())
+}
+
+#[test]
 fn a_name_that_no_row_has_is_no_command(rt: HostRuntime) -> Result<(), Fail> {
     let answer = answer_where(rt.alloc(), &["fly"], r#"{"cmd":"fly"}"#)?;
     assert_eq!(rt; answer.as_str(), "command");

@@ -56,6 +56,13 @@ fn a_line_is_json_and_nothing_else(rt: HostRuntime) -> Result<(), Fail> {
         (r#""a"#, "json"),
         (r#"{"cmd":"quit"} //"#, "json"),
         ("quit", "json"),
+        (r#"{"cmd":"quit","x":1e400}"#, "json"),
+        (r#"{"cmd":"quit","x":[{"y":-1e400}]}"#, "json"),
+        (r#"{"cmd":"host","name":1e400,"name":"h"}"#, "json"),
+        (r#"{"cmd":"quit","x":1e308}"#, "field x"),
+        ("{\"cmd\":\"qu\u{0}it\"}", "json"),
+        ("{\"cmd\":\"qu\tit\"}", "json"),
+        (r#"{"cmd":"\ud800"}"#, "json"),
     ];
     let front = "";
     answer(&rt, rt.alloc(), front, ROWS, "")

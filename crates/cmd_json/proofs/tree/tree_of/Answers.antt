@@ -7,8 +7,8 @@ use Rattle.cmd_json.proofs.tree.tree_of.Goals as goal
 
 pub returns-then-is_some-clause-unread : goal.returns-then-is_some-clause-unread
 returns-then-is_some-clause-unread c = λ paid.
-    let j = value_view c.in_ok-value.value in
-    let first = sym (ap (json.value 127) c.in-Ok.ensures.ok) ∙ c.in_ok-value.ensures.ok in (
+    let j = value_view c.in-Ok-read.value in
+    let first = sym (ap (json.value 127) c.in-Ok.ensures.ok) ∙ c.in-Ok-read.ensures.ok in (
       refl,
       read_before c.args.text.now j c.read.new.reader c.next.new.self c.next.result first
           c.next.ensures.value
@@ -18,8 +18,8 @@ returns-then-is_some-clause-unread c = λ paid.
 
 pub returns-then-not-is_in_range-clause-unread : goal.returns-then-not-is_in_range-clause-unread
 returns-then-not-is_in_range-clause-unread c = λ paid.
-    let j = value_view c.in_ok-value.value in
-    let first = sym (ap (json.value 127) c.in-Ok.ensures.ok) ∙ c.in_ok-value.ensures.ok in (
+    let j = value_view c.in-Ok-read.value in
+    let first = sym (ap (json.value 127) c.in-Ok.ensures.ok) ∙ c.in-Ok-read.ensures.ok in (
       refl,
       read_before c.args.text.now j c.read.new.reader c.next.new.self c.next.result first
           c.next.ensures.value
@@ -30,8 +30,8 @@ returns-then-not-is_in_range-clause-unread c = λ paid.
 
 pub returns-clause-read : goal.returns-clause-read
 returns-clause-read c =
-    let j = value_view c.in_ok-value.value in
-    let first = sym (ap (json.value 127) c.in-Ok.ensures.ok) ∙ c.in_ok-value.ensures.ok in
+    let j = value_view c.in-Ok-read.value in
+    let first = sym (ap (json.value 127) c.in-Ok.ensures.ok) ∙ c.in-Ok-read.ensures.ok in
     read_before c.args.text.now j c.read.new.reader c.next.new.self c.next.result first
     c.next.ensures.value
     ∙ ap (λ more. if more then None else only_if (is_in_range j) (tree_data j))
