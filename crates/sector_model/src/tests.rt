@@ -170,6 +170,18 @@ fn a_stamp_repeats_big_endian(rt: HostRuntime) -> Result<(), Fail> {
         assert_eq!(rt; sector.0[i], expected[i % 8], "byte {i}");
     }
     let list = SectorList::of(rt.alloc(), &[sector, Sector::filled(7)])?;
-    assert_eq!(rt; list.as_slice(), [sector, Sector([7; 512])].as_slice());
+    assert_eq!(rt;
+        list.as_slice(),
+        [sector, Sector([7; SECTOR_BYTES])].as_slice()
+    );
+    Ok(())
+}
+
+#[test]
+fn a_list_has_the_sectors_that_it_was_made_of(rt: HostRuntime) -> Result<(), Fail> {
+    let single = SectorList::of(rt.alloc(), &[Sector::filled(3)])?;
+    assert_eq!(rt; single.as_slice(), [Sector::filled(3)].as_slice());
+    let none = SectorList::of(rt.alloc(), &[])?;
+    assert_eq!(rt; none.as_slice().len(), 0);
     Ok(())
 }
