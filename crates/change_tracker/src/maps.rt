@@ -1,4 +1,5 @@
-//! The two maps of a tracker.
+//! The two maps of a tracker. They are apart since a reset drops what changed, and keeps what was
+//! touched at all.
 ghost use Rattle.std.specs.Prelude.{◌≡◌, ◌+◌, ◌-◌, ◌*◌, ◌/◌, ◌<◌, ◌≤◌, ◌^◌, ◌||◌, ◌&&◌, [], ℕ, OnOk, nat_le, nat_lt, ◌==◌};
 ghost use Rattle.sector_model.specs.Run.{meets};
 ghost use Rattle.sector_model.specs.declared.run.TheConstants.{BLOCK_SECTORS};

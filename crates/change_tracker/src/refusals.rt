@@ -1,4 +1,4 @@
-//! Why a tracker refuses a call.
+//! Why a tracker refuses a call. Where more than one of these stands, a query tells the first.
 use change_id::ChangeId;
 use sector_model::NoMemory;
 use std::error::Error;

@@ -1,4 +1,5 @@
-//! The tracker of one disk.
+//! The tracker of one disk. It decides what is refused, counts the freezes, and finds the window
+//! of an answer; the touches are in its maps.
 ghost use Rattle.std.specs.Prelude.{◌≡◌, ◌+◌, ◌<◌, ◌≤◌, ◌^◌, ◌∷◌, ◌++◌, [], IsOk, OnOk, OnErr, IfOk, ℕ, List, true, Some, None, false, ◌==◌, MatchBool, MatchOption};
 ghost use Rattle.std.specs.List.{list_any};
 ghost use Rattle.basics.specs.Refusal.{IsRefusedOr, IsRefusedBy};

@@ -1,4 +1,4 @@
-//! Why a host or a machine isn't added.
+//! Why a host or a machine isn't added. The calls say in which order they look for these.
 ghost use Rattle.std.specs.Prelude.{◌≡◌};
 ghost use Rattle.fleet.specs.Refusals.{refusal_number};
 ghost use Rattle.fleet.specs.declared.refusals.FleetRefused.TheVariants.{NoMemory as Wanted};

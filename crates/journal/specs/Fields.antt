@@ -1,4 +1,5 @@
--- How a journal's fields are seen.
+-- What a journal's value tells of a failure: the refused record itself, of which the field holds
+-- a snapshot that contracts alone see.
 use Rattle.journal.specs.Journal.{Failure}
 use Rattle.journal.specs.declared.failure.Failure.{Failure as KeptFailure}
 

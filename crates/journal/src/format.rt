@@ -1,4 +1,5 @@
-//! The numbers of the file's format.
+//! The numbers of the file's format: what a file begins with, the gates before its records, and
+//! the least and the most that it holds.
 
 /// What each journal's file begins with.
 pub const MAGIC: [u8; 8] = [b'W', b'A', b'R', b'M', b'J', b'N', b'L', b'1'];

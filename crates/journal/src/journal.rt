@@ -1,4 +1,5 @@
-//! The journal.
+//! The journal: records that are on the disk before an append is Ok. They are in memory too, so
+//! that the file is read at its opening alone.
 ghost use Rattle.std.specs.Prelude.{◌≡◌, None, Err, MatchOption, IfOk, IfErr};
 ghost use Rattle.record_codec.specs.Record.{KeepsRule};
 ghost use Rattle.journal.specs.Journal.{append_refusal, Appends, IsKept, LeavesOneOf, outcomes};

@@ -1,4 +1,5 @@
-//! Why a journal refuses.
+//! Why a journal isn't opened or takes no record. Each refusal tells the place in the file that is
+//! to blame, where there is one.
 ghost use Rattle.std.specs.Prelude.{◌≡◌};
 ghost use Rattle.journal.specs.Refusal.{refusal_number};
 

@@ -1,4 +1,5 @@
--- What reading a body may answer.
+-- What reading a body may answer. Bad and want of memory exclude each other, whatever the body:
+-- only what spells a record needs memory.
 use Rattle.std.specs.Prelude.{ℕ, List, Option, Some, None, Result, Ok, Err}
 use Rattle.record_codec.specs.declared.record.Record.{Record}
 use Rattle.record_codec.specs.declared.parse.CodecRefused.{CodecRefused}

@@ -1,4 +1,5 @@
--- Words of a read, sector by sector.
+-- Words of a read, sector by sector: what the layers down to one have found, and the numbers of
+-- layers and blocks that bound its look-ups.
 use Rattle.std.specs.Prelude.{◌≡◌, ℕ, ◌+◌, ◌-◌, ◌/◌, ◌%◌, List, length, nat_eq, Bool, true, false, Option, Some, None, IsSome, option_map}
 use Rattle.std.specs.List.{position}
 use Rattle.sector_model.specs.Sector.{zero_sector}

@@ -1,4 +1,5 @@
-//! A volume, as whoever fills it sees it.
+//! A volume, as whoever fills it sees it. Nothing is told of where it keeps its sectors, but that
+//! each call may fail, and what a failure leaves.
 ghost use Rattle.std.specs.Prelude.{◌≡◌, ◌+◌, ◌≤◌, length, take, drop, IsTrue, IsOk, IsSome, IfSome, OnOk, OnErr};
 ghost use Rattle.sector_model.specs.VolumeContents.{IsSized};
 ghost use Rattle.target_volume.specs.Volume.{VolumeState, after_write, after_zero, after_flush, VolumeFails, Breaks};

@@ -1,4 +1,5 @@
-//! A store that keeps volumes by name.
+//! A store that keeps volumes by name. It lends a volume to one at a time, so that two never fill
+//! the same.
 ghost use Rattle.std.specs.Prelude.{◌≡◌, ℕ, ◌≤◌, ◌⊎◌, option_map, IsTrue, IsOk, IsSome, IfSome, IsSomeAnd, Some, IfOk, IfErr, OnOk, OnErr, IsErrOf};
 ghost use Rattle.target_volume.specs.Volume.{VolumeState};
 ghost use Rattle.target_volume.specs.VolumeName.{find_volume};

@@ -1,4 +1,5 @@
-//! The world of one disk, in memory.
+//! The world of one disk, in memory: all that decides whether an event may happen, and all that
+//! an event changes.
 ghost use Rattle.std.specs.Prelude.{◌≡◌, [], length, true, false, None, IfOk};
 ghost use Rattle.warm_core.specs.DiskWorld.{world_of, StandsSound};
 ghost use Rattle.warm_core.specs.World.{IsStart};

@@ -1,4 +1,5 @@
-//! What may happen to the world of one disk.
+//! What may happen to the world of one disk, a stop of the copying process too, and why a step is
+//! refused.
 ghost use Rattle.std.specs.Prelude.{◌≡◌};
 ghost use Rattle.warm_core.specs.DiskWorld.{refusal_number};
 

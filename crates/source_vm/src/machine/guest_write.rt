@@ -1,4 +1,4 @@
-//! A guest's write.
+//! A guest's write: one entry of the log and one write of a disk, or neither.
 ghost use Rattle.std.specs.Prelude.{length};
 ghost use Rattle.basics.specs.Refusal.{IsRefusedOr};
 ghost use Rattle.log_model.specs.declared.entry.Act.{Act};
