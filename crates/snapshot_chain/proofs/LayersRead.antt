@@ -11,6 +11,7 @@ use Rattle.basics.proofs.Options.{or_none}
 use Rattle.std.proofs.lemmas.List.{drop_all, get_or_default}
 use Rattle.std.proofs.Math.Seq.{drop-cons}
 use Rattle.std.proofs.Math.Nat.{mul-suc}
+use Rattle.basics.proofs.Options.{some_or}
 use Rattle.sector_model.specs.Sector.{zero_sector}
 use Rattle.sector_model.specs.declared.sector.Sector.{Sector}
 use Rattle.snapshot_chain.specs.Page128.{PageState, sector_at}
@@ -112,11 +113,7 @@ found-drop [] (suc n) block offset some = refl
 found-drop (l ∷ layers) (suc n) block offset some =
     ap (λ (o : Option Sector). option_or o (sector_in l block offset))
     (found-drop layers n block offset some)
-    ∙ kept (found (drop n layers) block offset) (sector_in l block offset) some
-  where
-    kept : (a b : Option Sector) → is_some a ≡ true → option_or a b ≡ a
-    kept None b some = absurd (false≢true some)
-    kept (Some x) b some = refl
+    ∙ some_or (found (drop n layers) block offset) (sector_in l block offset) some
 
 -- all offsets were found before
 pub found_early : (layers : List LayerState) (left block offset : ℕ) (was : Bool)
