@@ -32,6 +32,11 @@ pub some_or : {X : Type 0} (o next : Option X) → is_some o ≡ true → option
 some_or None next is = absurd (false≢true is)
 some_or (Some x) next is = refl
 
+-- and the second where it doesn't
+pub none_or : {X : Type 0} (o next : Option X) → is_some o ≡ false → option_or o next ≡ next
+none_or None next fails = refl
+none_or (Some x) next fails = absurd (false≢true (sym fails))
+
 pub is_some-map : {X Y : Type 0} (f : X → Y) (o : Option X) → is_some (option_map f o) ≡ is_some o
 is_some-map f None = refl
 is_some-map f (Some x) = refl

@@ -3,7 +3,7 @@ use Rattle.std.proofs.Common.{◌≡◌, ℕ, zero, suc, ◌+◌, ◌*◌, ◌/�
 use Rattle.std.proofs.lemmas.Bool.{cases_lt}
 use Rattle.std.proofs.Math.Nat.{div-div-eq-div-mul, mod-lt}
 use Rattle.std.proofs.lemmas.List.{get_or-take, get_or-drop, get_or_past, length-take-le, length-drop, take-append-drop}
-use Rattle.std.proofs.lemmas.Nat.{be_bytes_8, from_be_bytes-to_be_bytes_8}
+use Rattle.std.proofs.lemmas.Nat.{be_bytes_8, from_be_bytes-to_be_bytes_8, shr_high, mod_low}
 use Rattle.std.specs.Int.{w64, w128, byte_at, bytes_high_first, to_be_bytes, from_be_bytes}
 
 -- the number, by its two halves
@@ -74,12 +74,6 @@ to_halves n =
 half_fits : (bytes : List ℕ) → ((i : ℕ) → get_or bytes i 0 < 256) → from_be_bytes w64 bytes < 2 ^ 64
 half_fits bytes fit = omega (arith, fit 0, fit 1, fit 2, fit 3, fit 4, fit 5, fit 6, fit 7)
 
-quotient_back : (h l : ℕ) → l < 2 ^ 64 → (h * 2 ^ 64 + l) / 2 ^ 64 ≡ h
-quotient_back h l fits = omega arith
-
-remainder_back : (h l : ℕ) → l < 2 ^ 64 → (h * 2 ^ 64 + l) % 2 ^ 64 ≡ l
-remainder_back h l fits = omega arith
-
 -- the bytes of what bytes make are those bytes
 pub to_be_bytes-from_be_bytes : (bytes : List ℕ) → length bytes ≡ 16
     → ((i : ℕ) → get_or bytes i 0 < 256)
@@ -101,9 +95,9 @@ to_be_bytes-from_be_bytes bytes len fit =
     let l_fits : l < 2 ^ 64 = half_fits low low_fit in
     let whole = from_halves bytes in
     let quotient : from_be_bytes w128 bytes / 2 ^ 64 ≡ h =
-    ap (λ (m : ℕ). m / 2 ^ 64) whole ∙ quotient_back h l l_fits in
+    ap (λ (m : ℕ). m / 2 ^ 64) whole ∙ shr_high h 64 l l_fits in
     let remainder : from_be_bytes w128 bytes % 2 ^ 64 ≡ l =
-    ap (λ (m : ℕ). m % 2 ^ 64) whole ∙ remainder_back h l l_fits in
+    ap (λ (m : ℕ). m % 2 ^ 64) whole ∙ mod_low h 64 l l_fits in
     to_halves (from_be_bytes w128 bytes)
     ∙ (λ i. to_be_bytes w64 (quotient i) ++ to_be_bytes w64 (remainder i))
     ∙ (λ i. be_bytes_8 high h high_len high_fit refl i ++ be_bytes_8 low l low_len low_fit refl i)

@@ -6,6 +6,7 @@ use Rattle.std.specs.Slice.{IsItemAt}
 use Rattle.std.proofs.lemmas.Bool.{and_parts, cases_eq, cases_lt, eq-eqb, ne_eqb, eqb-true, ltb-true, ltb-false, lt-leb, leb-true, false≢true, and_right, or_right}
 use Rattle.std.proofs.lemmas.List.{get_or_default}
 use Rattle.std.proofs.lemmas.Option.{same_Some, none-some}
+use Rattle.std.proofs.lemmas.List.Folds.{list_any_none}
 use Rattle.sector_model.specs.Run.{blocks_where, areas_of}
 use Rattle.basics.specs.Refusal.{IsRefusedBy}
 use Rattle.change_id.specs.ChangeId.{id_of, packed}
@@ -42,14 +43,6 @@ ids_rise from bound (k ∷ ks) are (suc i) zero d le less = absurd (omega arith)
 ids_rise from bound (k ∷ ks) are (suc i) (suc j) d le less =
     ids_rise (k.id + 1) bound ks are.1 i j d (omega (arith, le)) (omega (arith, less))
 
-none_at : (p : FrozenSnapshot → Bool) (ks : List FrozenSnapshot)
-    → ((i : ℕ) (d : FrozenSnapshot) → i < length ks → p (get_or ks i d) ≡ false) → list_any p ks
-    ≡ false
-none_at p [] none = refl
-none_at p (k ∷ ks) none =
-    (λ i. none 0 k (omega arith) i || none_at p ks
-    (λ j d less. none (suc j) d (omega (arith, less))) i)
-
 -- the place behind the lower ids has another id, or there is none
 pub none_with_id : (ks : List FrozenSnapshot) (id place : ℕ) (r : Option (Bor FrozenSnapshot))
     → IsPartitionPoint (λ k. ltb k.id id ≡ true) (λ k. ltb k.id id ≡ false) ks place
@@ -57,7 +50,7 @@ pub none_with_id : (ks : List FrozenSnapshot) (id place : ℕ) (r : Option (Bor 
     → ((d : FrozenSnapshot) → place < length ks → (get_or ks place d).id ≢ id)
     → list_any (λ k. k.id == id) ks ≡ false
 none_with_id ks id place r point rise other =
-    none_at (λ k. k.id == id) ks (λ i d less. elim (cases_lt i place) [
+    list_any_none (λ k. k.id == id) ks (λ i d less. elim (cases_lt i place) [
       | inl before ↦ let low = ltb-true (get_or ks i d).id id (point.0 i d (omega arith) before) in
           ne_eqb (get_or ks i d).id id (λ e. absurd (omega (arith, e, low)))
       | inr behind ↦

@@ -49,7 +49,7 @@ longer t b e f le is = at_longer (b % 64) e f (word_of t (b / 64)) le is
 
 -- ---- the bits of a word that are new among the first touches
 
-pub record Told (maps : Maps) (run : Run) (freezes word bits known : ℕ) : Type 0 where
+pub record AreNewBits (maps : Maps) (run : Run) (freezes word bits known : ℕ) : Type 0 where
   pub met : (p : ℕ) → p < 64 → has_bit bits p ≡ meets (64 * word + p) run.first run.count
   pub old : (p : ℕ) → has_bit known p
       ≡ touched_in (window 0 (freezes + 1)) p (word_of maps.first word)
@@ -59,7 +59,7 @@ place_is : (b word : ℕ) → b / 64 ≡ word → 64 * word + b % 64 ≡ b
 place_is b word is = omega (arith, is)
 
 pub new_has : (maps : Maps) (run : Run) (freezes word bits known b : ℕ)
-    → Told maps run freezes word bits known → b / 64 ≡ word
+    → AreNewBits maps run freezes word bits known → b / 64 ≡ word
     → has_bit (bit_and bits (bit_not w64 known)) (b % 64)
     ≡ (meets b run.first run.count && not (is_touched_in maps.first (window 0 (freezes + 1)) b))
 new_has maps run freezes word bits known b told is =
@@ -76,7 +76,7 @@ new_fits bits known less = omega (arith, less, and_le_l bits (bit_not w64 known)
 
 -- the block of the lowest new bit
 pub a_new_block : (maps : Maps) (run : Run) (freezes word bits known : ℕ)
-    → Told maps run freezes word bits known → bits < 2 ^ 64 → bit_and bits (bit_not w64 known) ≢ 0
+    → AreNewBits maps run freezes word bits known → bits < 2 ^ 64 → bit_and bits (bit_not w64 known) ≢ 0
     → (b : ℕ) × (b / 64 ≡ word) × (is_met_in word run b ≡ true)
     × (is_touched_in maps.first (window 0 (freezes + 1)) b ≡ false)
 a_new_block maps run freezes word bits known told less some =
@@ -97,7 +97,7 @@ a_new_block maps run freezes word bits known told less some =
     )
 
 pub room_for_new : (maps : Maps) (run : Run) (freezes word bits known : ℕ)
-    → Told maps run freezes word bits known → bits < 2 ^ 64 → bit_and bits (bit_not w64 known) ≢ 0
+    → AreNewBits maps run freezes word bits known → bits < 2 ^ 64 → bit_and bits (bit_not w64 known) ≢ 0
     → HasRoomWhere (is_met_in word run) maps freezes → HasRoom maps.first word freezes
 room_for_new maps run freezes word bits known told less some room =
     let new = a_new_block maps run freezes word bits known told less some in
@@ -162,7 +162,7 @@ none_added old word freezes bits none = λ w b.
     (and_right (eqb (b / 64) word) (has_bit bits (b % 64)) (no_bits bits (b % 64) none)))
 
 pub first_marked : (maps : Maps) (new : TouchState) (run : Run) (freezes word bits known : ℕ)
-    → Told maps run freezes word bits known
+    → AreNewBits maps run freezes word bits known
     → IsAdded maps.first new word freezes (bit_and bits (bit_not w64 known))
     → (end b : ℕ) → is_touched_in new (window 0 end) b
     ≡ (is_touched_in maps.first (window 0 end) b || (ltb freezes end && is_met_in word run b))
@@ -225,7 +225,7 @@ room_kept freezes b old new less kept room = record {
 
 -- the places of one word were made
 pub word_room : (old : Maps) (first changes : TouchState) (run : Run) (freezes word bits known : ℕ)
-    → Told old run freezes word bits known → HasSame old.first first
+    → AreNewBits old run freezes word bits known → HasSame old.first first
     → (bit_and bits (bit_not w64 known) ≢ 0 → HasRoom first word freezes)
     → HasRoom changes word freezes
     → HasRoomWhere (is_met_in word run) (record { first = first; changes = changes }) freezes

@@ -29,18 +29,6 @@ rise from bound (x ∷ xs) are (suc i) zero d le less = absurd (omega arith)
 rise from bound (x ∷ xs) are (suc i) (suc j) d le less =
     rise (x.freezes + 1) bound xs are.1 i j d (omega (arith, le)) (omega (arith, less))
 
-pub rise_drop : (xs : List Touch) (n : ℕ) → IsNonDecreasingBy (λ x. x.freezes) xs
-    → IsNonDecreasingBy (λ x. x.freezes) (drop n xs)
-rise_drop xs n up i j d le less =
-    let there = up (n + i) (n + j) d (omega (arith, le)) (omega (arith, less, length-drop n xs)) in
-    omega (
-      arith,
-      there,
-      ap (λ (x : Touch). x.freezes) (get_or-drop n xs i d),
-      ap
-          (λ (x : Touch). x.freezes) (get_or-drop n xs j d),
-    )
-
 none_before : (p : Touch → Bool) (xs : List Touch) (n : ℕ)
     → ((k : ℕ) (d : Touch) → k < n → k < length xs → p (get_or xs k d) ≡ false)
     → list_any p (take n xs) ≡ false

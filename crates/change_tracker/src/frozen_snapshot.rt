@@ -1,4 +1,4 @@
-//! What is kept of a snapshot.
+//! A snapshot as a tracker keeps it: the id that it was frozen under, and its identifier.
 use change_id::ChangeId;
 
 /// A snapshot that was frozen. Its place in the list is the number of freezes before it.

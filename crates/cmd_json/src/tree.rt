@@ -1,5 +1,5 @@
-//! A text as the tree of its values, which borrow from it. `json` takes numbers of any size, so they
-//! are tested once the tree stands.
+//! A text as the tree of its values, which borrow from it. `json` takes numbers of any size, so
+//! they are tested once the tree stands.
 ghost use Rattle.std.specs.Prelude.{◌≡◌, ◌≢◌, Some, None, IfOk, IfErr};
 ghost use Rattle.json.specs.Value.{value_view, items_view, members_view};
 ghost use Rattle.serde_json.specs.Read.{read};

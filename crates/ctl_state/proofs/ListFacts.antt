@@ -278,15 +278,21 @@ numbered-before xs x m other =
     by-zero (xs ++ x ∷ []) xs m
     (λ some. get-before xs x (m - 1) (λ e. other (omega (arith, e, some))))
 
+-- an element is found by the number of its place
+pub numbered-there : {X : Type 0} (xs : List X) (place : ℕ) (x : X) → slice_get xs place ≡ Some x
+    → numbered xs (place + 1) ≡ Some x
+numbered-there {X} xs place x at =
+    let back : place + 1 - 1 ≡ place = omega arith in
+    by (place + 1 == 0) refl (ap (slice_get xs) back ∙ at)
+  where
+    by : (b : Bool) → (place + 1 == 0) ≡ b → slice_get xs (place + 1 - 1) ≡ Some x
+        → cond b None (slice_get xs (place + 1 - 1)) ≡ Some x
+    by true e h = absurd (omega (arith, eqb-true (place + 1) 0 e))
+    by false e h = h
+
 pub numbered-added : {X : Type 0} (xs : List X) (x : X)
     → numbered (xs ++ x ∷ []) (length xs + 1) ≡ Some x
-numbered-added {X} xs x = test (length xs + 1 == 0) refl
-  where
-    test : (b : Bool) → (length xs + 1 == 0) ≡ b
-        → cond b None (slice_get (xs ++ x ∷ []) (length xs + 1 - 1)) ≡ Some x
-    test true e = absurd (omega (arith, eqb-true (length xs + 1) 0 e))
-    test false e = let at : length xs + 1 - 1 ≡ length xs = omega arith in
-        ap (slice_get (xs ++ x ∷ [])) at ∙ slice_get-last xs x
+numbered-added xs x = numbered-there (xs ++ x ∷ []) (length xs) x (slice_get-last xs x)
 
 -- ---- names
 

@@ -92,10 +92,10 @@ abbrev pub calls_of : PhaseTask → LinkState → List (List Entry → Option Ac
 calls_of task link = if is_clean_up task then cleaning_calls task link.seen
     else calls_of_work (phase_work link.machine task)
 
-abbrev pub looks : List Entry → Option Act
-looks log = None
+abbrev pub no_act : List Entry → Option Act
+no_act log = None
 
 -- a job that was begun and cut off made the first of these calls, and may have looked behind them
 pub record HasBegun (task : PhaseTask) (old new : LinkState) : Type 0 where
   pub made : ℕ
-  pub adds : AddInARow (take made (calls_of task old) ++ looks ∷ []) old new
+  pub adds : AddInARow (take made (calls_of task old) ++ no_act ∷ []) old new

@@ -7,7 +7,7 @@ use Rattle.log_model.specs.declared.entry.Owner.TheVariants.{Operator, Migration
 use Rattle.log_model.specs.declared.entry.Act.{Act}
 use Rattle.log_model.specs.declared.entry.Act.TheVariants.{Write, Snap, Remove, Enable, Off}
 use Rattle.log_model.specs.declared.entry.Entry.{Entry}
-use Rattle.log_model.specs.declared.entry.TheConstants.{MIGRATION_CALLER}
+use Rattle.log_model.specs.Entry.{entry_of}
 use Rattle.phase_table.specs.declared.phases.Phase.TheVariants as Phases
 use Rattle.ctl_state.specs.declared.migration.Migration.{Migration}
 use Rattle.ctl_state.specs.declared.migration.How.TheVariants as Hows
@@ -15,19 +15,16 @@ use Rattle.ctl_state.specs.declared.copies.DiskCopy.{DiskCopy}
 use Rattle.ctl_state.specs.Value.{CtlValue, new_course}
 use Rattle.ctl_state.specs.StatusLine.{StatusLine, status_line}
 
-abbrev entry : Act → Entry
-entry act = record { who = MIGRATION_CALLER; act = act }
-
 abbrev written : (first fill : ℕ) → Entry
-written first fill = entry (Write 0 first (filled fill ∷ []))
+written first fill = entry_of (Write 0 first (filled fill ∷ []))
 
 -- tracking is enabled, and a first snapshot of the operator comes and goes; then the migration's
 -- snapshots, between the writes
 abbrev migrated_log : List Entry
-migrated_log = entry Enable ∷ entry (Snap 1 Operator) ∷ entry (Remove 1) ∷ written 5 1
-    ∷ entry (Snap 2 (OfMigration 1)) ∷ written 200 2 ∷ entry (Remove 2)
-    ∷ entry (Snap 3 (OfMigration 1)) ∷ written 6 3 ∷ entry Off ∷ entry (Remove 3)
-    ∷ entry (Snap 4 (OfMigration 1)) ∷ entry (Remove 4) ∷ []
+migrated_log = entry_of Enable ∷ entry_of (Snap 1 Operator) ∷ entry_of (Remove 1) ∷ written 5 1
+    ∷ entry_of (Snap 2 (OfMigration 1)) ∷ written 200 2 ∷ entry_of (Remove 2)
+    ∷ entry_of (Snap 3 (OfMigration 1)) ∷ written 6 3 ∷ entry_of Off ∷ entry_of (Remove 3)
+    ∷ entry_of (Snap 4 (OfMigration 1)) ∷ entry_of (Remove 4) ∷ []
 
 abbrev small_value : CtlValue
 small_value = record {

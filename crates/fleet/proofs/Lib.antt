@@ -2,7 +2,7 @@ pub mod Places
 pub mod Names
 pub mod Each
 pub mod StaysSound
-pub mod Kept
+pub mod FieldLemmas
 pub mod Refused
 pub mod Replacing
 pub mod Logs

@@ -1,6 +1,7 @@
 -- Which refusal stands, by what the tests of a call find, one after the other.
 use Rattle.std.proofs.Common.{◌≡◌, ℕ, ◌+◌, ◌<◌, ◌≤◌, Bool, true, false, not, cond, List, length, nat_le, Option, Some, None, Result, Ok, Err, IfErr, IsErrAnd, is_some, option_map, refl, ap, ◌∙◌, sym, subst, arith}
 use Rattle.std.proofs.lemmas.List.{length-map}
+use Rattle.std.proofs.lemmas.Bool.{le-leb, lt-leb}
 use Rattle.basics.proofs.Options.{is_some-map}
 use Rattle.basics.specs.Refusal.{IsRefusedOr}
 use Rattle.source_vm.specs.Machine.{may_have_disks}
@@ -13,7 +14,7 @@ use Rattle.fleet.specs.Fleet.{FleetState, host_place, vm_number}
 use Rattle.fleet.specs.Refusals.{add_host_refusal, add_vm_refusal}
 use Rattle.fleet.specs.NameMap.{place_of}
 use Rattle.fleet.specs.Fields.{host_state, vm_state, fleet_state}
-use Rattle.fleet.proofs.Kept.{host_place-kept, vm_place-kept}
+use Rattle.fleet.proofs.FieldLemmas.{host_place-kept, vm_place-kept}
 
 -- where none stands, only the free one comes
 pub none_stands : {T : Type 0} (refusal : Option FleetRefused) (result : Result T FleetRefused)
@@ -23,12 +24,6 @@ none_stands refusal result none h =
       | Ok answer ↦ λ _. tt
       | Err e ↦ λ same. same
     ] h)
-
-le_told : (m n : ℕ) → m ≤ n → nat_le m n ≡ true
-le_told m n h = grind (arith, h)
-
-lt_told : (m n : ℕ) → n < m → nat_le m n ≡ false
-lt_told m n h = grind (arith, h)
 
 module _ (hosts : List (List ℕ × Host)) (vms : List (List ℕ × Vm)) (fleet : FleetState)
     (shown : fleet_state hosts vms ≡ fleet) (name : List ℕ) where
@@ -45,12 +40,12 @@ module _ (hosts : List (List ℕ × Host)) (vms : List (List ℕ × Vm)) (fleet 
   pub host_full : is_some (place_of name hosts) ≡ false → MAX_HOSTS ≤ length hosts
       → add_host_refusal name fleet ≡ Some TooMany
   host_full new full =
-      rw (ap is_some host_is ∙ new, host_count, le_told MAX_HOSTS (length hosts) full) refl
+      rw (ap is_some host_is ∙ new, host_count, le-leb MAX_HOSTS (length hosts) full) refl
 
   pub host_fits : is_some (place_of name hosts) ≡ false → length hosts < MAX_HOSTS
       → add_host_refusal name fleet ≡ None
   host_fits new room =
-      rw (ap is_some host_is ∙ new, host_count, lt_told MAX_HOSTS (length hosts) room) refl
+      rw (ap is_some host_is ∙ new, host_count, lt-leb MAX_HOSTS (length hosts) room) refl
 
   pub vm_is : vm_number name fleet ≡ option_map (λ place. place + 1) (place_of name vms)
   vm_is = ap (vm_number name) (sym shown)
@@ -86,9 +81,9 @@ module _ (hosts : List (List ℕ × Host)) (vms : List (List ℕ × Vm)) (fleet 
       pub vms_full : may_have_disks capacities ≡ true → MAX_VMS ≤ length vms
           → add_vm_refusal name host capacities fleet ≡ Some TooMany
       vms_full good full =
-          rw (is_vm false new, at, good, vm_count, le_told MAX_VMS (length vms) full) refl
+          rw (is_vm false new, at, good, vm_count, le-leb MAX_VMS (length vms) full) refl
 
       pub vm_fits : may_have_disks capacities ≡ true → length vms < MAX_VMS
           → add_vm_refusal name host capacities fleet ≡ None
       vm_fits good room =
-          rw (is_vm false new, at, good, vm_count, lt_told MAX_VMS (length vms) room) refl
+          rw (is_vm false new, at, good, vm_count, lt-leb MAX_VMS (length vms) room) refl

@@ -18,7 +18,8 @@ use Rattle.fleet.proofs.In.{IsIn, is_in}
 use Rattle.fleet.proofs.Logs.{at_place, found_changed, log_is, same_is_nothing}
 use Rattle.fleet.proofs.Found.{lowers_what_was_lifted}
 use Rattle.fleet.proofs.StaysSound.{IsVm-at}
-use Rattle.fleet_commands.specs.Machines.{machine_named, at_machine, reply_at, entry_of, after_act}
+use Rattle.log_model.specs.Entry.{entry_of}
+use Rattle.fleet_commands.specs.Machines.{machine_named, at_machine, reply_at, after_act}
 use Rattle.answers.specs.declared.refusal.Refusal.{Refusal}
 use Rattle.answers.specs.declared.refusal.Refusal.TheVariants.{UnknownVm}
 

@@ -20,7 +20,8 @@ use Rattle.fleet.specs.Sound.{AllAreIn}
 use Rattle.fleet.proofs.Logs.{log_is_found, others_stay}
 use Rattle.fleet.proofs.Found.{names_lead_to_vms, numbers_stay}
 use Rattle.fleet.proofs.Replacing.{vm_of-at}
-use Rattle.fleet_commands.specs.Machines.{machine_named, entry_of, after_act}
+use Rattle.log_model.specs.Entry.{entry_of}
+use Rattle.fleet_commands.specs.Machines.{machine_named, after_act}
 use Rattle.fleet_commands.specs.Logs.{log_named, entry_at, ActsAddThere, HostsAddNone, VmsAddNone, ActsKeepIn}
 use Rattle.fleet_commands.proofs.Lifting.{at_number, after_as, vm_here}
 

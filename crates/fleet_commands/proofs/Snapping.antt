@@ -15,7 +15,8 @@ use Rattle.source_vm.specs.Machine.{MachineState, link_of}
 use Rattle.fleet.specs.Fleet.{FleetState}
 use Rattle.fleet.specs.Lending.{after_lift, after_lower, MayGoBack}
 use Rattle.answers.specs.Answer.{AnswersFor}
-use Rattle.fleet_commands.specs.Machines.{machine_named, entry_of}
+use Rattle.log_model.specs.Entry.{entry_of}
+use Rattle.fleet_commands.specs.Machines.{machine_named}
 use Rattle.fleet_commands.specs.Refusals.{link_told}
 use Rattle.fleet_commands.specs.commands.Snapshot.{snap_act, ids_at, next_snapshot, snapshot_refusal, snapshot_reply, after_snapshot}
 use Rattle.answers.specs.declared.refusal.Refusal.{Refusal}

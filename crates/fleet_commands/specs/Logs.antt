@@ -11,7 +11,8 @@ use Rattle.log_model.specs.declared.entry.Act.TheVariants as acts
 use Rattle.log_model.specs.declared.entry.Entry.{Entry}
 use Rattle.fleet.specs.Fleet.{FleetState, vm_number, vm_of, with_host, with_vm_under}
 use Rattle.fleet.specs.Sound.{AllAreIn}
-use Rattle.fleet_commands.specs.Machines.{machine_named, entry_of, after_act}
+use Rattle.log_model.specs.Entry.{entry_of}
+use Rattle.fleet_commands.specs.Machines.{machine_named, after_act}
 use Rattle.fleet_commands.specs.commands.Snapshot.{snap_act}
 use Rattle.fleet_commands.specs.commands.Write.{fill_act}
 

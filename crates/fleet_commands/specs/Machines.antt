@@ -5,6 +5,7 @@ use Rattle.std.specs.Prelude.{ℕ, List, [], ◌∷◌, ◌++◌, Option, Some, 
 use Rattle.std.specs.Option.{option_map_or}
 use Rattle.reply_json.specs.declared.reply.Reply.{Reply}
 use Rattle.reply_json.specs.declared.reply.Reply.TheVariants.{Done}
+use Rattle.log_model.specs.Entry.{entry_of}
 use Rattle.log_model.specs.declared.entry.Act.{Act}
 use Rattle.log_model.specs.declared.entry.Entry.{Entry}
 use Rattle.log_model.specs.declared.entry.TheConstants.{MIGRATION_CALLER}
@@ -28,9 +29,6 @@ at_machine vm refusal fleet = option_map_or refusal (machine_named vm fleet) (So
 -- that the other one is never given
 abbrev pub reply_at : (vm : List ℕ) → (reply : MachineState → Reply) → FleetState → Reply
 reply_at vm reply fleet = option_map_or reply (machine_named vm fleet) Done
-
-abbrev pub entry_of : Act → Entry
-entry_of act = record { who = MIGRATION_CALLER; act = act }
 
 -- the fleet where the log of the machine of this name has one entry more: what it does may depend
 -- on the log before it

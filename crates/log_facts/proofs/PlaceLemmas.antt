@@ -38,12 +38,12 @@ place_more log i now e less is at =
     ∙ place_last (take i log) e ∙ ap place_facts (sym (take-next_read log i e less is))
 
 -- the first n places
-pub record Kept (log : List Entry) (n : ℕ) (places : List PlaceFacts) : Type 0 where
+pub record AreFirstPlaces (log : List Entry) (n : ℕ) (places : List PlaceFacts) : Type 0 where
   pub long : length places ≡ n
   pub each : (k : ℕ) → k < n → slice_get places k ≡ Some (place_facts (take k log))
 
 pub kept_more : (log : List Entry) (n : ℕ) (places : List PlaceFacts) (x : PlaceFacts)
-    → Kept log n places → x ≡ place_facts (take n log) → Kept log (n + 1) (places ++ x ∷ [])
+    → AreFirstPlaces log n places → x ≡ place_facts (take n log) → AreFirstPlaces log (n + 1) (places ++ x ∷ [])
 kept_more log n places x kept is = record {
   long = omega (arith, length_push places x, kept.long);
   each = λ k less. elim (cases_eq k n) [

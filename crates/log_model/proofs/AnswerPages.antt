@@ -2,6 +2,7 @@
 use Rattle.std.proofs.Common.{◌≡◌, ℕ, ◌<◌, ◌+◌, ◌^◌, ◌≤◌, List, [], ◌∷◌, unwrap_or, Ok, sym, ap, subst, refl, ◌∙◌, arith}
 use Rattle.std.proofs.lemmas.Bool.{lt-ltb, le-ltb}
 use Rattle.std.proofs.lemmas.List.Elements.{All-from_recursion}
+use Rattle.sector_model.proofs.PageLaws.{areas_from-later}
 use Rattle.sector_model.specs.Run.{end_of, in_blocks, areas_of, AreSpacedFrom}
 use Rattle.sector_model.specs.Page.{areas_from}
 use Rattle.sector_model.specs.declared.run.Run.{Run}
@@ -16,14 +17,6 @@ use Rattle.log_model.specs.Query.{changed_areas, accepts}
 use Rattle.log_model.specs.Marks.{mark, in_force, mark_of_id}
 use Rattle.log_model.specs.Touched.{touched, touched_areas}
 use Rattle.log_model.specs.Laws.{AnswersAreAreas, AnswerPagesJoin, AllPagesAreTheAnswer}
-
--- from sector 0 on, nothing is left out or clipped
-areas_from-start : (m : ℕ) (rs : List Run) → AreSpacedFrom m rs → areas_from 0 rs ≡ rs
-areas_from-start m [] h = refl
-areas_from-start m (r ∷ rs) h =
-    let past : 0 < end_of r = omega (arith, h.1) in
-    rw (lt-ltb 0 (end_of r) past, le-ltb r.first 0 (omega arith))
-    (ap (λ (more : List Run). r ∷ more) (areas_from-start (end_of r + 1) rs h.2))
 
 -- an answer is the areas of some blocks
 answered : (machine c d s : ℕ) (since : Since) (log : List Entry) (areas : List Run)
@@ -52,7 +45,7 @@ pub all_pages_are_the_answer : AllPagesAreTheAnswer
 all_pages_are_the_answer machine c d s since log areas pages fits found are =
     let k = kept machine c d s since log areas fits found in
     answer_pages_join machine c d s since log areas fits found 0 pages are
-    ∙ areas_from-start 0 areas k.spaced
+    ∙ areas_from-later 0 0 areas k.spaced (omega arith)
 
 pub answers_are_areas : AnswersAreAreas
 answers_are_areas machine c d s since log areas fits found =

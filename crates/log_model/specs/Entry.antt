@@ -7,6 +7,11 @@ use Rattle.sector_model.specs.declared.sector.Sector.{Sector}
 use Rattle.log_model.specs.declared.entry.Act.{Act}
 use Rattle.log_model.specs.declared.entry.Act.TheVariants.{Write, Snap, Remove, Reset, Enable, Off, On}
 use Rattle.log_model.specs.declared.entry.Entry.{Entry}
+use Rattle.log_model.specs.declared.entry.TheConstants.{MIGRATION_CALLER}
+
+-- the entry of an act of the caller that carries out migrations
+abbrev pub entry_of : Act → Entry
+entry_of act = record { who = MIGRATION_CALLER; act = act }
 
 -- sectors are written
 abbrev pub is_write : Act → Bool

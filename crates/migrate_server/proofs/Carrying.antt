@@ -21,6 +21,7 @@ use Rattle.record_codec.specs.declared.record.Record.{Record}
 use Rattle.reply_json.specs.declared.reply.Reply.{Reply}
 use Rattle.ctl_state.specs.Fold.{IsStateOf, after}
 use Rattle.ctl_state.specs.Value.{CtlValue, no_records, numbered, plan_in}
+use Rattle.ctl_state.proofs.ListFacts.{numbered-there}
 use Rattle.record_keeping.specs.Keeping.{Keeping, keeping, IsReady, IsUnfailed, Keeps, KeepsFront, MayBeKept, StopsAt}
 use Rattle.record_keeping.specs.declared.refusal.NotKept.{NotKept}
 use Rattle.record_keeping.specs.declared.refusal.NotKept.TheVariants.{Fault, Full, NoMemory}
@@ -265,20 +266,9 @@ all_some fleet (vm ∷ vms) h =
     let parts = and_parts (is_tracked fleet vm) (list_all (is_tracked fleet) vms) h in
     (tracked_is_some fleet vm parts.0, all_some fleet vms parts.1)
 
-at_number : {X : Type 0} (xs : List X) (place : ℕ) (x : X) → slice_get xs place ≡ Some x
-    → numbered xs (place + 1) ≡ Some x
-at_number {X = X} xs place x at =
-    let back : place + 1 - 1 ≡ place = omega arith in
-    by (place + 1 == 0) refl (ap (slice_get xs) back ∙ at)
-  where
-    by : (b : Bool) → (place + 1 == 0) ≡ b → slice_get xs (place + 1 - 1) ≡ Some x
-        → cond b None (slice_get xs (place + 1 - 1)) ≡ Some x
-    by true e h = absurd (omega (arith, eqb-true (place + 1) 0 e))
-    by false e h = h
-
 pub have_machines : (fleet : FleetState) (v : CtlValue) → PlansAsk fleet v → HaveMachines fleet v
 have_machines fleet v asks = λ k d within.
     let plan : Plan = get_or v.plans k d in
     All-from_recursion (λ vm. IsSome (machine_of vm fleet)) plan.vms
     (all_some fleet plan.vms
-    (asks (k + 1) plan (at_number v.plans k plan (slice_get-get_or v.plans k d within))))
+    (asks (k + 1) plan (numbered-there v.plans k plan (slice_get-get_or v.plans k d within))))

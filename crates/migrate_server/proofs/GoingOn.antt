@@ -16,7 +16,8 @@ use Rattle.fleet.specs.Laws.{GoesOnFurther, HostsGoOn, VmsGoOn}
 use Rattle.fleet.proofs.Found.{logs_go_on}
 use Rattle.fleet.proofs.Logs.{goes_on_itself, vm_stays}
 use Rattle.answers.specs.Answer.{Answer}
-use Rattle.fleet_commands.specs.Machines.{machine_named, entry_of, after_act}
+use Rattle.log_model.specs.Entry.{entry_of}
+use Rattle.fleet_commands.specs.Machines.{machine_named, after_act}
 use Rattle.fleet_commands.specs.commands.Deed.{act_of}
 use Rattle.fleet_commands.specs.commands.Snapshot.{snap_act}
 use Rattle.fleet_commands.specs.commands.Write.{fill_act}

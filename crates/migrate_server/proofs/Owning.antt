@@ -23,7 +23,8 @@ use Rattle.fleet.specs.Sound.{IsFleet}
 use Rattle.fleet.proofs.Logs.{is_within, log_is_found, others_stay}
 use Rattle.answers.specs.declared.refusal.Refusal.{Refusal}
 use Rattle.answers.specs.declared.refusal.Refusal.TheVariants.{UnknownVm}
-use Rattle.fleet_commands.specs.Machines.{machine_named, entry_of, after_act}
+use Rattle.log_model.specs.Entry.{entry_of}
+use Rattle.fleet_commands.specs.Machines.{machine_named, after_act}
 use Rattle.fleet_commands.specs.Refusals.{link_told}
 use Rattle.fleet_commands.specs.commands.Deed.{act_of}
 use Rattle.fleet_commands.specs.commands.Snapshot.{snap_act}

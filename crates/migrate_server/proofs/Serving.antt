@@ -2,7 +2,7 @@
 use Rattle.std.proofs.Common.{◌≡◌, ◌≢◌, ◌⊎◌, ℕ, suc, ◌+◌, ◌-◌, ◌<◌, ◌≤◌, Bool, true, false, cond, not, if◌then◌else◌, ◌==◌, List, [], ◌∷◌, ◌++◌, length, take, drop, Option, Some, None, Result, Ok, Err, inl, inr, refl, sym, ap, subst, append_assoc, ◌∙◌, arith}
 use Rattle.std.specs.Prelude.{IfSome, IsTrue, OnOk, OnErr, count_by, nat_le}
 use Rattle.std.proofs.KnownBytes.{Appends-nil, Appends-trans, Consumes-nil, Consumes-trans}
-use Rattle.std.proofs.lemmas.Bool.{false≢true, true≢false, false_from_ne_true, and_left, eqb-true, lt-leb, le-leb}
+use Rattle.std.proofs.lemmas.Bool.{false≢true, true≢false, false_from_ne_true, and_left, eqb-true, lt-leb, le-leb, cond-false}
 use Rattle.std.specs.List.{flat_map, list_all}
 use Rattle.std.specs.Io.KnownBytes.{Appends, Consumes, IsAtEnd}
 use Rattle.std.proofs.lemmas.List.{append-nil, length-append, take-append-drop, take_at}
@@ -143,10 +143,6 @@ stopped line (Asks command) why sink old new means (inr stops) =
 
 -- ---- the lines of an input
 
-picked : {A : Type 0} (t : Bool) (x y : A) → t ≡ false → (if t then x else y) ≡ y
-picked false x y h = refl
-picked true x y h = cc
-
 no_lf : (b : ℕ) → b ≢ 10 → (b == 10) ≡ false
 no_lf b other = false_from_ne_true (b == 10) (λ e. other (eqb-true b 10 e))
 
@@ -159,15 +155,15 @@ later_bytes b text h = All-tail (λ x. x ≢ 10) b text h
 lf : (text rest : List ℕ) → HasNoLf text → lines_of (text ++ 10 ∷ rest) ≡ text ∷ lines_of rest
 lf [] rest h = refl
 lf (b ∷ text) rest h =
-    picked (b == 10) ([] ∷ lines_of (text ++ 10 ∷ rest))
+    cond-false (b == 10) ([] ∷ lines_of (text ++ 10 ∷ rest))
     (before_first_line b (lines_of (text ++ 10 ∷ rest))) (no_lf b (first_byte b text h))
     ∙ ap (before_first_line b) (lf text rest (later_bytes b text h))
 
 alone : (text : List ℕ) → HasNoLf text → 0 < length text → lines_of text ≡ text ∷ []
 alone [] h some = absurd (omega (arith, some))
-alone (b ∷ []) h some = picked (b == 10) ([] ∷ []) ((b ∷ []) ∷ []) (no_lf b (first_byte b [] h))
+alone (b ∷ []) h some = cond-false (b == 10) ([] ∷ []) ((b ∷ []) ∷ []) (no_lf b (first_byte b [] h))
 alone (b ∷ c ∷ text) h some =
-    picked (b == 10) ([] ∷ lines_of (c ∷ text)) (before_first_line b (lines_of (c ∷ text)))
+    cond-false (b == 10) ([] ∷ lines_of (c ∷ text)) (before_first_line b (lines_of (c ∷ text)))
     (no_lf b (first_byte b (c ∷ text) h))
     ∙ ap (before_first_line b) (alone (c ∷ text) (later_bytes b (c ∷ text) h) (omega arith))
 

@@ -225,4 +225,5 @@ pub ends_have_no_successor : EndsHaveNoSuccessor
 ends_have_no_successor Completed = (λ t. nothing_behind_completed, λ h. refl)
 ends_have_no_successor Cancelled = (λ t. nothing_behind_cancelled, λ h. refl)
 ends_have_no_successor Failed = (λ t. nothing_behind_failed, λ h. refl)
-ends_have_no_successor _ = (λ t. absurd (false≢true t), λ h. absurd (none-some Cancelled (sym (h Cancel))))
+ends_have_no_successor _ =
+    (λ t. absurd (false≢true t), λ h. absurd (none-some Cancelled (sym (h Cancel))))

@@ -2,6 +2,6 @@ pub mod Counting
 pub mod Known
 pub mod Planned
 pub mod Begun
-pub mod Cut
+pub mod Cutovers
 pub mod Numbers
 pub mod Carried

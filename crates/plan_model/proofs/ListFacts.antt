@@ -11,7 +11,7 @@ use Rattle.std.proofs.lemmas.List.{take_more}
 use Rattle.std.proofs.lemmas.List.Folds.{find-append}
 use Rattle.std.proofs.lemmas.List.Sums.{count_by_more_yes, count_by_more_no}
 use Rattle.std.proofs.lemmas.Map.Text.{is_eq-slice_cmp}
-use Rattle.basics.proofs.Options.{is_some-map, or_none, some_or}
+use Rattle.basics.proofs.Options.{is_some-map, or_none, some_or, none_or}
 use Rattle.basics.specs.Refusal.{IsRefusedWhere}
 use Rattle.basics.specs.declared.number_list.NumberList.{NumberList}
 use Rattle.plan_model.specs.declared.plan.VmFact.{VmFact}
@@ -71,10 +71,6 @@ found_at : (b : Bool) (vm : VmFact) (q : List ℕ) (before : List VmFact) → by
 found_at b vm q before t =
     find-append (λ vm. bytes_eq vm.name q) before (vm ∷ [])
     ∙ ap (λ (x : Bool). option_or (fact_of before q) (cond x (Some vm) None)) t
-
-none_or : (o next : Option VmFact) → is_some o ≡ false → option_or o next ≡ next
-none_or None next e = refl
-none_or (Some vm) next e = cc
 
 -- what the book has of a name, before and after the machine was looked at
 kept_at : (b : Bool) (vm : VmFact) (q : List ℕ) (before : List VmFact) (old new : Option Standing)

@@ -118,7 +118,7 @@ shaped text e =
     record { sized = sized; written = λ k inside. pattern_at shape text k sized parts.1 inside }
 
 -- a moment that a text tells
-record Told (text : List ℕ) (m : Moment) : Type 0 where
+record TellsMoment (text : List ℕ) (m : Moment) : Type 0 where
   shaped_so : Shaped text
   is_one : is_moment (reading text) ≡ true
   at : seconds_before (reading text) ≡ m.0
@@ -126,7 +126,7 @@ record Told (text : List ℕ) (m : Moment) : Type 0 where
 told_where : (text : List ℕ) (m : Moment) (h r : Bool) → has_shape text ≡ h
     → is_moment (reading text) ≡ r
     → (if h && r then Some (record { 0 = seconds_before (reading text) }) else None) ≡ Some m
-    → Told text m
+    → TellsMoment text m
 told_where text m true true a b e = record {
   shaped_so = shaped text a;
   is_one = b;
@@ -136,7 +136,7 @@ told_where text m true true a b e = record {
 told_where text m true false a b e = cc
 told_where text m false r a b e = cc
 
-told : (text : List ℕ) (m : Moment) → moment_of text ≡ Some m → Told text m
+told : (text : List ℕ) (m : Moment) → moment_of text ≡ Some m → TellsMoment text m
 told text m e =
     told_where text m (has_shape text) (is_moment (reading text)) refl refl e
 

@@ -53,14 +53,19 @@ pub fits-back : (c : ℕ) (xs ys : List Write) → AllByRecursion (Fits c) (xs +
 fits-back c [] ys h = h
 fits-back c (x ∷ xs) ys h = fits-back c xs ys h.1
 
+-- a number of the range passes
+pub any_at : (p : ℕ → Bool) (a n k : ℕ) → a ≤ k → k < a + n → p k ≡ true
+    → list_any p (range_with_len a n) ≡ true
+any_at p a zero k from less is = absurd (omega (arith, from, less))
+any_at p a (suc n) k from less is = elim (cases_eq k a) [
+  | inl same ↦ rw (← same, is) refl
+  | inr other ↦
+      ap (λ x. p a || x) (any_at p (a + 1) n k (omega (arith, from, other)) (omega (arith, less)) is)
+      ∙ or-true (p a)
+]
+
 pub any_below : (b a n : ℕ) → a ≤ b → b < a + n → list_any (nat_eq b) (range_with_len a n) ≡ true
-any_below b a zero from less = absurd (omega arith)
-any_below b a (suc n) from less =
-    elim (cases_eq b a) [
-      | inl same ↦ ap (λ x. x || list_any (nat_eq b) (range_with_len (a + 1) n)) (eq-eqb b a same)
-      | inr other ↦ ap (λ x. nat_eq b a || x) (any_below b (a + 1) n (omega arith) (omega arith))
-          ∙ or-true (nat_eq b a)
-    ]
+any_below b a n from less = any_at (nat_eq b) a n b from less (eq-eqb b b refl)
 
 pub not_touched : (c s : ℕ) (ws : List Write) → s < c → in_blocks (touched_blocks c ws) s ≡ false
     → list_any (touches (s / BLOCK_SECTORS)) ws ≡ false

@@ -280,7 +280,7 @@ flushed_is_none_loose capacity v sized = record {
 at-default : (xs : List Bool) (s : ℕ) → get_or xs s false ≡ unwrap_or (slice_get xs s) false
 at-default xs s = sym (unwrap_or-slice_get xs s false)
 
-in-range : (first n s : ℕ) → (s < first) ⊎ (first + n ≤ s)
+pub in-range : (first n s : ℕ) → (s < first) ⊎ (first + n ≤ s)
     → (leb first s && ltb s (first + n)) ≡ false
 in-range first n s (inl less) = ap (λ b. b && ltb s (first + n)) (lt-leb first s less)
 in-range first n s (inr past) = ap (λ b. leb first s && b) (le-ltb s (first + n) past)

@@ -1,5 +1,5 @@
 -- The mask of a page: what one more bit above the others changes, and where a sector stands.
-use Rattle.std.proofs.Common.{Bor, set, not, eqb, is_some, ◌≡◌, ℕ, zero, suc, ◌+◌, ◌-◌, ◌*◌, ◌/◌, ◌%◌, ◌<◌, ◌≤◌, ◌^◌, Bool, true, false, cond, List, [], ◌∷◌, ◌++◌, length, ◌≢◌, Option, Some, None, pow_pos, length-append, sym, ap, subst, refl, ◌∙◌, arith, inl, inr}
+use Rattle.std.proofs.Common.{Bor, set, not, eqb, is_some, ◌≡◌, ℕ, zero, suc, ◌+◌, ◌-◌, ◌*◌, ◌/◌, ◌%◌, ◌<◌, ◌≤◌, ◌^◌, Bool, true, false, cond, List, [], ◌∷◌, ◌++◌, length, ◌≢◌, Option, Some, None, pow_pos, length-append, sym, ap, subst, refl, ◌∙◌, arith, inl, inr, get_or}
 use Rattle.std.specs.Int.{bit_at, w128, trailing_zeros}
 use Rattle.std.specs.Int.RustNames.{bit_and, bit_or, count_ones}
 use Rattle.std.specs.List.{slice_get, list_any, range_with_len}
@@ -11,8 +11,10 @@ use Rattle.std.proofs.lemmas.Nat.{ones_cat, one_shl, mod-mul-add, mod_below, and
 use Rattle.std.proofs.lemmas.Nat.Bits.{bit_at_cat_low, bit_at_cat_high, bit_at_above, bit_at-lt, and_pow, bit_at-trailing_zeros}
 use Rattle.std.specs.Int.Bits.{or_shifted_r}
 use Rattle.std.proofs.lemmas.Bool.{cases_eq, cases_lt, eqb-true, eq-eqb, ne_eqb, or_right}
+use Rattle.std.proofs.lemmas.List.Folds.{list_any_none}
 use Rattle.basics.proofs.ItemAt.{slice_get-front, slice_get-last, slice_get-set_same, slice_get-set_other}
 use Rattle.sector_model.specs.declared.sector.Sector.{Sector}
+use Rattle.sector_model.proofs.Touched.{any_at}
 use Rattle.basics.specs.Bits.{has_bit}
 use Rattle.snapshot_chain.specs.Page128.{PageState, no_sectors, rank, sector_at, with_sector, IsPage, IsReplaced}
 
@@ -218,19 +220,6 @@ pub wider : (m p : ℕ) → m < 2 ^ p → m < 2 ^ (p + 1)
 wider m p above = omega (arith, above, pow-add 2 p 1)
 
 -- a page with a bit has a sector
-any_at : (p : ℕ → Bool) (a n k : ℕ) → a ≤ k → k < a + n → p k ≡ true
-    → list_any p (range_with_len a n) ≡ true
-any_at p a zero k from less is = absurd (omega (arith, from, less))
-any_at p a (suc n) k from less is = elim (cases_eq k a) [
-  | inl same ↦ rw (← same, is) refl
-  | inr other ↦ or_right (p a) (list_any p (range_with_len (a + 1) n))
-      (any_at p (a + 1) n k (omega (arith, from, other)) (omega (arith, less)) is)
-]
-
-none_at : (p : ℕ → Bool) (xs : List ℕ) → ((k : ℕ) → p k ≡ false) → list_any p xs ≡ false
-none_at p [] none = refl
-none_at p (x ∷ xs) none = rw (none x) (none_at p xs none)
-
 some_item : {X : Type 0} (xs : List X) (i : ℕ) → i < length xs → is_some (slice_get xs i) ≡ true
 some_item [] i less = absurd (omega (arith, less))
 some_item (x ∷ xs) zero less = refl
@@ -248,8 +237,8 @@ has_some page is some =
 pub has_none : (page : PageState) → page.mask ≡ 0
     → list_any (λ k. is_some (sector_at page k)) (range_with_len 0 128) ≡ false
 has_none page empty =
-    none_at (λ k. is_some (sector_at page k)) (range_with_len 0 128)
-    (λ k. ap is_some (empty_none page k empty))
+    list_any_none (λ k. is_some (sector_at page k)) (range_with_len 0 128)
+    (λ i k less. ap is_some (empty_none page (get_or (range_with_len 0 128) i k) empty))
 
 -- a page with one sector
 pub lone_here : (offset : ℕ) (sector : Sector)

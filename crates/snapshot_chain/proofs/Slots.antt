@@ -37,7 +37,8 @@ added_of other old new (inr (there, none, made)) some = inr there
 pub slots_within : (c : ℕ) (other old new : LayerState) → AddsSlots other old new → IsWithin c other
     → IsWithin c old → IsWithin c new
 slots_within c other old new added low up block some =
-    elim (added_of (slot_of other block) (slot_of old block) (slot_of new block) (added block) some) [
+    elim
+    (added_of (slot_of other block) (slot_of old block) (slot_of new block) (added block) some) [
       | inl was ↦ up block was
       | inr there ↦ low block there
     ]
@@ -104,7 +105,8 @@ pub written_within : (c : ℕ) (old slots put new grown : LayerState) → AddsSl
     → ((b : ℕ) → slot_of put b ≡ option_or (slot_of grown b) (slot_of slots b))
     → KeepsSlots new put → IsWithin c grown → IsWithin c old → IsWithin c new
 written_within c old slots put new grown added puts kept more was block some =
-    elim (put_of (slot_of grown block) (slot_of slots block) (rw (puts block) at (kept block some))) [
+    elim
+    (put_of (slot_of grown block) (slot_of slots block) (rw (puts block) at (kept block some))) [
       | inl page ↦ more block page
       | inr slot ↦ slots_within c grown old slots added more was block slot
     ]

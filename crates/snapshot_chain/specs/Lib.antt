@@ -1,5 +1,5 @@
 pub mod Page128
-pub mod KeptPage
+pub mod PageForm
 pub mod Layer
 pub mod Layers
 pub mod Chain

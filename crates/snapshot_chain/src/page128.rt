@@ -2,7 +2,7 @@
 ghost use Rattle.std.specs.Prelude.{◌≡◌, ◌+◌, ◌*◌, ◌<◌, ◌≤◌, ◌^◌, [], length, IsTrue, IsSome, is_some, ◌↔◌, IfOk, OnErr, None, ℕ};
 ghost use Rattle.std.specs.Option.{option_copied};
 ghost use Rattle.snapshot_chain.specs.Page128.{PageState, IsPage, no_sectors, sector_at, run_at, with_sector, IsJoined, IsRewritten, IsGrown, IsOverwritten, IsReplaced, IsAppended};
-ghost use Rattle.snapshot_chain.specs.KeptPage.{page_state, IsStored};
+ghost use Rattle.snapshot_chain.specs.PageForm.{page_state, IsOfBlock};
 
 use crate::placed_sectors::PlacedSectors;
 use sector_model::{BLOCK_SECTORS, NoMemory, Sector};
@@ -15,12 +15,12 @@ use std::{array, mem};
 /// A page takes memory for the sectors that it has, and no more.
 #[derive(Debug, Drop)]
 pub struct Page128 {
-    kept: Kept,
+    form: PageForm,
 }
 
 /// How a page keeps its sectors. A lone one stands by itself, since then it takes the least memory.
 #[derive(Debug, Drop)]
-enum Kept {
+enum PageForm {
     Nothing,
     Lone(u8, Box<Sector>),
     Many(Box<PlacedSectors>),
@@ -31,11 +31,11 @@ impl Model for Page128 {
 
     ghost Value = { PageState };
 
-    ghost use Rattle.snapshot_chain.specs.KeptPage.{page_state, IsStored};
+    ghost use Rattle.snapshot_chain.specs.PageForm.{page_state, IsOfBlock};
 
-    ghost view = { λ a. page_state a.kept };
+    ghost view = { λ a. page_state a.form };
 
-    ghost invariant = { λ a. IsStored a.kept };
+    ghost invariant = { λ a. IsOfBlock a.form };
 }
 
 impl Page128 {
@@ -44,7 +44,7 @@ impl Page128 {
         ensures { result ≡ no_sectors }
     {
         Page128 {
-            kept: Kept::Nothing,
+            form: PageForm::Nothing,
         }
     }
 
@@ -53,10 +53,10 @@ impl Page128 {
         ensures mask { result ≡ self.now.mask }
         ensures page { IsPage self.now }
     {
-        match &self.kept {
-            Kept::Nothing => 0,
-            Kept::Lone(offset, _sector) => 1u128 << *offset,
-            Kept::Many(placed) => placed.mask(),
+        match &self.form {
+            PageForm::Nothing => 0,
+            PageForm::Lone(offset, _sector) => 1u128 << *offset,
+            PageForm::Many(placed) => placed.mask(),
         }
     }
 
@@ -64,10 +64,10 @@ impl Page128 {
     pub fn sectors(&self) -> &[Sector]
         ensures { result.now ≡ self.now.sectors }
     {
-        match &self.kept {
-            Kept::Nothing => &[],
-            Kept::Lone(_offset, sector) => array::from_ref(sector.as_ref()).as_slice(),
-            Kept::Many(placed) => placed.as_slice(),
+        match &self.form {
+            PageForm::Nothing => &[],
+            PageForm::Lone(_offset, sector) => array::from_ref(sector.as_ref()).as_slice(),
+            PageForm::Many(placed) => placed.as_slice(),
         }
     }
 
@@ -84,16 +84,16 @@ impl Page128 {
         requires { offset < BLOCK_SECTORS }
         ensures { option_copied result ≡ sector_at self.now offset }
     {
-        match &self.kept {
-            Kept::Nothing => None,
-            Kept::Lone(own, sector) => {
+        match &self.form {
+            PageForm::Nothing => None,
+            PageForm::Lone(own, sector) => {
                 if u64::from(*own) == offset {
                     Some(sector.as_ref())
                 } else {
                     None
                 }
             }
-            Kept::Many(placed) => placed.get(offset),
+            PageForm::Many(placed) => placed.get(offset),
         }
     }
 
@@ -110,21 +110,21 @@ impl Page128 {
         requires above { self.mask < 2 ^ offset }
         ensures { IfOk result (λ page. page ≡ with_sector self offset sector.now) }
     {
-        let kept = match self.kept {
-            Kept::Nothing => Kept::Lone(offset as u8, Box::new(alloc, *sector)?),
-            Kept::Lone(own, lone) => {
+        let form = match self.form {
+            PageForm::Nothing => PageForm::Lone(offset as u8, Box::new(alloc, *sector)?),
+            PageForm::Lone(own, lone) => {
                 let mut placed = PlacedSectors::with_room(alloc, room)?;
                 placed.append(u64::from(own), *lone)?;
                 placed.append(offset, *sector)?;
-                Kept::Many(Box::new(alloc, placed)?)
+                PageForm::Many(Box::new(alloc, placed)?)
             }
-            Kept::Many(many) => {
+            PageForm::Many(many) => {
                 let mut placed = many;
                 placed.append(offset, *sector)?;
-                Kept::Many(placed)
+                PageForm::Many(placed)
             }
         };
-        Ok(Page128 { kept })
+        Ok(Page128 { form })
     }
 
     /// The sectors of both pages; where both have one, the upper page's. It answers only want of
@@ -156,7 +156,7 @@ impl Page128 {
             (λ added. IsAppended added offset sectors.now self.old self.new) }
         ensures err { OnErr result (self.new ≡ self.old) }
     {
-        let Kept::Many(placed) = &mut self.kept else {
+        let PageForm::Many(placed) = &mut self.form else {
             return Ok(false);
         };
         let is_within = sectors.len() as u64 <= BLOCK_SECTORS - offset;
@@ -248,31 +248,31 @@ impl Page128 {
         requires { offset < BLOCK_SECTORS }
         ensures { IsReplaced self.old offset sector.now self.new }
     {
-        let kept = mem::replace(&mut self.kept, Kept::Nothing);
-        self.kept = replaced(kept, offset, sector);
+        let form = mem::replace(&mut self.form, PageForm::Nothing);
+        self.form = replaced(form, offset, sector);
     }
 }
 
 /// What a page keeps, with another sector at an offset that has one.
-fn replaced(kept: Kept, offset: u64, sector: &Sector) -> Kept
+fn replaced(form: PageForm, offset: u64, sector: &Sector) -> PageForm
     requires offset { offset < BLOCK_SECTORS }
-    requires stored { IsStored kept }
-    ensures sectors { IsReplaced (page_state kept) offset sector.now (page_state result) }
-    ensures stored { IsStored result }
+    requires stored { IsOfBlock form }
+    ensures sectors { IsReplaced (page_state form) offset sector.now (page_state result) }
+    ensures stored { IsOfBlock result }
 {
-    match kept {
-        Kept::Nothing => Kept::Nothing,
-        Kept::Lone(own, lone) => {
+    match form {
+        PageForm::Nothing => PageForm::Nothing,
+        PageForm::Lone(own, lone) => {
             let mut lone = lone;
             if u64::from(own) == offset {
                 *lone = *sector;
             }
-            Kept::Lone(own, lone)
+            PageForm::Lone(own, lone)
         }
-        Kept::Many(many) => {
+        PageForm::Many(many) => {
             let mut placed = many;
             placed.replace(offset, sector);
-            Kept::Many(placed)
+            PageForm::Many(placed)
         }
     }
 }

@@ -4,6 +4,7 @@ use Rattle.std.specs.List.{slice_get}
 use Rattle.std.proofs.lemmas.Bool.{lt-ltb}
 use Rattle.std.proofs.lemmas.Option.{slice_get-get_or}
 use Rattle.std.proofs.lemmas.List.{get_or-replicate, length-replicate}
+use Rattle.basics.proofs.ItemAt.{slice_get-replicate}
 use Rattle.basics.proofs.Truth.{second_fails}
 use Rattle.sector_model.specs.Sector.{zero_sector}
 use Rattle.sector_model.specs.Run.{in_blocks}
@@ -14,13 +15,6 @@ use Rattle.log_model.specs.Touched.{touched}
 use Rattle.log_model.proofs.TouchedLaws.{untouched_stays}
 use Rattle.source_disk.specs.SourceDisk.{number_of, capacity_of}
 use Rattle.source_disk.specs.Laws.{UntouchedIsZero}
-
-zero_at : (c sector : ℕ) → sector < c
-    → slice_get (replicate c zero_sector) sector ≡ Some zero_sector
-zero_at c sector less =
-    slice_get-get_or (replicate c zero_sector) sector zero_sector
-    (let long = length-replicate c zero_sector in omega (arith, long, less))
-    ∙ ap (λ (x : Sector). Some x) (get_or-replicate c sector zero_sector zero_sector less)
 
 pub untouched_is_zero : UntouchedIsZero
 untouched_is_zero disks d log s sector legal has less none =

@@ -10,7 +10,7 @@ use Rattle.sector_model.specs.Sector.{zero_sector}
 use Rattle.sector_model.specs.VolumeContents.{VolumeContents, IsSized, is_loose, volume_written, IsBrokenAt, DiffersOnlyWhereLoose}
 use Rattle.sector_model.specs.declared.sector.Sector.{Sector}
 use Rattle.basics.proofs.Replaced.{replaced-outside, replaced-within}
-use Rattle.sector_model.proofs.Volumes.{loose_then, broken_is_written, written-sized}
+use Rattle.sector_model.proofs.Volumes.{loose_then, broken_is_written, written-sized, in-range}
 use Rattle.log_model.specs.declared.entry.Entry.{Entry}
 use Rattle.log_model.specs.declared.link.Snapped.{Snapped}
 use Rattle.log_model.specs.Touched.{touched}
@@ -30,17 +30,11 @@ module _ (c first : ℕ) (xs : List Sector) (v : VolumeContents) (sized : IsSize
       → slice_get (volume_written first xs v).sectors s ≡ slice_get xs (s - first)
   inside s from less = replaced-within v.sectors xs first (omega (arith, fits, sized.0)) s from less
 
-  not-in-range : (s : ℕ) → (s < first) ⊎ (first + length xs ≤ s)
-      → (leb first s && ltb s (first + length xs)) ≡ false
-  not-in-range s (inl less) = ap (λ b. b && ltb s (first + length xs)) (lt-leb first s less)
-  not-in-range s (inr past) =
-      and_right (leb first s) (ltb s (first + length xs)) (le-ltb s (first + length xs) past)
-
   pub loose-outside : (s : ℕ) → (s < first) ⊎ (first + length xs ≤ s)
       → is_loose s (volume_written first xs v) ≡ is_loose s v
   loose-outside s out =
       (loose_then c v s sized).written first xs fits
-      ∙ ap (λ b. is_loose s v || b) (not-in-range s out) ∙ or-false (is_loose s v)
+      ∙ ap (λ b. is_loose s v || b) (in-range first (length xs) s out) ∙ or-false (is_loose s v)
 
 -- ---- a volume on a base
 

@@ -14,7 +14,8 @@ use Rattle.log_model.specs.declared.entry.Owner.TheVariants.{Operator}
 use Rattle.log_model.specs.declared.entry.Entry.{Entry}
 use Rattle.source_vm.specs.Machine.{MachineState}
 use Rattle.fleet.specs.Fleet.{FleetState}
-use Rattle.fleet_commands.specs.Machines.{at_machine, reply_at, entry_of, after_act}
+use Rattle.log_model.specs.Entry.{entry_of}
+use Rattle.fleet_commands.specs.Machines.{at_machine, reply_at, after_act}
 use Rattle.fleet_commands.specs.Refusals.{link_told}
 use Rattle.answers.specs.declared.refusal.Refusal.{Refusal}
 

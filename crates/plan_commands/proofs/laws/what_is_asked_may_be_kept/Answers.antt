@@ -1,5 +1,5 @@
 use Rattle.plan_commands.proofs.Begun.{starts_may_be_kept}
-use Rattle.plan_commands.proofs.Cut.{cutovers_may_be_kept}
+use Rattle.plan_commands.proofs.Cutovers.{cutovers_may_be_kept}
 use Rattle.plan_commands.proofs.Planned.{plans_may_be_kept}
 use Rattle.plan_commands.proofs.laws.what_is_asked_may_be_kept.Goals as goal
 

@@ -2,13 +2,13 @@ use Rattle.std.proofs.Common.{◌≡◌, subst, sym, ap, bit_and, w64}
 use Rattle.std.specs.Int.{bit_not}
 use Rattle.change_tracker.specs.declared.maps.Maps.{Maps}
 use Rattle.change_tracker.specs.Touches.{TouchState, IsAdded}
-use Rattle.change_tracker.proofs.Marking.{Told, room_for_new, none_added, first_marked, changes_marked}
+use Rattle.change_tracker.proofs.Marking.{AreNewBits, room_for_new, none_added, first_marked, changes_marked}
 use Rattle.change_tracker.proofs.maps.Maps.mark_word.Goals as goal
 use Rattle.change_tracker.proofs.maps.Maps.mark_word.Goals.{then-new-ne0, else-new-ne0}
 
 pub add-requires : goal.add-requires
 add-requires c =
-    let told : Told c.args.self.now c.args.run c.args.freezes c.args.word c.bits_of-bits.result
+    let told : AreNewBits c.args.self.now c.args.run c.args.freezes c.args.word c.bits_of-bits.result
     c.known.result = record
     { met = c.bits_of-bits.ensures; old = c.known.ensures; fits = c.known.type_inv } in
     room_for_new c.args.self.now c.args.run c.args.freezes c.args.word c.bits_of-bits.result
@@ -16,7 +16,7 @@ add-requires c =
 
 pub returns-clause-touched : goal.returns-clause-touched
 returns-clause-touched c =
-    let told : Told c.args.self.now c.args.run c.args.freezes c.args.word c.bits_of-bits.result
+    let told : AreNewBits c.args.self.now c.args.run c.args.freezes c.args.word c.bits_of-bits.result
     c.known.result = record
     { met = c.bits_of-bits.ensures; old = c.known.ensures; fits = c.known.type_inv } in
     let new : IsAdded c.args.self.now.first c.if-new-ne0.self.first c.args.word c.args.freezes

@@ -3,13 +3,13 @@ use Rattle.std.specs.Int.{bit_not}
 use Rattle.std.proofs.lemmas.Result.{on_ok_weaker}
 use Rattle.change_tracker.specs.declared.maps.Maps.{Maps}
 use Rattle.change_tracker.specs.Touches.{TouchState, HasSame, HasRoom}
-use Rattle.change_tracker.proofs.Marking.{Told, word_room}
+use Rattle.change_tracker.proofs.Marking.{AreNewBits, word_room}
 use Rattle.change_tracker.proofs.maps.Maps.reserve_word.Goals as goal
 use Rattle.change_tracker.proofs.maps.Maps.reserve_word.Goals.{then-bits-known-ne0+in_ok-reserve, else-bits-known-ne0}
 
 pub returns-clause-room : goal.returns-clause-room
 returns-clause-room c =
-    let told : Told c.args.self.now c.args.run c.args.freezes c.args.word c.bits_of-bits.result
+    let told : AreNewBits c.args.self.now c.args.run c.args.freezes c.args.word c.bits_of-bits.result
     c.known.result = record
     { met = c.bits_of-bits.ensures; old = c.known.ensures; fits = c.known.type_inv } in
     let P : TouchState → Type 0 = λ t. HasSame c.args.self.now.first t in

@@ -2,10 +2,10 @@ use Rattle.std.proofs.Common.{◌≡◌, ◌-◌, ℕ, List, take, drop, length,
 use Rattle.std.specs.List.{list_any}
 use Rattle.std.specs.List.Sorted.{IsNonDecreasingBy}
 use Rattle.std.proofs.lemmas.List.{take_all}
-use Rattle.std.proofs.lemmas.List.Sorted.{IsPartitionPoint-from_clause, IsPartitionedBy-ltb}
+use Rattle.std.proofs.lemmas.List.Sorted.{IsPartitionPoint-from_clause, IsPartitionedBy-ltb, IsNonDecreasingBy-drop}
 use Rattle.change_tracker.specs.declared.word.Touch.{Touch}
 use Rattle.change_tracker.specs.Touches.{WordState, is_of}
-use Rattle.change_tracker.proofs.Windows.{Splits, rise, rise_drop, inside}
+use Rattle.change_tracker.proofs.Windows.{Splits, rise, inside}
 use Rattle.change_tracker.proofs.word.Word.earlier_in.Goals as goal
 
 pub returns : goal.returns
@@ -22,7 +22,7 @@ returns c =
     take_all (length xs - start) (drop start xs) (omega (arith, length-drop start xs)) in
     let up_later : IsNonDecreasingBy (λ x. x.freezes) later =
     (let P : List Touch → Type 0 = λ ys. IsNonDecreasingBy (λ x. x.freezes) ys in
-    subst P (sym whole) (rise_drop xs start up)) in
+    subst P (sym whole) (IsNonDecreasingBy-drop (λ x. x.freezes) start xs up)) in
     let low : Splits c.args.window.from xs start =
     IsPartitionPoint-from_clause (λ x. ltb x.freezes c.args.window.from) xs start
     c.partition_point-start.ensures.partitioned

@@ -2,7 +2,7 @@
 use Rattle.std.proofs.Common.{◌≡◌, true, false, is_some, None, refl, ap, ◌∙◌, sym}
 use Rattle.basics.proofs.Options.{none_is}
 use Rattle.fleet.specs.NameMap.{place_of}
-use Rattle.fleet.proofs.Kept.{IsKept-host}
+use Rattle.fleet.proofs.FieldLemmas.{IsKept-host}
 use Rattle.fleet.proofs.Refused.{host_taken, host_full, host_fits, none_stands}
 use Rattle.fleet.proofs.fleet.Fleet.add_host.Goals as goal
 

@@ -6,7 +6,7 @@ use Rattle.source_vm.specs.Machine.{fresh, may_have_disks}
 use Rattle.fleet.specs.NameMap.{place_of}
 use Rattle.fleet.specs.Fleet.{host_place, with_vm, with_vm_under}
 use Rattle.fleet.specs.Fields.{fleet_state}
-use Rattle.fleet.proofs.Kept.{IsKept-vm, shows_vm, host_place-kept}
+use Rattle.fleet.proofs.FieldLemmas.{IsKept-vm, shows_vm, host_place-kept}
 use Rattle.fleet.proofs.Refused.{vm_taken, no_host, bad_size, vms_full, vm_fits, none_stands}
 use Rattle.fleet.proofs.fleet.Fleet.add_vm.Goals as goal
 

@@ -4,8 +4,8 @@ use Rattle.snapshot_chain.proofs.page128.Page128.with.Goals.{in-Nothing+in_ok-ne
 
 pub invariant_of-result : goal.invariant_of-result
 invariant_of-result c = elim c.match-self.branch [
-  | in-Nothing+in_ok-new-in-Nothing w ↦ rw w.kept-is c.requires.offset
+  | in-Nothing+in_ok-new-in-Nothing w ↦ rw w.form-is c.requires.offset
   | in-Lone+in_ok-placed-in-Lone+in_ok-append-in-Lone+in_ok-append-in-Lone-2+in_ok-new-in-Lone w ↦
-      rw w.kept-is tt
-  | in-Many+in_ok-append-in-Many w ↦ rw w.kept-is tt
+      rw w.form-is tt
+  | in-Many+in_ok-append-in-Many w ↦ rw w.form-is tt
 ]
