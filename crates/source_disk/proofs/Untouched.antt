@@ -25,4 +25,4 @@ untouched_is_zero disks d log s sector legal has less none =
     (sym (in_runs_of (in_blocks blocks) (capacity_of d) sector) ∙ none) in
     untouched_stays disks (capacity_of d) (number_of d) 0 (mark s log) log sector legal has
     (omega arith) outside
-    ∙ zero_at (capacity_of d) sector less
+    ∙ slice_get-replicate (capacity_of d) sector zero_sector less
