@@ -1,4 +1,4 @@
--- No text has two answers.
+-- No text has two answers: which form it has decides.
 use Rattle.std.proofs.Common.{◌≡◌, ℕ, ◌^◌, ◌<◌, ◌≤◌, List, Contains, Result, Ok, Err, decimal, refl, sym, ap, ◌∙◌}
 use Rattle.change_id.specs.declared.ChangeId.{ChangeId}
 use Rattle.change_id.specs.declared.IdRefused.{IdRefused}

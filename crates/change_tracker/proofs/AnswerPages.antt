@@ -1,4 +1,4 @@
--- The pages of an answer.
+-- The pages of an answer of maps, one behind another, are all its areas.
 use Rattle.std.proofs.Common.{◌≡◌, ℕ, ◌≤◌, List, Bool, true, false, cond, Option, unwrap_or, Ok, Err, sym, subst}
 use Rattle.sector_model.specs.Run.{in_blocks, areas_of, met_blocks}
 use Rattle.sector_model.specs.declared.run.Run.{Run}

@@ -76,7 +76,8 @@ new_fits bits known less = omega (arith, less, and_le_l bits (bit_not w64 known)
 
 -- the block of the lowest new bit
 pub a_new_block : (maps : Maps) (run : Run) (freezes word bits known : ℕ)
-    → AreNewBits maps run freezes word bits known → bits < 2 ^ 64 → bit_and bits (bit_not w64 known) ≢ 0
+    → AreNewBits maps run freezes word bits known → bits < 2 ^ 64
+    → bit_and bits (bit_not w64 known) ≢ 0
     → (b : ℕ) × (b / 64 ≡ word) × (is_met_in word run b ≡ true)
     × (is_touched_in maps.first (window 0 (freezes + 1)) b ≡ false)
 a_new_block maps run freezes word bits known told less some =
@@ -97,7 +98,8 @@ a_new_block maps run freezes word bits known told less some =
     )
 
 pub room_for_new : (maps : Maps) (run : Run) (freezes word bits known : ℕ)
-    → AreNewBits maps run freezes word bits known → bits < 2 ^ 64 → bit_and bits (bit_not w64 known) ≢ 0
+    → AreNewBits maps run freezes word bits known → bits < 2 ^ 64
+    → bit_and bits (bit_not w64 known) ≢ 0
     → HasRoomWhere (is_met_in word run) maps freezes → HasRoom maps.first word freezes
 room_for_new maps run freezes word bits known told less some room =
     let new = a_new_block maps run freezes word bits known told less some in

@@ -1,4 +1,4 @@
--- A number in a range.
+-- A number in a range, with both of its ends.
 use Rattle.std.specs.Prelude.{ℕ, ◌≤◌}
 
 abbrev pub IsWithin : (low high number : ℕ) → Type 0

@@ -1,4 +1,4 @@
-//! Why a line is no command.
+//! Why a line is no command: the refusals in the order in which they are tested.
 ghost use Rattle.std.specs.Prelude.{◌≡◌};
 ghost use Rattle.cmd_json.specs.Refusal.{refusal_number};
 

@@ -1,4 +1,4 @@
-//! Where bytes go.
+//! Where bytes go: replies are written here, and a failure is counted.
 ghost use Rattle.std.specs.Prelude.{◌≡◌, OnOk, OnErr};
 ghost use Rattle.std.specs.Io.KnownBytes.{Appends};
 ghost use Rattle.basics.specs.Faults.{HasCause};

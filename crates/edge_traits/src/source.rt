@@ -1,4 +1,4 @@
-//! Where bytes come from.
+//! Where bytes come from: commands are read here, and a failure is counted.
 ghost use Rattle.std.specs.Prelude.{◌≡◌, ◌<◌, length};
 ghost use Rattle.std.specs.Io.{ReadsAtMost};
 ghost use Rattle.std.specs.Io.KnownBytes.{ReadConsumes};

@@ -1,4 +1,4 @@
-//! A disk that stops.
+//! A disk that stops at a call, as at a loss of power: what a journal is tested on.
 ghost use Rattle.std.specs.Prelude.{◌≡◌, ◌+◌, ◌≤◌, IsTrue, IsErr, length, take, drop, option_map, false, IfSome, IfOk, OnOk, OnErr};
 ghost use Rattle.std.specs.Option.{ForSome};
 ghost use Rattle.basics.specs.Faults.{HasCause, counted_by, Rose};

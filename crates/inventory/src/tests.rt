@@ -1,4 +1,4 @@
-//! Each call once.
+//! Each call once, on a fleet of two machines.
 ghost use Rattle.std.specs.Prelude.{IfOk};
 ghost use Rattle.fleet.specs.Sound.{AllAreIn};
 

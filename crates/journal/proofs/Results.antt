@@ -1,4 +1,4 @@
--- Facts of results.
+-- Facts of results: one refusal for another, and a fact of whatever value there is.
 use Rattle.std.proofs.Common.{◌≡◌, refl, sym}
 use Rattle.std.specs.Prelude.{Result, Ok, Err, OnOk, OnErr, Option, Some, None, IfSome}
 use Rattle.std.specs.Option.{ForSome}

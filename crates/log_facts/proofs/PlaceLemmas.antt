@@ -43,7 +43,8 @@ pub record AreFirstPlaces (log : List Entry) (n : ℕ) (places : List PlaceFacts
   pub each : (k : ℕ) → k < n → slice_get places k ≡ Some (place_facts (take k log))
 
 pub kept_more : (log : List Entry) (n : ℕ) (places : List PlaceFacts) (x : PlaceFacts)
-    → AreFirstPlaces log n places → x ≡ place_facts (take n log) → AreFirstPlaces log (n + 1) (places ++ x ∷ [])
+    → AreFirstPlaces log n places → x ≡ place_facts (take n log)
+    → AreFirstPlaces log (n + 1) (places ++ x ∷ [])
 kept_more log n places x kept is = record {
   long = omega (arith, length_push places x, kept.long);
   each = λ k less. elim (cases_eq k n) [

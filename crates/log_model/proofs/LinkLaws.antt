@@ -1,4 +1,4 @@
--- Calls of a link in a row.
+-- Calls of a link in a row only go on: the log gets longer, and nothing else changes.
 use Rattle.std.proofs.Common.{◌≡◌, ℕ, List, [], ◌∷◌, ◌++◌, length, take, drop, cond, true, Result, Ok, Err, subst, sym, ap, refl, ◌∙◌, arith, append_assoc}
 use Rattle.std.specs.List.{filter}
 use Rattle.std.proofs.lemmas.Bool.{eq-eqb}

@@ -1,4 +1,4 @@
--- A line means one thing.
+-- A line means one thing: the commands are told apart by their kinds.
 use Rattle.std.proofs.Common.{◌≡◌, ℕ, Bool, true, false, nat_le, length, List, Option, Some, Result, Ok, Err, if◌then◌else◌, refl, sym, ap, ◌∙◌}
 use Rattle.std.proofs.lemmas.Bool.{true≢false, le-leb}
 use Rattle.std.proofs.lemmas.Option.{same_Some}

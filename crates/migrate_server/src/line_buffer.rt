@@ -1,4 +1,4 @@
-//! A line while it is read.
+//! A line while it is read: its bytes so far, or only that it is too long.
 ghost use Rattle.std.specs.Prelude.{◌≡◌, ◌<◌, ◌≤◌, ◌++◌, ◌==◌, List, ℕ, [], length, OnOk, OnErr};
 ghost use Rattle.migrate_server.specs.declared.line.TheConstants.{LINE_LIMIT};
 

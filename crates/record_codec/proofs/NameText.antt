@@ -1,4 +1,4 @@
--- A name is text.
+-- A name is text: its bytes are ASCII, so each record can be shown.
 use Rattle.std.proofs.Common.{◌≡◌, ℕ, ◌<◌, ◌≤◌, ◌&&◌, inl, inr, true, List, length, get_or, arith, leb}
 use Rattle.std.specs.List.{list_all}
 use Rattle.std.specs.Str.{IsUtf8}

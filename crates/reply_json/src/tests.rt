@@ -1,3 +1,4 @@
+//! Each reply as its line, byte for byte.
 use crate::{
     Area, Carried, CheckLine, GuestDone, HostLine, MigLine, Reply, Sequence, Text, VmLine,
     reply_line,

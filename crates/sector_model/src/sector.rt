@@ -1,4 +1,4 @@
-//! Sectors, and lists of them.
+//! Sectors, and the list of them that a written entry keeps.
 ghost use Rattle.std.specs.Prelude.{◌≡◌, IfOk, List};
 
 mod replaced;

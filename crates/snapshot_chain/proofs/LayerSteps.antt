@@ -1,4 +1,4 @@
--- Steps on a list of layers.
+-- What a merge leaves of the list of layers, and what a read that is refused answers.
 use Rattle.std.proofs.Common.{◌≡◌, ℕ, zero, suc, ◌+◌, ◌<◌, ◌≤◌, List, [], ◌∷◌, length, set, get_or, Bool, true, false, cond, ◌&&◌, leb, nat_eq, Option, Some, None, Ok, Err, length-set, sym, ap, subst, refl, ◌∙◌, arith}
 use Rattle.std.specs.List.{remove, position, AllByRecursion}
 use Rattle.basics.specs.Refusal.{IsRefusedBy, IsRefusedOr}

@@ -1,4 +1,4 @@
--- One layer more of a read.
+-- A read goes down layer by layer: what one layer more gives to it.
 use Rattle.std.proofs.Common.{◌≡◌, ℕ, zero, suc, ◌+◌, ◌-◌, ◌*◌, ◌/◌, ◌%◌, ◌<◌, ◌≤◌, min, max, inl, inr, length-take, length-drop, length-append, List, [], ◌∷◌, ◌++◌, length, take, drop, get_or, Bool, true, false, Option, Some, None, is_some, sym, ap, subst, refl, ◌∙◌, arith}
 use Rattle.std.specs.Option.{option_or, option_and_then, unwrap_or}
 use Rattle.std.specs.Prelude.{◌==◌, if◌then◌else◌}

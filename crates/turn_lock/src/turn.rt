@@ -1,4 +1,4 @@
-//! The lock.
+//! The lock: one caller at a time has the value, in the order in which they came.
 ghost use Rattle.std.specs.Prelude.{◌≡◌, ◌≢◌, ℕ, ◌+◌, ◌-◌, ◌%◌, ◌^◌, ◌<◌, [], ◌∷◌, length, true, false, None, Some, All, if◌then◌else◌, is_ok, ◌≤◌, MatchResult, IfOk, IfErr, drop};
 ghost use Rattle.basics.specs.Prefix.{IsPrefix};
 ghost use Rattle.turn_lock.specs.Story.{AddsUnder, added_by};
