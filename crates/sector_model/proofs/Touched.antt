@@ -61,7 +61,7 @@ any_at p a (suc n) k from less is = elim (cases_eq k a) [
   | inl same ↦ rw (← same, is) refl
   | inr other ↦
       ap (λ x. p a || x)
-          (any_at p (a + 1) n k (omega (arith, from, other)) (omega (arith, less)) is)
+      (any_at p (a + 1) n k (omega (arith, from, other)) (omega (arith, less)) is)
       ∙ or-true (p a)
 ]
 

@@ -9,7 +9,7 @@ use Rattle.change_tracker.proofs.maps.Maps.mark_word.Goals.{then-new-ne0, else-n
 pub add-requires : goal.add-requires
 add-requires c =
     let told : AreNewBits c.args.self.now c.args.run c.args.freezes c.args.word
-        c.bits_of-bits.result
+    c.bits_of-bits.result
     c.known.result = record
     { met = c.bits_of-bits.ensures; old = c.known.ensures; fits = c.known.type_inv } in
     room_for_new c.args.self.now c.args.run c.args.freezes c.args.word c.bits_of-bits.result
@@ -18,7 +18,7 @@ add-requires c =
 pub returns-clause-touched : goal.returns-clause-touched
 returns-clause-touched c =
     let told : AreNewBits c.args.self.now c.args.run c.args.freezes c.args.word
-        c.bits_of-bits.result
+    c.bits_of-bits.result
     c.known.result = record
     { met = c.bits_of-bits.ensures; old = c.known.ensures; fits = c.known.type_inv } in
     let new : IsAdded c.args.self.now.first c.if-new-ne0.self.first c.args.word c.args.freezes

@@ -10,7 +10,7 @@ use Rattle.change_tracker.proofs.maps.Maps.reserve_word.Goals.{then-bits-known-n
 pub returns-clause-room : goal.returns-clause-room
 returns-clause-room c =
     let told : AreNewBits c.args.self.now c.args.run c.args.freezes c.args.word
-        c.bits_of-bits.result
+    c.bits_of-bits.result
     c.known.result = record
     { met = c.bits_of-bits.ensures; old = c.known.ensures; fits = c.known.type_inv } in
     let P : TouchState → Type 0 = λ t. HasSame c.args.self.now.first t in
