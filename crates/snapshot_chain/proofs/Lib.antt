@@ -1,4 +1,5 @@
 pub mod Masks
+pub mod Pairs
 pub mod Options
 pub mod Slots
 pub mod Writes

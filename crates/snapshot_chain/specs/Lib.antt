@@ -1,5 +1,6 @@
 pub mod Page128
 pub mod PageForm
+pub mod SectorPair
 pub mod Layer
 pub mod Layers
 pub mod Chain

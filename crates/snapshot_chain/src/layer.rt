@@ -64,7 +64,7 @@ impl Layer {
         ensures within { (c : ℕ) → first + length sectors.now ≤ c → IsWithin c self.old
             → IsWithin c self.new }
     {
-        if self.append_run(first, sectors)? {
+        if self.append_run(alloc, first, sectors)? {
             return Ok(());
         }
         self.write_pages(alloc, first, sectors)
@@ -88,17 +88,28 @@ impl Layer {
     /// Adds sectors from sector `first` of the disk on to the page of their block, in place, where
     /// that page has several and all of them stand before. Says false where it hasn't done so. An
     /// `Err` and a false change nothing that the layer holds.
-    fn append_run(&mut self, first: u64, sectors: &[Sector]) -> Result<bool, NoMemory>
+    fn append_run(
+        &mut self,
+        alloc: Global,
+        first: u64,
+        sectors: &[Sector],
+    ) -> Result<bool, NoMemory>
         requires { first + length sectors.now < 2 ^ 64 }
         ensures ok { IfOk result (λ added. IsWrittenIf added self.old self.new first sectors.now) }
         ensures err { OnErr result (HasSame self.old self.new) }
         ensures slots { KeepsSlots self.new self.old }
     {
-        self.append_at(first / BLOCK_SECTORS, first % BLOCK_SECTORS, sectors)
+        self.append_at(alloc, first / BLOCK_SECTORS, first % BLOCK_SECTORS, sectors)
     }
 
     /// Adds sectors from an offset of a block on to the block's page, in place, if it takes them.
-    fn append_at(&mut self, block: u64, offset: u64, sectors: &[Sector]) -> Result<bool, NoMemory>
+    fn append_at(
+        &mut self,
+        alloc: Global,
+        block: u64,
+        offset: u64,
+        sectors: &[Sector],
+    ) -> Result<bool, NoMemory>
         requires { offset < BLOCK_SECTORS }
         ensures here { IfOk result (λ added. IsAppendedAt added offset sectors.now
             (slot_of self.old block) (slot_of self.new block)) }
@@ -108,7 +119,7 @@ impl Layer {
         ensures slots { KeepsSlots self.new self.old }
     {
         match self.pages.get_mut(&block) {
-            Some(page) => page.append_run(offset, sectors),
+            Some(page) => page.append_run(alloc, offset, sectors),
             None => Ok(false),
         }
     }

@@ -6,6 +6,7 @@
 //! is read is the newest sector among the layers that the snapshot sees, or zero where none has it.
 #![tactic(auto)]
 
+mod boxed_sector;
 mod chain;
 mod laws;
 mod layer;
@@ -13,6 +14,7 @@ mod layers;
 mod page128;
 mod placed_sectors;
 mod reading;
+mod sector_pair;
 mod steps;
 #[cfg(test)]
 mod tests;

@@ -4,11 +4,13 @@ ghost use Rattle.std.specs.Option.{option_copied};
 ghost use Rattle.snapshot_chain.specs.Page128.{PageState, IsPage, no_sectors, sector_at, run_at, with_sector, IsJoined, IsRewritten, IsGrown, IsOverwritten, IsReplaced, IsAppended};
 ghost use Rattle.snapshot_chain.specs.PageForm.{page_state, IsOfBlock};
 
+use crate::boxed_sector::BoxedSector;
 use crate::placed_sectors::PlacedSectors;
+use crate::sector_pair::SectorPair;
 use sector_model::{BLOCK_SECTORS, NoMemory, Sector};
 use std::alloc::Global;
 use std::marker::Model;
-use std::{array, mem};
+use std::mem;
 
 /// Which sectors of a block a layer has, and these sectors in ascending order.
 ///
@@ -18,11 +20,13 @@ pub struct Page128 {
     form: PageForm,
 }
 
-/// How a page keeps its sectors. A lone one stands by itself, since then it takes the least memory.
+/// How a page keeps its sectors, each of which has a piece of memory of its own. One or two take
+/// the least memory without a list.
 #[derive(Debug, Drop)]
 enum PageForm {
     Nothing,
-    Lone(u8, Box<Sector>),
+    Lone(u8, BoxedSector),
+    Pair(Box<SectorPair>),
     Many(Box<PlacedSectors>),
 }
 
@@ -56,18 +60,8 @@ impl Page128 {
         match &self.form {
             PageForm::Nothing => 0,
             PageForm::Lone(offset, _sector) => 1u128 << *offset,
+            PageForm::Pair(pair) => pair.mask(),
             PageForm::Many(placed) => placed.mask(),
-        }
-    }
-
-    /// The sectors, in ascending order of their offsets.
-    pub fn sectors(&self) -> &[Sector]
-        ensures { result.now ≡ self.now.sectors }
-    {
-        match &self.form {
-            PageForm::Nothing => &[],
-            PageForm::Lone(_offset, sector) => array::from_ref(sector.as_ref()).as_slice(),
-            PageForm::Many(placed) => placed.as_slice(),
         }
     }
 
@@ -88,11 +82,12 @@ impl Page128 {
             PageForm::Nothing => None,
             PageForm::Lone(own, sector) => {
                 if u64::from(*own) == offset {
-                    Some(sector.as_ref())
+                    Some(sector.as_sector())
                 } else {
                     None
                 }
             }
+            PageForm::Pair(pair) => pair.get(offset),
             PageForm::Many(placed) => placed.get(offset),
         }
     }
@@ -110,17 +105,21 @@ impl Page128 {
         requires above { self.mask < 2 ^ offset }
         ensures { IfOk result (λ page. page ≡ with_sector self offset sector.now) }
     {
+        let boxed = BoxedSector::new(alloc, sector)?;
         let form = match self.form {
-            PageForm::Nothing => PageForm::Lone(offset as u8, Box::new(alloc, *sector)?),
+            PageForm::Nothing => PageForm::Lone(offset as u8, boxed),
             PageForm::Lone(own, lone) => {
-                let mut placed = PlacedSectors::with_room(alloc, room)?;
-                placed.append(u64::from(own), *lone)?;
-                placed.append(offset, *sector)?;
+                let pair = SectorPair::new(own, lone, offset as u8, boxed);
+                PageForm::Pair(Box::new(alloc, pair)?)
+            }
+            PageForm::Pair(pair) => {
+                let mut placed = Box::into_inner(pair).placed(alloc, room)?;
+                placed.append(offset, boxed)?;
                 PageForm::Many(Box::new(alloc, placed)?)
             }
             PageForm::Many(many) => {
                 let mut placed = many;
-                placed.append(offset, *sector)?;
+                placed.append(offset, boxed)?;
                 PageForm::Many(placed)
             }
         };
@@ -147,10 +146,15 @@ impl Page128 {
     }
 
     /// Adds sectors one after another from an offset of the block on, in place. It does so only to
-    /// a page of several sectors that all stand below the offset, and where the new ones are within
+    /// a page of three sectors or more that all stand below the offset, and where the new ones are within
     /// the block; else it says false. It answers only want of memory. An `Err` and a false change
     /// nothing.
-    pub(crate) fn append_run(&mut self, offset: u64, sectors: &[Sector]) -> Result<bool, NoMemory>
+    pub(crate) fn append_run(
+        &mut self,
+        alloc: Global,
+        offset: u64,
+        sectors: &[Sector],
+    ) -> Result<bool, NoMemory>
         requires { offset < BLOCK_SECTORS }
         ensures ok { IfOk result
             (λ added. IsAppended added offset sectors.now self.old self.new) }
@@ -163,7 +167,7 @@ impl Page128 {
         if offset == 0 || !is_within || !placed.are_below(offset) {
             return Ok(false);
         }
-        placed.append_run(offset, sectors)?;
+        placed.append_run(alloc, offset, sectors)?;
         Ok(true)
     }
 
@@ -184,7 +188,7 @@ impl Page128 {
         if missing == 0 {
             return Ok(None);
         }
-        let room = self.sectors().len() + missing;
+        let room = self.mask().count_ones() as usize + missing;
         let page = self.rewritten(alloc, room, block, first, sectors)?;
         Ok(Some(page))
     }
@@ -265,9 +269,14 @@ fn replaced(form: PageForm, offset: u64, sector: &Sector) -> PageForm
         PageForm::Lone(own, lone) => {
             let mut lone = lone;
             if u64::from(own) == offset {
-                *lone = *sector;
+                lone.set(sector);
             }
             PageForm::Lone(own, lone)
+        }
+        PageForm::Pair(pair) => {
+            let mut pair = pair;
+            pair.replace(offset, sector);
+            PageForm::Pair(pair)
         }
         PageForm::Many(many) => {
             let mut placed = many;

@@ -1,9 +1,10 @@
 //! Sectors of one block, and a mask of the offsets at which they stand.
-ghost use Rattle.std.specs.Prelude.{◌≡◌, ◌+◌, ◌<◌, ◌≤◌, ◌^◌, length, IfOk, OnOk, OnErr, IsTrue, ◌↔◌};
+ghost use Rattle.std.specs.Prelude.{◌≡◌, ◌+◌, ◌<◌, ◌≤◌, ◌^◌, ◌++◌, length, take, IfOk, OnOk, OnErr, IsTrue, ◌↔◌};
 ghost use Rattle.std.specs.Option.{option_copied};
 ghost use Rattle.basics.specs.Bits.{has_bit};
 ghost use Rattle.snapshot_chain.specs.Page128.{PageState, IsPage, no_sectors, rank, sector_at, with_sector, with_run, IsReplaced};
 
+use crate::boxed_sector::BoxedSector;
 use sector_model::{BLOCK_SECTORS, NoMemory, Sector};
 use std::alloc::Global;
 use std::marker::Model;
@@ -14,7 +15,7 @@ use std::marker::Model;
 #[derive(Debug, Drop)]
 pub(crate) struct PlacedSectors {
     mask: u128,
-    sectors: Vec<Sector>,
+    sectors: Vec<BoxedSector>,
 }
 
 impl Model for PlacedSectors {
@@ -44,13 +45,6 @@ impl PlacedSectors {
         self.mask
     }
 
-    /// The sectors, in ascending order of their offsets.
-    pub(crate) fn as_slice(&self) -> &[Sector]
-        ensures { result.now ≡ self.now.sectors }
-    {
-        self.sectors.as_slice()
-    }
-
     /// Whether the offset has a sector.
     fn has(&self, offset: u64) -> bool
         requires { offset < BLOCK_SECTORS }
@@ -76,11 +70,12 @@ impl PlacedSectors {
         if !self.has(offset) {
             return None;
         }
-        self.sectors.get(self.index_of(offset))
+        let boxed = self.sectors.get(self.index_of(offset))?;
+        Some(boxed.as_sector())
     }
 
     /// Adds the sector of an offset above those of all others. An `Err` changes nothing.
-    pub(crate) fn append(&mut self, offset: u64, sector: Sector) -> Result<(), NoMemory>
+    pub(crate) fn append(&mut self, offset: u64, sector: BoxedSector) -> Result<(), NoMemory>
         requires offset { offset < BLOCK_SECTORS }
         requires above { self.old.mask < 2 ^ offset }
         ensures { OnOk result (self.new ≡ with_sector self.old offset sector) }
@@ -102,7 +97,12 @@ impl PlacedSectors {
     /// Adds sectors one after another from an offset on, which is above those of all others. Where
     /// there is no room for them, it makes some for later ones too: an eighth of what is there. An
     /// `Err` changes nothing.
-    pub(crate) fn append_run(&mut self, offset: u64, sectors: &[Sector]) -> Result<(), NoMemory>
+    pub(crate) fn append_run(
+        &mut self,
+        alloc: Global,
+        offset: u64,
+        sectors: &[Sector],
+    ) -> Result<(), NoMemory>
         requires offset { (0 < offset) × (offset < BLOCK_SECTORS) }
         requires within { offset + length sectors.now ≤ BLOCK_SECTORS }
         requires above { self.old.mask < 2 ^ offset }
@@ -110,7 +110,7 @@ impl PlacedSectors {
         ensures err { OnErr result (self.new ≡ self.old) }
     {
         self.make_room(sectors.len())?;
-        self.sectors.extend_from_slice(sectors)?;
+        push_copies(alloc, &mut self.sectors, sectors)?;
         self.mask |= ((1u128 << sectors.len()) - 1) << offset;
         Ok(())
     }
@@ -139,7 +139,39 @@ impl PlacedSectors {
     {
         if self.has(offset) {
             let index = self.index_of(offset);
-            self.sectors[index] = *sector;
+            self.sectors[index].set(sector);
         }
     }
+}
+
+/// Adds a copy of each sector to the end of a list. An `Err` changes nothing.
+fn push_copies(
+    alloc: Global,
+    list: &mut Vec<BoxedSector>,
+    sectors: &[Sector],
+) -> Result<(), NoMemory>
+    ensures ok { OnOk result (list.new.items ≡ list.old.items ++ sectors.now) }
+    ensures err { OnErr result (list.new.items ≡ list.old.items) }
+{
+    let len = list.len();
+    let pushed = try_copies(alloc, list, sectors);
+    if pushed.is_err() {
+        list.truncate(len);
+    }
+    pushed
+}
+
+/// Adds copies of the sectors to the end of a list, as far as memory goes.
+fn try_copies(
+    alloc: Global,
+    list: &mut Vec<BoxedSector>,
+    sectors: &[Sector],
+) -> Result<(), NoMemory>
+    ensures ok { OnOk result (list.new.items ≡ list.old.items ++ sectors.now) }
+    ensures front { take (length list.old.items) list.new.items ≡ list.old.items }
+{
+    for sector in sectors {
+        list.push(BoxedSector::new(alloc, sector)?)?;
+    }
+    Ok(())
 }

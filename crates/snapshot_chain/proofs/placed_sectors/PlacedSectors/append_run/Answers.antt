@@ -10,7 +10,7 @@ invariant_of-self-2 c =
     rw (
       set_bits c.self.inside.mask c.args.offset _ (omega (arith, c.requires)) c.requires.within
           above,
-      c.in_ok-extend_from_slice.ensures.items,
+      c.in_ok-push_copies.ensures.ok,
     )
     (page_behind _ c.args.offset c.args.sectors.now c.self.invariant above c.requires.within)
 
@@ -22,5 +22,5 @@ returns-clause-ok c =
     (rw (
       set_bits c.self.inside.mask c.args.offset _ (omega (arith, c.requires))
           c.requires.within above,
-      c.in_ok-extend_from_slice.ensures.items,
+      c.in_ok-push_copies.ensures.ok,
     ) refl)

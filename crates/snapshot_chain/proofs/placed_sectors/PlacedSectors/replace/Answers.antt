@@ -19,6 +19,6 @@ pub returns-then-has-clause-sectors : goal.returns-then-has-clause-sectors
 returns-then-has-clause-sectors c =
     let has : has_bit c.args.self.now.mask c.args.offset ≡ true =
     sym c.has.ensures ∙ c.if-has.true in
-    rw (c.index_of-index.ensures.index, ← c.self.view_is)
+    rw (c.index_of-index.ensures.index, c.set.ensures, ← c.self.view_is)
     (replaced_sector _ c.args.offset c.args.sector.now c.self.invariant.1
     (rw (← c.self.view_is) at has))
