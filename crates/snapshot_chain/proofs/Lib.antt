@@ -12,4 +12,5 @@ pub mod LayerSteps
 pub mod LayersRead
 pub mod Blocks
 mod Behind
+pub mod Inserted
 mod InPlace

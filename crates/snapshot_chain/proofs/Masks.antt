@@ -60,7 +60,7 @@ rank_here m p above =
     ap count_ones (ap (λ x. x % 2 ^ p) (turned m p) ∙ mod-mul-add 1 (2 ^ p) m above)
 
 -- a sector's rank is below their number
-zero_ones : count_ones 0 ≡ 0
+pub zero_ones : count_ones 0 ≡ 0
 unfolding count_ones
 zero_ones = refl
 
@@ -71,14 +71,14 @@ some_above m k set = elim (cases_eq (count_ones (m / 2 ^ k)) 0) [
   | inr some ↦ omega (arith, some)
 ]
 
-rank_less : (m k : ℕ) → bit_at m k ≡ 1 → rank m k < count_ones m
+pub rank_less : (m k : ℕ) → bit_at m k ≡ 1 → rank m k < count_ones m
 rank_less m k set =
     let parts : count_ones m ≡ count_ones (m / 2 ^ k) + count_ones (m % 2 ^ k) =
     ap count_ones (sym (div-add-mod' m (2 ^ k)))
     ∙ ones_cat k (m / 2 ^ k) (m % 2 ^ k) (mod_below m (2 ^ k) (pow_pos k)) in
     omega (arith, parts, some_above m k set)
 
-chosen : {X : Type 0} (b : Bool) (x y z : Option X) → (b ≡ true → x ≡ y) → cond b x z ≡ cond b y z
+pub chosen : {X : Type 0} (b : Bool) (x y z : Option X) → (b ≡ true → x ≡ y) → cond b x z ≡ cond b y z
 chosen true x y z h = h refl
 chosen false x y z h = refl
 
@@ -126,7 +126,7 @@ pub bit_is_set : (m k : ℕ) → has_bit m k ≡ true → bit_at m k ≡ 1
 bit_is_set m k is = eqb-true (bit_at m k) 1 is
 
 -- ranks of two of a page's offsets differ
-rank_apart : (m j k : ℕ) → j < k → bit_at m j ≡ 1 → rank m j < rank m k
+pub rank_apart : (m j k : ℕ) → j < k → bit_at m j ≡ 1 → rank m j < rank m k
 rank_apart m j k less set =
     let low : bit_at (m % 2 ^ k) j ≡ 1 = sym (bit_at_cat_low (m / 2 ^ k) k (m % 2 ^ k) j less)
     ∙ ap (λ n. bit_at n j) (div-add-mod' m (2 ^ k)) ∙ set in

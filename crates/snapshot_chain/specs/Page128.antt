@@ -2,6 +2,7 @@
 -- offsets in the block.
 use Rattle.std.specs.Prelude.{◌≡◌, ℕ, ◌+◌, ◌-◌, ◌*◌, ◌<◌, ◌≤◌, ◌^◌, ◌%◌, ◌==◌, nat_le, List, [], ◌∷◌, ◌++◌, length, slice_get, Bool, Option, Some, None, IsSome, option_map, unwrap_or, count_ones, true, false, if◌then◌else◌}
 use Rattle.std.specs.Int.{bit_at}
+use Rattle.std.specs.List.{insert}
 use Rattle.std.specs.Option.{option_or}
 use Rattle.basics.specs.Bits.{has_bit}
 use Rattle.sector_model.specs.declared.run.TheConstants.{BLOCK_SECTORS}
@@ -42,6 +43,13 @@ abbrev pub with_run : PageState → (offset : ℕ) → List Sector → PageState
 with_run page offset sectors = record {
   mask = page.mask + (2 ^ length sectors - 1) * 2 ^ offset;
   sectors = page.sectors ++ sectors;
+}
+
+-- the page and the sector of an offset that it lacked, between those of its own
+abbrev pub with_inserted : PageState → (offset : ℕ) → Sector → PageState
+with_inserted page offset sector = record {
+  mask = page.mask + 2 ^ offset;
+  sectors = insert page.sectors (rank page.mask offset) sector;
 }
 
 -- the page has a sector for each set bit, at most one for each sector of a block

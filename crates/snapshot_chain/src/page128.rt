@@ -146,9 +146,9 @@ impl Page128 {
     }
 
     /// Adds sectors one after another from an offset of the block on, in place. It does so only to
-    /// a page of three sectors or more that all stand below the offset, and where the new ones are within
-    /// the block; else it says false. It answers only want of memory. An `Err` and a false change
-    /// nothing.
+    /// a page of three sectors or more, and where the new ones are within the block, and either all
+    /// above those of the page or a single one that the page lacks; else it says false. It answers
+    /// only want of memory. An `Err` and a false change nothing.
     pub(crate) fn append_run(
         &mut self,
         alloc: Global,
@@ -163,6 +163,12 @@ impl Page128 {
         let PageForm::Many(placed) = &mut self.form else {
             return Ok(false);
         };
+        if let [sector] = sectors
+            && !placed.has(offset)
+        {
+            placed.insert(alloc, offset, sector)?;
+            return Ok(true);
+        }
         let is_within = sectors.len() as u64 <= BLOCK_SECTORS - offset;
         if offset == 0 || !is_within || !placed.are_below(offset) {
             return Ok(false);

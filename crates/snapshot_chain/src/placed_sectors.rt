@@ -1,8 +1,8 @@
 //! Sectors of one block, and a mask of the offsets at which they stand.
-ghost use Rattle.std.specs.Prelude.{◌≡◌, ◌+◌, ◌<◌, ◌≤◌, ◌^◌, ◌++◌, length, take, IfOk, OnOk, OnErr, IsTrue, ◌↔◌};
+ghost use Rattle.std.specs.Prelude.{◌≡◌, ◌+◌, ◌<◌, ◌≤◌, ◌^◌, ◌++◌, length, take, IfOk, OnOk, OnErr, IsTrue, ◌↔◌, false};
 ghost use Rattle.std.specs.Option.{option_copied};
 ghost use Rattle.basics.specs.Bits.{has_bit};
-ghost use Rattle.snapshot_chain.specs.Page128.{PageState, IsPage, no_sectors, rank, sector_at, with_sector, with_run, IsReplaced};
+ghost use Rattle.snapshot_chain.specs.Page128.{PageState, IsPage, no_sectors, rank, sector_at, with_sector, with_run, with_inserted, IsReplaced};
 
 use crate::boxed_sector::BoxedSector;
 use sector_model::{BLOCK_SECTORS, NoMemory, Sector};
@@ -46,9 +46,10 @@ impl PlacedSectors {
     }
 
     /// Whether the offset has a sector.
-    fn has(&self, offset: u64) -> bool
+    pub(crate) fn has(&self, offset: u64) -> bool
         requires { offset < BLOCK_SECTORS }
-        ensures { result ≡ has_bit self.now.mask offset }
+        ensures has { result ≡ has_bit self.now.mask offset }
+        ensures page { IsPage self.now }
     {
         self.mask & (1u128 << offset) != 0
     }
@@ -112,6 +113,26 @@ impl PlacedSectors {
         self.make_room(sectors.len())?;
         push_copies(alloc, &mut self.sectors, sectors)?;
         self.mask |= ((1u128 << sectors.len()) - 1) << offset;
+        Ok(())
+    }
+
+    /// Puts a copy of the sector at an offset that has none. An `Err` changes nothing.
+    pub(crate) fn insert(
+        &mut self,
+        alloc: Global,
+        offset: u64,
+        sector: &Sector,
+    ) -> Result<(), NoMemory>
+        requires offset { offset < BLOCK_SECTORS }
+        requires free { has_bit self.old.mask offset ≡ false }
+        ensures ok { OnOk result (self.new ≡ with_inserted self.old offset sector.now) }
+        ensures err { OnErr result (self.new ≡ self.old) }
+    {
+        let index = self.index_of(offset);
+        let boxed = BoxedSector::new(alloc, sector)?;
+        self.make_room(1)?;
+        self.sectors.insert(index, boxed)?;
+        self.mask += 1u128 << offset;
         Ok(())
     }
 
