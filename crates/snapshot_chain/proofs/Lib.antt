@@ -1,5 +1,6 @@
 pub mod Masks
 pub mod Options
+pub mod Keys
 pub mod Slots
 pub mod Writes
 pub mod Stacks
