@@ -14,69 +14,71 @@ use Rattle.snapshot_chain.specs.Layers.{found, has_found, blocks_in}
 use Rattle.sector_model.specs.Run.{areas_of, in_blocks, block_count}
 use Rattle.sector_model.proofs.Among.{at_is, among_range as in_range}
 use Rattle.sector_model.proofs.RunsOf.{runs_of-same}
+use Rattle.snapshot_chain.proofs.Keys.{same_block, at_key}
 use Rattle.snapshot_chain.proofs.Touching.{any-or, either_found}
 use Rattle.snapshot_chain.proofs.Stacks.{found-append}
-use Rattle.snapshot_chain.specs.Layer.{LayerState, slot_of, sector_of, sector_in, has_sector, IsWithin}
+use Rattle.snapshot_chain.specs.Layer.{LayerState, key_of, slot_of, sector_of, sector_in, has_sector, IsWithin}
 
 abbrev pub Entry : Type 0
 Entry = Bor ℕ × Bor PageState
 
 abbrev pub among : LayerState → List Entry → ℕ → Bool
-among layer seen b = list_any (λ e. nat_eq b e.0.now && has_sector layer b) seen
+among layer seen b = list_any (λ e. nat_eq (key_of b) e.0.now && has_sector layer b) seen
 
 pub block_passed : (layer : LayerState) (now was : Bool) (seen : List Entry) (e : Entry) (b : ℕ)
-    → has_sector layer e.0.now ≡ false → now ≡ (was || among layer seen b)
+    → (key_of b ≡ e.0.now → has_sector layer b ≡ false) → now ≡ (was || among layer seen b)
     → now ≡ (was || among layer (seen ++ e ∷ []) b)
 block_passed layer now was seen e b none before =
     before ∙ ap (λ x. was || x)
-    (sym (list_any-append (λ x. nat_eq b x.0.now && has_sector layer b) seen (e ∷ [])
-    ∙ ap (λ x. among layer seen b || x) (or-false (nat_eq b e.0.now && has_sector layer b)
+    (sym (list_any-append (λ x. nat_eq (key_of b) x.0.now && has_sector layer b) seen (e ∷ [])
+    ∙ ap (λ x. among layer seen b || x) (or-false (nat_eq (key_of b) e.0.now && has_sector layer b)
     ∙ gone)
     ∙ or-false (among layer seen b)))
   where
-    gone : (nat_eq b e.0.now && has_sector layer b) ≡ false
-    gone = elim (cases_eq b e.0.now) [
-      | inl same ↦ ap (λ x. nat_eq b e.0.now && x) (ap (has_sector layer) same ∙ none)
-          ∙ and-false (nat_eq b e.0.now)
-      | inr other ↦ ap (λ x. x && has_sector layer b) (ne_eqb b e.0.now other)
+    gone : (nat_eq (key_of b) e.0.now && has_sector layer b) ≡ false
+    gone = elim (cases_eq (key_of b) e.0.now) [
+      | inl same ↦ ap (λ x. nat_eq (key_of b) e.0.now && x) (none same)
+          ∙ and-false (nat_eq (key_of b) e.0.now)
+      | inr other ↦ ap (λ x. x && has_sector layer b) (ne_eqb (key_of b) e.0.now other)
     ]
 
-pub block_added : (layer : LayerState) (now was new : Bool) (seen : List Entry) (e : Entry) (b : ℕ)
-    → has_sector layer e.0.now ≡ true → now ≡ (was || among layer seen b)
-    → new ≡ cond (is_at (nat_cmp e.0.now) b) true now
+pub block_added : (layer : LayerState) (now was new : Bool) (seen : List Entry) (e : Entry)
+    (block b : ℕ) → key_of block ≡ e.0.now → has_sector layer block ≡ true
+    → now ≡ (was || among layer seen b) → new ≡ cond (is_at (nat_cmp block) b) true now
     → new ≡ (was || among layer (seen ++ e ∷ []) b)
-block_added layer now was new seen e b some before put =
-    put ∙ ap (λ x. cond x true now) (at_is e.0.now b) ∙ by (cases_eq e.0.now b)
+block_added layer now was new seen e block b is some before put =
+    put ∙ ap (λ x. cond x true now) (at_is block b) ∙ by (cases_eq block b)
     ∙ sym (ap (λ x. was || x)
-    (list_any-append (λ x. nat_eq b x.0.now && has_sector layer b) seen (e ∷ [])
-    ∙ ap (λ x. among layer seen b || x) (or-false (nat_eq b e.0.now && has_sector layer b))))
+    (list_any-append (λ x. nat_eq (key_of b) x.0.now && has_sector layer b) seen (e ∷ [])
+    ∙ ap (λ x. among layer seen b || x)
+    (or-false (nat_eq (key_of b) e.0.now && has_sector layer b))))
   where
     late : (x y : Bool) → (x || (y || true)) ≡ true
     late true y = refl
     late false true = refl
     late false false = refl
 
-    by : (e.0.now ≡ b) ⊎ (e.0.now ≡ b → ⊥)
-        → cond (eqb e.0.now b) true now
-        ≡ (was || (among layer seen b || (nat_eq b e.0.now && has_sector layer b)))
+    by : (block ≡ b) ⊎ (block ≡ b → ⊥)
+        → cond (eqb block b) true now
+        ≡ (was || (among layer seen b || (nat_eq (key_of b) e.0.now && has_sector layer b)))
     by (inl same) =
-        ap (λ x. cond x true now) (eq-eqb e.0.now b same)
+        ap (λ x. cond x true now) (eq-eqb block b same)
         ∙ sym (ap (λ x. was || (among layer seen b || (x && has_sector layer b)))
-        (eq-eqb b e.0.now (sym same))
+        (eq-eqb (key_of b) e.0.now (ap key_of (sym same) ∙ is))
         ∙ ap (λ x. was || (among layer seen b || x)) (ap (has_sector layer) (sym same) ∙ some)
         ∙ late was (among layer seen b))
     by (inr other) =
-        ap (λ x. cond x true now) (ne_eqb e.0.now b other) ∙ before
+        ap (λ x. cond x true now) (ne_eqb block b other) ∙ before
         ∙ sym (ap (λ x. was || (among layer seen b || (x && has_sector layer b)))
-        (ne_eqb b e.0.now (λ q. other (sym q)))
+        (ne_eqb (key_of b) e.0.now (λ q. other (sym (same_block b block (q ∙ sym is)))))
         ∙ ap (λ x. was || x) (or-false (among layer seen b)))
 
-both : (h : Bool) (seen : List Entry) (b : ℕ)
-    → list_any (λ e. nat_eq b e.0.now && h) seen
-    ≡ (list_any (λ p. nat_eq b p.0) (map deref_pair seen) && h)
-both h [] b = refl
-both h (e ∷ seen) b = ap (λ x. (nat_eq b e.0.now && h) || x) (both h seen b)
-    ∙ joined (nat_eq b e.0.now) (list_any (λ p. nat_eq b p.0) (map deref_pair seen)) h
+both : (h : Bool) (seen : List Entry) (key : ℕ)
+    → list_any (λ e. nat_eq key e.0.now && h) seen
+    ≡ (list_any (λ p. nat_eq key p.0) (map deref_pair seen) && h)
+both h [] key = refl
+both h (e ∷ seen) key = ap (λ x. (nat_eq key e.0.now && h) || x) (both h seen key)
+    ∙ joined (nat_eq key e.0.now) (list_any (λ p. nat_eq key p.0) (map deref_pair seen)) h
   where
     joined : (x y h : Bool) → ((x && h) || (y && h)) ≡ ((x || y) && h)
     joined true true true = refl
@@ -85,17 +87,17 @@ both h (e ∷ seen) b = ap (λ x. (nat_eq b e.0.now && h) || x) (both h seen b)
     joined true false false = refl
     joined false y h = refl
 
-keyed : (layer : LayerState) (b : ℕ)
-    → list_any (λ p. nat_eq b p.0) layer ≡ is_some (slot_of layer b)
-keyed [] b = refl
-keyed (p ∷ layer) b = by layer p b (eqb b p.0) refl (keyed layer b)
+keyed : (layer : LayerState) (key : ℕ)
+    → list_any (λ p. nat_eq key p.0) layer ≡ is_some (at_key layer key)
+keyed [] key = refl
+keyed (p ∷ layer) key = by layer p key (eqb key p.0) refl (keyed layer key)
   where
-    by : (layer : LayerState) (p : ℕ × PageState) (b : ℕ) (x : Bool) → eqb b p.0 ≡ x
-        → list_any (λ q. nat_eq b q.0) layer ≡ is_some (slot_of layer b)
-        → (eqb b p.0 || list_any (λ q. nat_eq b q.0) layer)
-        ≡ is_some (cond (is_at (nat_cmp b) p.0) (Some p.1) (slot_of layer b))
-    by layer p b true is rest = rw (at_is b p.0, is) refl
-    by layer p b false is rest = rw (at_is b p.0, is) rest
+    by : (layer : LayerState) (p : ℕ × PageState) (key : ℕ) (x : Bool) → eqb key p.0 ≡ x
+        → list_any (λ q. nat_eq key q.0) layer ≡ is_some (at_key layer key)
+        → (eqb key p.0 || list_any (λ q. nat_eq key q.0) layer)
+        ≡ is_some (cond (is_at (nat_cmp key) p.0) (Some p.1) (at_key layer key))
+    by layer p key true is rest = rw (at_is key p.0, is) refl
+    by layer p key false is rest = rw (at_is key p.0, is) rest
 
 held : (page : Option PageState)
     → (is_some page && list_any (λ k. is_some (sector_of page k)) (range_with_len 0 128))
@@ -106,9 +108,10 @@ held (Some page) = refl
 pub all_blocks : (layer : LayerState) (seen : List Entry) (b : ℕ) → map deref_pair seen ≡ layer
     → among layer seen b ≡ has_sector layer b
 all_blocks layer seen b whole =
-    both (has_sector layer b) seen b
+    both (has_sector layer b) seen (key_of b)
     ∙ ap (λ x. x && has_sector layer b)
-    (ap (λ (l : LayerState). list_any (λ p. nat_eq b p.0) l) whole ∙ keyed layer b)
+    (ap (λ (l : LayerState). list_any (λ p. nat_eq (key_of b) p.0) l) whole
+    ∙ keyed layer (key_of b))
     ∙ held (slot_of layer b)
 
 -- one layer more

@@ -1,13 +1,12 @@
 -- A run that is added to the page of its block in place is written.
-use Rattle.std.proofs.Common.{◌≡◌, ◌≢◌, ℕ, ◌+◌, ◌-◌, ◌*◌, ◌/◌, ◌%◌, ◌<◌, ◌≤◌, List, length, Bool, true, false, Option, Some, None, Result, Ok, Err, sym, ap, refl, ◌∙◌, arith, inl, inr}
-use Rattle.std.specs.Prelude.{IfOk, OnErr}
+use Rattle.std.proofs.Common.{◌≡◌, ◌≢◌, ℕ, ◌+◌, ◌-◌, ◌*◌, ◌<◌, ◌≤◌, List, length, Bool, true, false, Option, Some, None, Result, Ok, Err, sym, ap, refl, ◌∙◌, arith, inl, inr}
+use Rattle.std.specs.Prelude.{OnErr}
 use Rattle.std.specs.List.{slice_get}
 use Rattle.std.specs.Option.{option_or}
 use Rattle.std.proofs.lemmas.Bool.{cases_eq, cases_lt, false≢true}
-use Rattle.std.proofs.lemmas.Nat.{div-add-mod', mod_below}
 use Rattle.sector_model.specs.declared.sector.Sector.{Sector}
-use Rattle.snapshot_chain.specs.Page128.{PageState, sector_at, run_at, IsAppended, IsRewritten}
-use Rattle.snapshot_chain.specs.Layer.{LayerState, slot_of, sector_of, sector_in, HasSame, IsWritten, IsWrittenIf, IsAppendedAt}
+use Rattle.snapshot_chain.specs.Page128.{PageState, run_at}
+use Rattle.snapshot_chain.specs.Layer.{LayerState, slot_of, sector_in, HasSame, IsWritten, IsWrittenIf, IsAppendedAt}
 use Rattle.snapshot_chain.proofs.Slots.{run_behind}
 use Rattle.snapshot_chain.proofs.Writes.{run_before, run_from}
 

@@ -1,6 +1,7 @@
 pub mod Masks
 pub mod Pairs
 pub mod Options
+pub mod Keys
 pub mod Slots
 pub mod Writes
 pub mod Stacks

@@ -10,7 +10,7 @@ use lib.Pow.{mod-mod-pow}
 use Rattle.std.proofs.lemmas.Nat.{ones_cat, one_shl, mod-mul-add, mod_below, and_mask, zero_from_ones, pow-add, div-add-mod'}
 use Rattle.std.proofs.lemmas.Nat.Bits.{bit_at_cat_low, bit_at_cat_high, bit_at_above, bit_at-lt, and_pow, bit_at-trailing_zeros}
 use Rattle.std.specs.Int.Bits.{or_shifted_r}
-use Rattle.std.proofs.lemmas.Bool.{cases_eq, cases_lt, eqb-true, eq-eqb, ne_eqb, or_right}
+use Rattle.std.proofs.lemmas.Bool.{cases_eq, cases_lt, eqb-true, eq-eqb, ne_eqb}
 use Rattle.std.proofs.lemmas.List.Folds.{list_any_none}
 use Rattle.basics.proofs.ItemAt.{slice_get-front, slice_get-last, slice_get-set_same, slice_get-set_other}
 use Rattle.sector_model.specs.declared.sector.Sector.{Sector}

@@ -1,13 +1,12 @@
 -- Which blocks are touched with one write more.
-use Rattle.std.proofs.Common.{◌≡◌, ℕ, zero, suc, ◌+◌, ◌-◌, ◌*◌, ◌<◌, min, max, List, [], ◌∷◌, ◌++◌, length, Bool, true, false, Option, Some, None, is_some, sym, ap, refl, ◌∙◌, arith, ltb, leb, nat_eq, ◌||◌, ◌&&◌, inl, inr}
+use Rattle.std.proofs.Common.{◌≡◌, ℕ, zero, suc, ◌+◌, ◌-◌, ◌*◌, ◌<◌, min, max, List, [], ◌∷◌, ◌++◌, length, Bool, true, Option, Some, None, is_some, sym, ap, refl, ◌∙◌, arith, ltb, leb, nat_eq, ◌||◌, ◌&&◌, inl, inr}
 use Rattle.std.specs.Option.{option_or}
-use Rattle.std.specs.List.{list_any, range_with_len, filter, slice_get}
+use Rattle.std.specs.List.{list_any, range_with_len, slice_get}
 use Rattle.std.proofs.Math.Bool.{or-false, or_assoc, or_comm}
-use Rattle.std.proofs.lemmas.Bool.{eqb-true, cases_lt, lt-ltb, le-ltb, le-leb, lt-leb}
+use Rattle.std.proofs.lemmas.Bool.{cases_lt, lt-ltb, le-ltb, le-leb, lt-leb}
 use Rattle.std.proofs.lemmas.Bool.Decides.{nat_tests}
 use Rattle.std.proofs.lemmas.Option.{slice_get_past}
 use Rattle.std.proofs.lemmas.List.Folds.{list_any-append}
-use Rattle.std.proofs.lemmas.Map.Views.{any-filter_same}
 use Rattle.sector_model.specs.Disk.{Write}
 use Rattle.sector_model.specs.Run.{meets, with_met, range_of, touches, touched_blocks, block_count}
 use Rattle.sector_model.specs.declared.sector.Sector.{Sector}

@@ -1,5 +1,5 @@
--- A layer: pages under the numbers of their blocks, in ascending order.
-use Rattle.std.specs.Prelude.{◌≡◌, ◌==◌, if◌then◌else◌, ℕ, ◌+◌, ◌*◌, ◌<◌, ◌⊎◌, List, Bool, true, false, Option, Some, None, is_some, IsSome, option_map, unwrap_or}
+-- A layer: pages under the keys of their blocks, in ascending order of the keys.
+use Rattle.std.specs.Prelude.{◌≡◌, ◌==◌, if◌then◌else◌, ℕ, ◌+◌, ◌*◌, ◌%◌, ◌^◌, ◌<◌, nat_lt, ◌⊎◌, List, Bool, true, false, Option, Some, None, is_some, IsSome, option_map, unwrap_or}
 use Rattle.std.specs.Option.{option_or, option_and_then}
 use Rattle.std.specs.Ordering.{nat_cmp}
 use Rattle.std.specs.BTreeMap.{is_at}
@@ -7,14 +7,22 @@ use Rattle.std.specs.Map.{lookup}
 use Rattle.std.specs.List.{list_any, range_with_len}
 use Rattle.sector_model.specs.declared.run.TheConstants.{BLOCK_SECTORS}
 use Rattle.sector_model.specs.declared.sector.Sector.{Sector}
+use Rattle.snapshot_chain.specs.declared.layer.TheConstants.{SPREAD}
 use Rattle.snapshot_chain.specs.Page128.{PageState, no_sectors, sector_at, run_at, IsAppended}
 
 abbrev pub LayerState : Type 0
 LayerState = List (ℕ × PageState)
 
--- what is kept for a block: its page, or a page without sectors, which only keeps the slot
+-- the key under which the page of a block stands: blocks are spread over the keys by an odd factor,
+-- so that a tree fills about alike whether they are written in order or in no order; a number that
+-- is no block of 64 bits is its own key
+unfoldable pub key_of : (block : ℕ) → ℕ
+key_of block = if nat_lt block (2 ^ 64) then block * SPREAD % 2 ^ 64 else block
+
+-- what is kept under the key of a block: its page, or a page without sectors, which only keeps the
+-- slot
 abbrev pub slot_of : LayerState → (block : ℕ) → Option PageState
-slot_of layer block = lookup (is_at (nat_cmp block)) layer
+slot_of layer block = lookup (is_at (nat_cmp (key_of block))) layer
 
 -- the page, where it has a sector
 abbrev pub if_written : PageState → Option PageState

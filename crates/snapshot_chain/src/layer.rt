@@ -2,7 +2,7 @@
 ghost use Rattle.std.specs.Prelude.{◌≡◌, ◌≢◌, ◌+◌, ◌*◌, ◌<◌, ◌≤◌, ◌^◌, [], length, ◌||◌, ◌⊎◌, IfOk, OnOk, OnErr, IsSome, None, Some, option_map, unwrap_or, ℕ};
 ghost use Rattle.std.specs.Option.{option_copied, option_or};
 ghost use Rattle.snapshot_chain.specs.Page128.{PageState, no_sectors, run_at, IsGrown};
-ghost use Rattle.snapshot_chain.specs.Layer.{page_of, slot_of, sector_of, sector_in, HasSame, IsWritten, IsWrittenIf, IsAppendedAt, IsWrittenOver, AreGrown, KeepsSlots, AddsSlots, IsSlotAdded, IsWithin, IsRoomFor, IsRoomAt, IsOpenAt, IsMerged, after_taking, TakesPages, LayerState, has_sector};
+ghost use Rattle.snapshot_chain.specs.Layer.{key_of, page_of, slot_of, sector_of, sector_in, HasSame, IsWritten, IsWrittenIf, IsAppendedAt, IsWrittenOver, AreGrown, KeepsSlots, AddsSlots, IsSlotAdded, IsWithin, IsRoomFor, IsRoomAt, IsOpenAt, IsMerged, after_taking, TakesPages, LayerState, has_sector};
 ghost use Rattle.std.specs.BTreeSet.{contains};
 ghost use Rattle.std.specs.Ordering.{nat_cmp};
 
@@ -13,7 +13,16 @@ use std::collections::{BTreeMap, BTreeSet};
 use std::marker::Model;
 use std::sync::ledger::Ledger;
 
-/// Pages under the numbers of their blocks: what was written between two freezes.
+/// Spreads blocks over the keys: 2^64 divided by the golden ratio, which is odd.
+const SPREAD: u64 = 0x9E37_79B9_7F4A_7C15;
+
+/// Leads a key back to its block: the inverse of `SPREAD` modulo 2^64.
+const GATHER: u64 = 0xF1DE_83E1_9937_733D;
+
+/// Pages under keys over which their blocks are spread: what was written between two freezes.
+///
+/// Keys that come in ascending or descending order leave each node of the tree half full. So the
+/// blocks are spread: written in order, they then fill it about as well as in no order.
 ///
 /// A page without sectors holds nothing: it only keeps a slot, so that a page can be put there
 /// without memory.
@@ -44,7 +53,7 @@ impl Layer {
         ensures step { steps.new ≡ steps.old + 1 }
     {
         steps.tick();
-        match self.pages.get(&block) {
+        match self.pages.get(&key_of(block)) {
             Some(page) if !page.is_empty() => Some(page),
             _ => None,
         }
@@ -118,7 +127,7 @@ impl Layer {
             → slot_of self.new other ≡ slot_of self.old other }
         ensures slots { KeepsSlots self.new self.old }
     {
-        match self.pages.get_mut(&block) {
+        match self.pages.get_mut(&key_of(block)) {
             Some(page) => page.append_run(alloc, offset, sectors),
             None => Ok(false),
         }
@@ -152,7 +161,7 @@ impl Layer {
         requires { block < 2 ^ 57 }
         ensures { IfOk result (IsGrown (sector_in self.now block) block first sectors.now) }
     {
-        match self.pages.get(&block) {
+        match self.pages.get(&key_of(block)) {
             Some(page) => page.grown(alloc, block, first, sectors),
             None => Page128::empty().grown(alloc, block, first, sectors),
         }
@@ -180,7 +189,7 @@ impl Layer {
             → slot_of self.new other ≡ slot_of self.old other }
         ensures slots { KeepsSlots self.new self.old }
     {
-        if let Some(page) = self.pages.get_mut(&block) {
+        if let Some(page) = self.pages.get_mut(&key_of(block)) {
             page.overwrite(block, first, sectors);
         }
     }
@@ -190,8 +199,8 @@ impl Layer {
         ensures ok { OnOk result (KeepsSlots other.now self.new) }
         ensures added { AddsSlots other.now self.old self.new }
     {
-        for (block, _page) in &other.pages {
-            self.make_slot(*block)?;
+        for (key, _page) in &other.pages {
+            self.make_slot(block_of(*key))?;
         }
         Ok(())
     }
@@ -204,7 +213,7 @@ impl Layer {
         ensures others { (other : ℕ) → other ≢ block
             → slot_of self.new other ≡ slot_of self.old other }
     {
-        if !self.pages.contains_key(&block) {
+        if !self.pages.contains_key(&key_of(block)) {
             self.add(block, Page128::empty())?;
         }
         Ok(())
@@ -217,7 +226,7 @@ impl Layer {
             → slot_of self.new other ≡ slot_of self.old other }
         ensures err { OnErr result (self.new ≡ self.old) }
     {
-        self.pages.insert(block, page)?;
+        self.pages.insert(key_of(block), page)?;
         Ok(())
     }
 
@@ -228,8 +237,8 @@ impl Layer {
             ≡ option_or (slot_of pages block) (slot_of self.old block) }
     {
         let mut pages = pages;
-        while let Some((block, page)) = pages.pages.pop_first() {
-            self.put(block, page);
+        while let Some((key, page)) = pages.pages.pop_first() {
+            self.put(block_of(key), page);
         }
     }
 
@@ -240,7 +249,7 @@ impl Layer {
         ensures others { (other : ℕ) → other ≢ block
             → slot_of self.new other ≡ slot_of self.old other }
     {
-        let put: Result<_, _> = self.pages.insert(block, page);
+        let put: Result<_, _> = self.pages.insert(key_of(block), page);
         put.unwrap();
     }
 
@@ -252,8 +261,8 @@ impl Layer {
         let mut room = Layer::new(alloc);
         room.make_slots(lower)?;
         room.make_slots(upper)?;
-        for (block, page) in &lower.pages {
-            room.join_page(alloc, *block, page, upper)?;
+        for (key, page) in &lower.pages {
+            room.join_page(alloc, block_of(*key), page, upper)?;
         }
         Ok(room)
     }
@@ -273,7 +282,7 @@ impl Layer {
         ensures others { (other : ℕ) → other ≢ block
             → slot_of self.new other ≡ slot_of self.old other }
     {
-        if let Some(above) = upper.pages.get(&block)
+        if let Some(above) = upper.pages.get(&key_of(block))
             && !above.is_empty()
             && !lower.is_empty()
         {
@@ -300,8 +309,8 @@ impl Layer {
         ensures { TakesPages other self.old self.new }
     {
         let mut other = other;
-        while let Some((block, page)) = other.pages.pop_first() {
-            self.take_page(block, page);
+        while let Some((key, page)) = other.pages.pop_first() {
+            self.take_page(block_of(key), page);
         }
     }
 
@@ -312,7 +321,7 @@ impl Layer {
         ensures others { (other : ℕ) → other ≢ block
             → slot_of self.new other ≡ slot_of self.old other }
     {
-        let is_free = match self.pages.get(&block) {
+        let is_free = match self.pages.get(&key_of(block)) {
             Some(slot) => slot.is_empty(),
             None => false,
         };
@@ -327,11 +336,25 @@ impl Layer {
             → contains nat_cmp blocks.new b
             ≡ (contains nat_cmp blocks.old b || has_sector self.now b)) }
     {
-        for (block, page) in &self.pages {
+        for (key, page) in &self.pages {
             if !page.is_empty() {
-                blocks.insert(*block)?;
+                blocks.insert(block_of(*key))?;
             }
         }
         Ok(())
     }
+}
+
+/// The key under which the page of a block stands.
+fn key_of(block: u64) -> u64
+    ensures { result ≡ key_of block }
+{
+    block.wrapping_mul(SPREAD)
+}
+
+/// The block whose page stands under a key.
+fn block_of(key: u64) -> u64
+    ensures { key_of result ≡ key }
+{
+    key.wrapping_mul(GATHER)
 }

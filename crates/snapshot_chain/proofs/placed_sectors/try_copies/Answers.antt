@@ -1,5 +1,5 @@
 -- One sector more stands behind the list's own, which stay in front.
-use Rattle.std.proofs.Common.{◌≡◌, ◌∷◌, ◌++◌, [], take, append_assoc, sym, ap, ◌∙◌}
+use Rattle.std.proofs.Common.{◌∷◌, ◌++◌, [], take, append_assoc, sym, ap, ◌∙◌}
 use Rattle.std.proofs.lemmas.List.{get_or_default}
 use Rattle.basics.proofs.ItemAt.{take-next_read}
 use Rattle.snapshot_chain.proofs.placed_sectors.try_copies.Goals as goal
