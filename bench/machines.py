@@ -9,6 +9,7 @@ ends are a `cat` each on other cores, so that each reply wakes its reader."""
 import itertools
 import os
 import pathlib
+import random
 import subprocess
 import sys
 import tempfile
@@ -100,6 +101,14 @@ def measure(name, first_lines, lines):
     print(f"{name}: {filed:,.0f} a second, by pipes {piped:,.0f} ({len(lines)} lines)", flush=True)
 
 
+def in_blocks(each, shuffled):
+    """As many sectors as a log may have, so many in each of the blocks that they meet, in ascending order or in none."""
+    sectors = [block * 128 + at * 128 // each for block in range(LOGGED // each) for at in range(each)]
+    if shuffled:
+        random.Random(1).shuffle(sectors)
+    return sectors
+
+
 def measure_writes(name, count, scattered=False):
     """One machine after another takes as many sectors as its log may have, in a disk of 2^20 sectors. Scattered writes go
     over all blocks of the disk, in no order, with tracking enabled and a live snapshot."""
@@ -114,6 +123,15 @@ def measure_writes(name, count, scattered=False):
     measure(name, fleet, lines)
 
 
+def measure_shuffled():
+    """The same, each machine in whole blocks, whose sectors come in no order."""
+    sectors = in_blocks(128, True)
+    machines = -(-LINES // LOGGED)
+    fleet = [HOST] + [vm(number, 1 << 20) for number in range(machines)]
+    lines = [write(i // LOGGED, sectors[i % LOGGED], 1) for i in range(LINES)]
+    measure("write of 1 sector, whole blocks in no order", fleet, lines)
+
+
 def measure_showing():
     one = [HOST, vm(0, 1 << 20), write(0, 5, 1), snapshot(0)]
     many = [HOST, vm(0, 1 << 20)] + [write(0, block * 256, 1) for block in range(1024)] + [snapshot(0)]
@@ -124,19 +142,23 @@ def measure_showing():
     measure("read of 1 sector", one, [read] * LINES)
 
 
-def peak(machines, step):
-    """The peak where so many machines have full logs."""
+def peak(machines, sectors):
+    """The peak where each of so many machines took a write of each of the sectors."""
     fleet = [HOST] + [vm(number, 1 << 23) for number in range(machines)]
-    lines = (write(number, at * step, 1) for number in range(machines) for at in range(LOGGED))
+    lines = (write(number, sector, 1) for number in range(machines) for sector in sectors)
     return run(itertools.chain(fleet, lines))[1]
 
 
 def measure_memory():
-    """Full logs: sectors written one after another, some apart, and each in a block of its own. What the program takes
-    besides, and what this one had when it started it, stands in the peak with fewer machines too."""
-    for name, step in (("in a row", 1), ("every third", 3), ("seven a block", 17), ("one a block", 128)):
-        each = (peak(4, step) - peak(2, step)) / (2 * LOGGED)
-        print(f"memory, sectors {name}: {each:,.0f} bytes a written sector", flush=True)
+    """Full logs: so many sectors a block, in ascending order and in none. What the program takes besides, and what this one
+    had when it started it, stands in the peak with fewer machines too."""
+    for each in (1, 2, 3, 4, 8, 32, 128):
+        found = []
+        for shuffled in (False, True):
+            sectors = in_blocks(each, shuffled)
+            found.append((peak(4, sectors) - peak(2, sectors)) / (2 * len(sectors)))
+        ascending, in_no_order = found
+        print(f"memory, {each} a block: {ascending:,.0f} bytes a written sector, in no order {in_no_order:,.0f}", flush=True)
 
 
 if LINES < 100:
@@ -144,5 +166,6 @@ if LINES < 100:
 measure_memory()
 measure_writes("write of 1 sector", 1)
 measure_writes("write of 1 sector, scattered and tracked", 1, scattered=True)
+measure_shuffled()
 measure_writes("write of 128 sectors", 128)
 measure_showing()
