@@ -1,8 +1,8 @@
 -- Keys of blocks: no two blocks share one, and each key of 64 bits is led back to its block.
 use Rattle.std.proofs.Common.{◌≡◌, ◌≢◌, ℕ, ◌+◌, ◌*◌, ◌%◌, ◌^◌, ◌<◌, ◌≤◌, Option, nat_cmp, false, cond, sym, ap, refl, ◌∙◌, arith, inl, inr}
 use Rattle.std.proofs.lemmas.Bool.{cases_lt, lt-ltb, le-ltb, ne_eqb}
-use Rattle.std.proofs.lemmas.Nat.{mul-mod_first, mod-mul-add}
-use native.Mathlib.Nat.{mul_assoc, mul-add, mul-one, mod-lt}
+use Rattle.std.proofs.lemmas.Nat.{mul-mod_first, mod-mul-add, mod_below}
+use native.Mathlib.Nat.{mul_assoc, mul-add, mul-one}
 use Rattle.std.specs.BTreeMap.{is_at}
 use Rattle.std.specs.Map.{lookup}
 use Rattle.sector_model.proofs.Among.{at_is}
@@ -27,15 +27,13 @@ of_other : (b : ℕ) → 2 ^ 64 ≤ b → key_of b ≡ b
 unfolding key_of
 of_other b from = ap (λ x. cond x (b * SPREAD % 2 ^ 64) b) (le-ltb b (2 ^ 64) from)
 
-small : (n : ℕ) → n % 2 ^ 64 < 2 ^ 64
-small n = mod-lt n (omega arith)
-
 block_from : (b : ℕ) → b < 2 ^ 64 → (key_of b * GATHER) % 2 ^ 64 ≡ b
 block_from b less = ap (λ x. (x * GATHER) % 2 ^ 64) (of_block b less)
     ∙ led_back b SPREAD GATHER 10771413168148108919 (2 ^ 64) refl less
 
 pub key_back : (key : ℕ) → key < 2 ^ 64 → key_of (key * GATHER % 2 ^ 64) ≡ key
-key_back key less = of_block (key * GATHER % 2 ^ 64) (small (key * GATHER))
+key_back key less =
+    of_block (key * GATHER % 2 ^ 64) (mod_below (key * GATHER) (2 ^ 64) (omega arith))
     ∙ led_back key GATHER SPREAD 10771413168148108919 (2 ^ 64) refl less
 
 pub same_block : (a b : ℕ) → key_of a ≡ key_of b → a ≡ b
@@ -53,7 +51,7 @@ same_block a b is = elim (cases_lt a (2 ^ 64)) [
     apart : (a b : ℕ) → a < 2 ^ 64 → 2 ^ 64 ≤ b → key_of a ≢ key_of b
     apart a b low from is = omega (
       arith,
-      small (a * SPREAD),
+      mod_below (a * SPREAD) (2 ^ 64) (omega arith),
       from,
       sym (of_block a low) ∙ is ∙ of_other b from,
     )

@@ -1,3 +1,4 @@
+pub mod MaskBits
 pub mod Masks
 pub mod Pairs
 pub mod Options

@@ -1,14 +1,14 @@
 -- The mask of a page: what one more bit above the others changes, and where a sector stands.
-use Rattle.std.proofs.Common.{Bor, set, not, eqb, is_some, ◌≡◌, ℕ, zero, suc, ◌+◌, ◌-◌, ◌*◌, ◌/◌, ◌%◌, ◌<◌, ◌≤◌, ◌^◌, Bool, true, false, cond, List, [], ◌∷◌, ◌++◌, length, ◌≢◌, Option, Some, None, pow_pos, length-append, sym, ap, subst, refl, ◌∙◌, arith, inl, inr, get_or}
+use Rattle.std.proofs.Common.{Bor, set, not, eqb, is_some, ◌≡◌, ℕ, zero, suc, ◌+◌, ◌-◌, ◌*◌, ◌/◌, ◌%◌, ◌<◌, ◌≤◌, ◌^◌, Bool, true, false, cond, List, [], ◌∷◌, ◌++◌, length, ◌≢◌, Option, Some, None, pow_pos, length-append, sym, ap, refl, ◌∙◌, arith, inl, inr, get_or}
 use Rattle.std.specs.Int.{bit_at, w128, trailing_zeros}
 use Rattle.std.specs.Int.RustNames.{bit_and, bit_or, count_ones}
 use Rattle.std.specs.List.{slice_get, list_any, range_with_len}
 use Rattle.std.specs.Option.{option_copied, option_map, option_or}
-use Rattle.std.specs.Int.Count.{ones}
 use Rattle.std.proofs.Math.Pow.{pow_mono}
+use native.Mathlib.Nat.{mod-eq_of_lt}
 use lib.Pow.{mod-mod-pow}
-use Rattle.std.proofs.lemmas.Nat.{ones_cat, one_shl, mod-mul-add, mod_below, and_mask, zero_from_ones, pow-add, div-add-mod'}
-use Rattle.std.proofs.lemmas.Nat.Bits.{bit_at_cat_low, bit_at_cat_high, bit_at_above, bit_at-lt, and_pow, bit_at-trailing_zeros}
+use Rattle.std.proofs.lemmas.Nat.{one_shl, and_mask, zero_from_ones, pow-add, div-add-mod'}
+use Rattle.std.proofs.lemmas.Nat.Bits.{bit_at_cat_low, bit_at_above, bit_at-lt, and_pow, bit_at-trailing_zeros}
 use Rattle.std.specs.Int.Bits.{or_shifted_r}
 use Rattle.std.proofs.lemmas.Bool.{cases_eq, cases_lt, eqb-true, eq-eqb, ne_eqb}
 use Rattle.std.proofs.lemmas.List.Folds.{list_any_none}
@@ -16,6 +16,7 @@ use Rattle.basics.proofs.ItemAt.{slice_get-front, slice_get-last, slice_get-set_
 use Rattle.sector_model.specs.declared.sector.Sector.{Sector}
 use Rattle.sector_model.proofs.Touched.{any_at}
 use Rattle.basics.specs.Bits.{has_bit}
+use Rattle.snapshot_chain.proofs.MaskBits.{bit_below, bit_set, bit_is_set, clear_above, count_parts, count_more, rank_below}
 use Rattle.snapshot_chain.specs.Page128.{PageState, no_sectors, rank, sector_at, with_sector, IsPage, IsReplaced}
 
 -- one more bit above the others
@@ -28,36 +29,9 @@ set_bit m p within above =
 pub next_above : (m p : ℕ) → m < 2 ^ p → m + 2 ^ p < 2 ^ (p + 1)
 next_above m p above = omega (arith, pow-add 2 p 1)
 
-turned : (m p : ℕ) → m + 2 ^ p ≡ 1 * 2 ^ p + m
-turned m p = omega arith
-
-pub count_set : (m p : ℕ) → m < 2 ^ p → count_ones (m + 2 ^ p) ≡ count_ones m + 1
-unfolding count_ones
-count_set m p above = ap ones (turned m p) ∙ ones_cat p 1 m above ∙ omega arith
-
--- the bits below and from the new one on
-bit_below : (m p k : ℕ) → k < p → bit_at (m + 2 ^ p) k ≡ bit_at m k
-bit_below m p k less = ap (λ n. bit_at n k) (turned m p) ∙ bit_at_cat_low 1 p m k less
-
-bit_here : (m p : ℕ) → m < 2 ^ p → bit_at (m + 2 ^ p) p ≡ 1
-bit_here m p above = ap (λ n. bit_at n p) (turned m p) ∙ bit_at_cat_high 1 p m p above (omega arith)
-    ∙ (let none : p - p ≡ 0 = omega arith in ap (bit_at 1) none)
-
-low_same : (m j k : ℕ) → m < 2 ^ (j + k) → (m + 2 ^ (j + k)) % 2 ^ k ≡ m % 2 ^ k
-low_same m j k above =
-    sym (mod-mod-pow (m + 2 ^ (j + k)) j k)
-    ∙ ap (λ x. x % 2 ^ k) (ap (λ x. x % 2 ^ (j + k)) (turned m (j + k))
-    ∙ mod-mul-add 1 (2 ^ (j + k)) m above)
-
-rank_below : (m p k : ℕ) → m < 2 ^ p → k ≤ p → rank (m + 2 ^ p) k ≡ rank m k
-rank_below m p k above le =
-    let at : p ≡ (p - k) + k = omega arith in
-    let P : ℕ → Type 0 = λ q. m < 2 ^ q → rank (m + 2 ^ q) k ≡ rank m k in
-    subst P (sym at) (λ fits. ap count_ones (low_same m (p - k) k fits)) above
-
 rank_here : (m p : ℕ) → m < 2 ^ p → rank (m + 2 ^ p) p ≡ count_ones m
 rank_here m p above =
-    ap count_ones (ap (λ x. x % 2 ^ p) (turned m p) ∙ mod-mul-add 1 (2 ^ p) m above)
+    rank_below m p p (omega arith) ∙ ap count_ones (mod-eq_of_lt above)
 
 -- a sector's rank is below their number
 pub zero_ones : count_ones 0 ≡ 0
@@ -73,12 +47,10 @@ some_above m k set = elim (cases_eq (count_ones (m / 2 ^ k)) 0) [
 
 pub rank_less : (m k : ℕ) → bit_at m k ≡ 1 → rank m k < count_ones m
 rank_less m k set =
-    let parts : count_ones m ≡ count_ones (m / 2 ^ k) + count_ones (m % 2 ^ k) =
-    ap count_ones (sym (div-add-mod' m (2 ^ k)))
-    ∙ ones_cat k (m / 2 ^ k) (m % 2 ^ k) (mod_below m (2 ^ k) (pow_pos k)) in
-    omega (arith, parts, some_above m k set)
+    omega (arith, count_parts m k, some_above m k set)
 
-pub chosen : {X : Type 0} (b : Bool) (x y z : Option X) → (b ≡ true → x ≡ y) → cond b x z ≡ cond b y z
+pub chosen : {X : Type 0} (b : Bool) (x y z : Option X) → (b ≡ true → x ≡ y)
+    → cond b x z ≡ cond b y z
 chosen true x y z h = h refl
 chosen false x y z h = refl
 
@@ -86,7 +58,7 @@ pub grown-below : (page : PageState) (offset k : ℕ) (sector : Sector)
     → length page.sectors ≡ count_ones page.mask → page.mask < 2 ^ offset → k < offset
     → sector_at (with_sector page offset sector) k ≡ sector_at page k
 grown-below page offset k sector long above less =
-    rw (bit_below page.mask offset k less, rank_below page.mask offset k above (omega arith))
+    rw (bit_below page.mask offset k less, rank_below page.mask offset k (omega arith))
     (chosen (has_bit page.mask k) (slice_get (page.sectors ++ sector ∷ []) (rank page.mask k))
     (slice_get page.sectors (rank page.mask k)) None
     (λ set. slice_get-front page.sectors (sector ∷ []) (rank page.mask k)
@@ -96,7 +68,11 @@ pub grown-here : (page : PageState) (offset : ℕ) (sector : Sector)
     → length page.sectors ≡ count_ones page.mask → page.mask < 2 ^ offset
     → sector_at (with_sector page offset sector) offset ≡ Some sector
 grown-here page offset sector long above =
-    rw (bit_here page.mask offset above, rank_here page.mask offset above, ← long)
+    rw (
+      bit_set page.mask offset (clear_above page.mask offset above),
+      rank_here page.mask offset above,
+      ← long,
+    )
     (slice_get-last page.sectors sector)
 
 pub above_none : (page : PageState) (offset k : ℕ) → page.mask < 2 ^ offset → offset ≤ k
@@ -121,9 +97,6 @@ test_bit m k within = ap (λ x. not (eqb x 0)) (ap (bit_and m) (one_shl k 128 wi
 
 pub rank_of : (m k : ℕ) → k < 128 → count_ones (bit_and m (1 * 2 ^ k % 2 ^ 128 - 1)) ≡ rank m k
 rank_of m k within = rw (one_shl k 128 within, and_mask m k) refl
-
-pub bit_is_set : (m k : ℕ) → has_bit m k ≡ true → bit_at m k ≡ 1
-bit_is_set m k is = eqb-true (bit_at m k) 1 is
 
 -- ranks of two of a page's offsets differ
 pub rank_apart : (m j k : ℕ) → j < k → bit_at m j ≡ 1 → rank m j < rank m k
@@ -194,7 +167,7 @@ below_all m p within above =
 pub grown_count : (xs : List Sector) (x : Sector) (m p : ℕ) → m < 2 ^ p → length xs ≡ count_ones m
     → length (xs ++ x ∷ []) ≡ count_ones (m + 2 ^ p)
 grown_count xs x m p above long =
-    omega (arith, length-append xs (x ∷ []), long, count_set m p above)
+    omega (arith, length-append xs (x ∷ []), long, count_more m p (clear_above m p above))
 
 -- one offset more of a page that is made from the lowest offset up
 pub more_some : (page : PageState) (offset : ℕ) (sector : Sector) (f : ℕ → Option Sector)
@@ -254,15 +227,23 @@ lone_other offset k sector other = elim (cases_lt k offset) [
       (next_above 0 offset (pow_pos offset)) (omega (arith, from, other))
 ]
 
+-- another sector at an offset, where no other one changes
+pub replaced_at : (old new : PageState) (offset : ℕ) (was sector : Sector)
+    → sector_at old offset ≡ Some was → sector_at new offset ≡ Some sector
+    → ((k : ℕ) → k ≢ offset → sector_at new k ≡ sector_at old k) → IsReplaced old offset sector new
+replaced_at old new offset was sector had has others k within = elim (cases_eq k offset) [
+  | inl same ↦ rw (same, eq-eqb offset offset refl)
+      (has ∙ sym (ap (option_map (λ gone. sector)) had))
+  | inr other ↦ rw (ne_eqb k offset other) (others k other)
+]
+
 pub lone_replaced : (offset : ℕ) (was sector : Sector)
     → IsReplaced (with_sector no_sectors offset was) offset sector
     (with_sector no_sectors offset sector)
-lone_replaced offset was sector k within = elim (cases_eq k offset) [
-  | inl same ↦ rw (same, eq-eqb offset offset refl)
-      (lone_here offset sector ∙ sym (ap (option_map (λ gone. sector)) (lone_here offset was)))
-  | inr other ↦ rw (ne_eqb k offset other) (lone_other offset k sector other
-      ∙ sym (lone_other offset k was other))
-]
+lone_replaced offset was sector =
+    replaced_at (with_sector no_sectors offset was) (with_sector no_sectors offset sector) offset
+    was sector (lone_here offset was) (lone_here offset sector)
+    (λ k other. lone_other offset k sector other ∙ sym (lone_other offset k was other))
 
 pub lone_page : (offset : ℕ) (sector : Sector) → offset < 128
     → IsPage (with_sector no_sectors offset sector)

@@ -1,17 +1,15 @@
 -- A page of two sectors: what stands at each offset, and what another sector at one of them makes.
-use Rattle.std.proofs.Common.{◌≡◌, ◌≢◌, ℕ, ◌+◌, ◌*◌, ◌%◌, ◌<◌, ◌^◌, [], ◌∷◌, refl, Some, None, pow_pos, sym, ap, ◌∙◌, arith, inl, inr}
-use Rattle.std.specs.Option.{option_map}
+use Rattle.std.proofs.Common.{◌≡◌, ◌≢◌, ℕ, ◌+◌, ◌*◌, ◌%◌, ◌<◌, ◌^◌, [], ◌∷◌, Some, None, sym, ◌∙◌, arith, inl, inr}
 use Rattle.std.proofs.Math.Pow.{pow_mono}
-use Rattle.std.proofs.lemmas.Bool.{cases_eq, cases_lt, eq-eqb, ne_eqb}
-use Rattle.std.proofs.lemmas.Nat.{one_shl}
+use Rattle.std.proofs.lemmas.Bool.{cases_eq, cases_lt}
+use Rattle.std.proofs.lemmas.Nat.{one_shl, pow_below}
 use Rattle.sector_model.specs.declared.sector.Sector.{Sector}
-use Rattle.snapshot_chain.specs.Page128.{PageState, no_sectors, with_sector, sector_at, IsPage, IsReplaced}
+use Rattle.snapshot_chain.specs.Page128.{no_sectors, with_sector, sector_at, IsPage, IsReplaced}
 use Rattle.snapshot_chain.specs.SectorPair.{pair_state, AreOffsets}
-use Rattle.snapshot_chain.proofs.Masks.{grown-below, grown-here, above_none, next_above, lone_here, lone_other, lone_page, below_all, grown_count}
+use Rattle.snapshot_chain.proofs.Masks.{grown-below, grown-here, above_none, next_above, lone_here, lone_other, lone_page, below_all, grown_count, replaced_at}
 
 pub lone_below : (low high : ℕ) → low < high → 0 + 2 ^ low < 2 ^ high
-lone_below low high less =
-    omega (arith, next_above 0 low (pow_pos low), pow_mono {i = low + 1} {j = high} (omega (arith, less)))
+lone_below low high less = omega (arith, pow_below low high less)
 
 lone_is_page : (low high : ℕ) (lower : Sector) → AreOffsets low high
     → IsPage (with_sector no_sectors low lower)
@@ -50,23 +48,14 @@ pair_page low high lower upper are = (
       (lone_is_page low high lower are).1,
 )
 
--- another sector at an offset, where no other one changes
-replaced_at : (old new : PageState) (offset : ℕ) (was sector : Sector)
-    → sector_at old offset ≡ Some was → sector_at new offset ≡ Some sector
-    → ((k : ℕ) → k ≢ offset → sector_at new k ≡ sector_at old k) → IsReplaced old offset sector new
-replaced_at old new offset was sector had has others k within = elim (cases_eq k offset) [
-  | inl same ↦ rw (same, eq-eqb offset offset refl)
-      (has ∙ sym (ap (option_map (λ gone. sector)) had))
-  | inr other ↦ rw (ne_eqb k offset other) (others k other)
-]
-
 pub low_replaced : (low high : ℕ) (lower upper sector : Sector) → AreOffsets low high
     → IsReplaced (pair_state low lower high upper) low sector (pair_state low sector high upper)
 low_replaced low high lower upper sector are =
     replaced_at (pair_state low lower high upper) (pair_state low sector high upper) low lower
     sector (pair_low low high lower upper are) (pair_low low high sector upper are)
     (λ k other. elim (cases_eq k high) [
-      | inl at ↦ rw at (pair_high low high sector upper are ∙ sym (pair_high low high lower upper are))
+      | inl at ↦ rw at (pair_high low high sector upper are
+          ∙ sym (pair_high low high lower upper are))
       | inr another ↦ pair_other low high k sector upper are other another
           ∙ sym (pair_other low high k lower upper are other another)
     ])
@@ -77,7 +66,8 @@ high_replaced low high lower upper sector are =
     replaced_at (pair_state low lower high upper) (pair_state low lower high sector) high upper
     sector (pair_high low high lower upper are) (pair_high low high lower sector are)
     (λ k other. elim (cases_eq k low) [
-      | inl at ↦ rw at (pair_low low high lower sector are ∙ sym (pair_low low high lower upper are))
+      | inl at ↦ rw at (pair_low low high lower sector are
+          ∙ sym (pair_low low high lower upper are))
       | inr another ↦ pair_other low high k lower sector are another other
           ∙ sym (pair_other low high k lower upper are another other)
     ])

@@ -8,7 +8,7 @@ use Rattle.std.specs.List.{list_any, range_with_len}
 use Rattle.sector_model.specs.declared.run.TheConstants.{BLOCK_SECTORS}
 use Rattle.sector_model.specs.declared.sector.Sector.{Sector}
 use Rattle.snapshot_chain.specs.declared.layer.TheConstants.{SPREAD}
-use Rattle.snapshot_chain.specs.Page128.{PageState, no_sectors, sector_at, run_at, IsAppended}
+use Rattle.snapshot_chain.specs.Page128.{PageState, no_sectors, sector_at, run_at, IsAddedInPlace}
 
 abbrev pub LayerState : Type 0
 LayerState = List (ℕ × PageState)
@@ -66,12 +66,12 @@ IsWritten old new first sectors = (block offset : ℕ) → offset < BLOCK_SECTOR
     (sector_in old block offset)
 
 -- the page of a block took sectors in place, or is as it was; none took some
-abbrev pub IsAppendedAt : (added : Bool) (offset : ℕ) → List Sector
+abbrev pub IsAddedAt : (added : Bool) (offset : ℕ) → List Sector
     → (old new : Option PageState) → Type 0
-IsAppendedAt added offset sectors None new = (added ≡ false) × (new ≡ None)
-IsAppendedAt added offset sectors (Some old) None = ⊥
-IsAppendedAt added offset sectors (Some old) (Some new) =
-    IsAppended added offset sectors old new
+IsAddedAt added offset sectors None new = (added ≡ false) × (new ≡ None)
+IsAddedAt added offset sectors (Some old) None = ⊥
+IsAddedAt added offset sectors (Some old) (Some new) =
+    IsAddedInPlace added offset sectors old new
 
 -- the same in place, or the layer is as it was
 abbrev pub IsWrittenIf : (added : Bool) (old new : LayerState) (first : ℕ) → List Sector → Type 0

@@ -74,12 +74,12 @@ IsGrown old block first sectors (Some page) = IsRewritten old block first sector
 IsGrown old block first sectors None = (offset : ℕ) → offset < BLOCK_SECTORS
     → IsSome (run_at first sectors (BLOCK_SECTORS * block + offset)) → IsSome (old offset)
 
--- the same, or the page is as it was
-abbrev pub IsAppended : (added : Bool) → (offset : ℕ) → List Sector → (old new : PageState)
+-- the page has the run, which lies in its block, or is as it was
+abbrev pub IsAddedInPlace : (added : Bool) → (offset : ℕ) → List Sector → (old new : PageState)
     → Type 0
-IsAppended true offset sectors old new = IsRewritten (sector_at old) 0 offset sectors new
+IsAddedInPlace true offset sectors old new = IsRewritten (sector_at old) 0 offset sectors new
     × (offset + length sectors ≤ BLOCK_SECTORS)
-IsAppended false offset sectors old new = new ≡ old
+IsAddedInPlace false offset sectors old new = new ≡ old
 
 -- each sector that was there is the run's where the run has one, and no other is there
 abbrev pub IsOverwritten : (old : ℕ → Option Sector) (block first : ℕ) → List Sector

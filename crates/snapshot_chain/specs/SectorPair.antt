@@ -1,4 +1,4 @@
--- Two sectors of one block.
+-- Two sectors of one block, as the page that they are.
 use Rattle.std.specs.Prelude.{ℕ, ◌<◌}
 use Rattle.sector_model.specs.declared.run.TheConstants.{BLOCK_SECTORS}
 use Rattle.sector_model.specs.declared.sector.Sector.{Sector}

@@ -1,4 +1,5 @@
-//! One sector in a piece of memory of its own.
+//! One sector in a piece of memory of its own. Pages grow in turns, and lists that grow in turns
+//! leave holes; pieces of one size leave none.
 ghost use Rattle.std.specs.Prelude.{◌≡◌, IfOk};
 
 use sector_model::{NoMemory, Sector};

@@ -2,7 +2,7 @@
 ghost use Rattle.std.specs.Prelude.{◌≡◌, ◌≢◌, ◌+◌, ◌*◌, ◌<◌, ◌≤◌, ◌^◌, [], length, ◌||◌, ◌⊎◌, IfOk, OnOk, OnErr, IsSome, None, Some, option_map, unwrap_or, ℕ};
 ghost use Rattle.std.specs.Option.{option_copied, option_or};
 ghost use Rattle.snapshot_chain.specs.Page128.{PageState, no_sectors, run_at, IsGrown};
-ghost use Rattle.snapshot_chain.specs.Layer.{key_of, page_of, slot_of, sector_of, sector_in, HasSame, IsWritten, IsWrittenIf, IsAppendedAt, IsWrittenOver, AreGrown, KeepsSlots, AddsSlots, IsSlotAdded, IsWithin, IsRoomFor, IsRoomAt, IsOpenAt, IsMerged, after_taking, TakesPages, LayerState, has_sector};
+ghost use Rattle.snapshot_chain.specs.Layer.{key_of, page_of, slot_of, sector_of, sector_in, HasSame, IsWritten, IsWrittenIf, IsAddedAt, IsWrittenOver, AreGrown, KeepsSlots, AddsSlots, IsSlotAdded, IsWithin, IsRoomFor, IsRoomAt, IsOpenAt, IsMerged, after_taking, TakesPages, LayerState, has_sector};
 ghost use Rattle.std.specs.BTreeSet.{contains};
 ghost use Rattle.std.specs.Ordering.{nat_cmp};
 
@@ -13,7 +13,7 @@ use std::collections::{BTreeMap, BTreeSet};
 use std::marker::Model;
 use std::sync::ledger::Ledger;
 
-/// Spreads blocks over the keys: 2^64 divided by the golden ratio, which is odd.
+/// Spreads blocks over the keys: 2^64 divided by the golden ratio, rounded to an odd number.
 const SPREAD: u64 = 0x9E37_79B9_7F4A_7C15;
 
 /// Leads a key back to its block: the inverse of `SPREAD` modulo 2^64.
@@ -59,8 +59,8 @@ impl Layer {
         }
     }
 
-    /// Writes sectors from sector `first` of the disk on. All memory is taken before a sector is
-    /// written, so an `Err` changes nothing that the layer holds.
+    /// Writes sectors from sector `first` of the disk on. It answers only want of memory, and then
+    /// what the layer holds is as it was.
     pub(crate) fn write(
         &mut self,
         alloc: Global,
@@ -73,7 +73,7 @@ impl Layer {
         ensures within { (c : ℕ) → first + length sectors.now ≤ c → IsWithin c self.old
             → IsWithin c self.new }
     {
-        if self.append_run(alloc, first, sectors)? {
+        if self.add_in_place(alloc, first, sectors)? {
             return Ok(());
         }
         self.write_pages(alloc, first, sectors)
@@ -94,10 +94,10 @@ impl Layer {
         Ok(())
     }
 
-    /// Adds sectors from sector `first` of the disk on to the page of their block, in place, where
-    /// that page has several and all of them stand before. Says false where it hasn't done so. An
-    /// `Err` and a false change nothing that the layer holds.
-    fn append_run(
+    /// Adds sectors from sector `first` of the disk on to the page of their block, in place, if the
+    /// page takes them (`Page128::add_in_place`). Says false where it doesn't. An `Err` and a false
+    /// change nothing that the layer holds.
+    fn add_in_place(
         &mut self,
         alloc: Global,
         first: u64,
@@ -108,11 +108,11 @@ impl Layer {
         ensures err { OnErr result (HasSame self.old self.new) }
         ensures slots { KeepsSlots self.new self.old }
     {
-        self.append_at(alloc, first / BLOCK_SECTORS, first % BLOCK_SECTORS, sectors)
+        self.add_at(alloc, first / BLOCK_SECTORS, first % BLOCK_SECTORS, sectors)
     }
 
     /// Adds sectors from an offset of a block on to the block's page, in place, if it takes them.
-    fn append_at(
+    fn add_at(
         &mut self,
         alloc: Global,
         block: u64,
@@ -120,7 +120,7 @@ impl Layer {
         sectors: &[Sector],
     ) -> Result<bool, NoMemory>
         requires { offset < BLOCK_SECTORS }
-        ensures here { IfOk result (λ added. IsAppendedAt added offset sectors.now
+        ensures here { IfOk result (λ added. IsAddedAt added offset sectors.now
             (slot_of self.old block) (slot_of self.new block)) }
         ensures err { OnErr result (slot_of self.new block ≡ slot_of self.old block) }
         ensures others { (other : ℕ) → other ≢ block
@@ -128,7 +128,7 @@ impl Layer {
         ensures slots { KeepsSlots self.new self.old }
     {
         match self.pages.get_mut(&key_of(block)) {
-            Some(page) => page.append_run(alloc, offset, sectors),
+            Some(page) => page.add_in_place(alloc, offset, sectors),
             None => Ok(false),
         }
     }

@@ -1,7 +1,7 @@
 //! A page of a layer: the written sectors of one block, each once and no others.
 ghost use Rattle.std.specs.Prelude.{◌≡◌, ◌+◌, ◌*◌, ◌<◌, ◌≤◌, ◌^◌, [], length, IsTrue, IsSome, is_some, ◌↔◌, IfOk, OnErr, None, ℕ};
 ghost use Rattle.std.specs.Option.{option_copied};
-ghost use Rattle.snapshot_chain.specs.Page128.{PageState, IsPage, no_sectors, sector_at, run_at, with_sector, IsJoined, IsRewritten, IsGrown, IsOverwritten, IsReplaced, IsAppended};
+ghost use Rattle.snapshot_chain.specs.Page128.{PageState, IsPage, no_sectors, sector_at, run_at, with_sector, IsJoined, IsRewritten, IsGrown, IsOverwritten, IsReplaced, IsAddedInPlace};
 ghost use Rattle.snapshot_chain.specs.PageForm.{page_state, IsOfBlock};
 
 use crate::boxed_sector::BoxedSector;
@@ -14,7 +14,8 @@ use std::mem;
 
 /// Which sectors of a block a layer has, and these sectors in ascending order.
 ///
-/// A page takes memory for the sectors that it has, and no more.
+/// A page takes memory for the sectors that it has; a list of several may have room for some more
+/// pointers.
 #[derive(Debug, Drop)]
 pub struct Page128 {
     form: PageForm,
@@ -149,7 +150,7 @@ impl Page128 {
     /// a page of three sectors or more, and where the new ones are within the block, and either all
     /// above those of the page or a single one that the page lacks; else it says false. It answers
     /// only want of memory. An `Err` and a false change nothing.
-    pub(crate) fn append_run(
+    pub(crate) fn add_in_place(
         &mut self,
         alloc: Global,
         offset: u64,
@@ -157,16 +158,14 @@ impl Page128 {
     ) -> Result<bool, NoMemory>
         requires { offset < BLOCK_SECTORS }
         ensures ok { IfOk result
-            (λ added. IsAppended added offset sectors.now self.old self.new) }
+            (λ added. IsAddedInPlace added offset sectors.now self.old self.new) }
         ensures err { OnErr result (self.new ≡ self.old) }
     {
         let PageForm::Many(placed) = &mut self.form else {
             return Ok(false);
         };
-        if let [sector] = sectors
-            && !placed.has(offset)
-        {
-            placed.insert(alloc, offset, sector)?;
+        if sectors.len() == 1 && !placed.has(offset) {
+            placed.insert(alloc, offset, &sectors[0])?;
             return Ok(true);
         }
         let is_within = sectors.len() as u64 <= BLOCK_SECTORS - offset;

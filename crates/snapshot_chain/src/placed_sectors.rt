@@ -75,7 +75,7 @@ impl PlacedSectors {
         Some(boxed.as_sector())
     }
 
-    /// Adds the sector of an offset above those of all others. An `Err` changes nothing.
+    /// Adds the sector of an offset above those of all others. It answers only want of memory.
     pub(crate) fn append(&mut self, offset: u64, sector: BoxedSector) -> Result<(), NoMemory>
         requires offset { offset < BLOCK_SECTORS }
         requires above { self.old.mask < 2 ^ offset }
@@ -96,7 +96,7 @@ impl PlacedSectors {
     }
 
     /// Adds sectors one after another from an offset on, which is above those of all others. Where
-    /// there is no room for them, it makes some for later ones too: an eighth of what is there. An
+    /// there is no room for them, it makes some for later ones too: half of what is there. An
     /// `Err` changes nothing.
     pub(crate) fn append_run(
         &mut self,
@@ -145,7 +145,7 @@ impl PlacedSectors {
         let len = self.sectors.len();
         if self.sectors.capacity() - len < count {
             let left = (BLOCK_SECTORS as usize).saturating_sub(len);
-            let later = left.saturating_sub(count).min(len / 8);
+            let later = left.saturating_sub(count).min(len / 2);
             self.sectors.reserve_exact(count + later)?;
         }
         Ok(())

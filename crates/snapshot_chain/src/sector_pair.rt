@@ -1,4 +1,5 @@
-//! Two sectors of one block.
+//! Two sectors of one block, the page of a guest that writes here and there: a list of two would
+//! take more memory than the sectors need.
 ghost use Rattle.std.specs.Prelude.{◌≡◌, ◌<◌, IfOk};
 ghost use Rattle.std.specs.Option.{option_copied};
 ghost use Rattle.snapshot_chain.specs.Page128.{PageState, IsPage, sector_at, IsReplaced};

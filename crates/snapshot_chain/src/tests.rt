@@ -92,7 +92,8 @@ fn act(
         chain.reserve_merge(*kept)?;
     }
     let first = (draw >> 40) % capacity;
-    let count = 1 + (draw >> 20) % (capacity - first);
+    let most = if draw & 32 != 0 { 1 } else { capacity - first };
+    let count = 1 + (draw >> 20) % most;
     let byte = ((draw >> 4) % 256) as u8;
     let sectors = vec![in alloc; Sector::filled(byte); count as usize]?;
     chain.write(first, sectors.as_slice())?;

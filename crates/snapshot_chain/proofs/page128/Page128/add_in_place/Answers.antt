@@ -1,29 +1,38 @@
 -- The sectors stand behind those of the page, or a single one between them.
-use Rattle.std.proofs.Common.{◌≡◌, ◌≤◌, ◌<◌, ◌^◌, ◌+◌, [], length, false, sym, ◌∙◌, refl, arith}
+use Rattle.std.proofs.Common.{◌≡◌, ◌≤◌, ◌<◌, ◌^◌, ◌+◌, [], ◌∷◌, length, get_or, drop_of_length-le, false, sym, ap, ◌∙◌, refl, arith}
+use Rattle.std.proofs.lemmas.List.{get_or_default}
+use Rattle.basics.proofs.ItemAt.{split_around}
 use Rattle.basics.specs.Bits.{has_bit}
+use Rattle.sector_model.specs.declared.sector.Sector.{Sector}
 use Rattle.snapshot_chain.specs.Page128.{IsPage}
 use Rattle.snapshot_chain.proofs.Behind.{rewritten_behind}
-use Rattle.snapshot_chain.proofs.Inserted.{inserted_rewritten, single}
-use Rattle.snapshot_chain.proofs.page128.Page128.append_run.Goals as goal
+use Rattle.snapshot_chain.proofs.Inserted.{inserted_rewritten}
+use Rattle.snapshot_chain.proofs.page128.Page128.add_in_place.Goals as goal
 
-pub returns-clause-ok : goal.returns-clause-ok
-returns-clause-ok c =
+pub returns-then-not-has-clause-ok : goal.returns-then-not-has-clause-ok
+returns-then-not-has-clause-ok c =
     let page : IsPage c.in-Many.placed.value = rw c.deref.ensures at c.has.ensures.page in
     let free : has_bit c.in-Many.placed.value.mask c.args.offset ≡ false =
-    rw c.deref.ensures at (sym c.has.ensures.has ∙ c.if-not-has.true) in (
+    rw c.deref.ensures at (sym c.has.ensures.has ∙ c.if-not-has.true) in
+    let sector : Sector = get_or c.args.sectors.now 0 (record { 0 = [] }) in
+    let alone : c.args.sectors.now ≡ sector ∷ [] =
+    split_around c.args.sectors.now 0 sector (omega (arith, c.if-sectors-eq1.true))
+    (get_or_default c.args.sectors.now 0 _ sector (omega (arith, c.if-sectors-eq1.true)))
+    ∙ ap (λ rest. sector ∷ rest)
+    (drop_of_length-le c.args.sectors.now {i = 1} (omega (arith, c.if-sectors-eq1.true))) in (
       rw (
         ← c.self.view_is,
         c.in-Many.is,
         c.in_ok-insert.ensures.ok,
         c.deref_mut.ensures.value,
-        single c.args.sectors.now (record { 0 = [] }) c.in-len1.len_at_least c.in-len1.len_below,
+        alone,
       )
           (inserted_rewritten c.in-Many.placed.value c.args.offset _ page free),
-      omega (arith, c.requires, c.in-len1.len_below),
+      omega (arith, c.requires, c.if-sectors-eq1.true),
     )
 
-pub returns-2-clause-ok : goal.returns-2-clause-ok
-returns-2-clause-ok c =
+pub returns-clause-ok : goal.returns-clause-ok
+returns-clause-ok c =
     let fits : c.args.offset + length c.args.sectors.now ≤ 128 =
     omega (arith, c.if-not-is_within.false, c.requires) in
     let page : IsPage c.in-Many.placed.value =
