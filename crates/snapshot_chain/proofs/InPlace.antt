@@ -6,7 +6,7 @@ use Rattle.std.specs.Option.{option_or}
 use Rattle.std.proofs.lemmas.Bool.{cases_eq, cases_lt, false≢true}
 use Rattle.sector_model.specs.declared.sector.Sector.{Sector}
 use Rattle.snapshot_chain.specs.Page128.{PageState, run_at}
-use Rattle.snapshot_chain.specs.Layer.{LayerState, slot_of, sector_in, HasSame, IsWritten, IsWrittenIf, IsAddedAt}
+use Rattle.snapshot_chain.specs.Layer.{LayerState, slot_of, sector_in, HasSame, IsWrittenIf, IsAddedAt}
 use Rattle.snapshot_chain.proofs.Slots.{run_behind}
 use Rattle.snapshot_chain.proofs.Writes.{run_before, run_from}
 
@@ -73,12 +73,3 @@ same_if (Err why) old new block others is = λ b k within. elim (cases_eq b bloc
   | inl this ↦ rw (this, is) refl
   | inr apart ↦ rw (others b apart) refl
 ]
-
--- first in place, and if that wasn't done, page by page
-pub written_then : (old mid new : LayerState) (first : ℕ) (xs : List Sector) → HasSame old mid
-    → IsWritten mid new first xs → IsWritten old new first xs
-written_then old mid new first xs same is b k within =
-    is b k within ∙ ap (option_or (run_at first xs (128 * b + k))) (same b k within)
-
-pub same_then : (old mid new : LayerState) → HasSame old mid → HasSame mid new → HasSame old new
-same_then old mid new one two b k within = two b k within ∙ one b k within

@@ -13,6 +13,5 @@ pub mod Keeping
 pub mod LayerSteps
 pub mod LayersRead
 pub mod Blocks
-mod Behind
-pub mod Inserted
+pub mod Puts
 mod InPlace

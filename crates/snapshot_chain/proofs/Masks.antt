@@ -108,7 +108,7 @@ rank_apart m j k less set =
     ap (λ n. m % 2 ^ n % 2 ^ j) at ∙ mod-mod-pow m (k - j) j in
     omega (arith, rank_less (m % 2 ^ k) j low, ap count_ones cut)
 
-here_some : {X : Type 0} (xs : List X) (i : ℕ) (x : X) → i < length xs
+pub here_some : {X : Type 0} (xs : List X) (i : ℕ) (x : X) → i < length xs
     → option_map (λ was. x) (slice_get xs i) ≡ Some x
 here_some [] i x less = absurd (omega (arith, less))
 here_some (y ∷ xs) zero x less = refl

@@ -1,7 +1,6 @@
 -- A page of a layer: which of the sectors of a block it has, and these in ascending order of their
 -- offsets in the block.
 use Rattle.std.specs.Prelude.{◌≡◌, ℕ, ◌+◌, ◌-◌, ◌*◌, ◌<◌, ◌≤◌, ◌^◌, ◌%◌, ◌==◌, nat_le, List, [], ◌∷◌, ◌++◌, length, slice_get, Bool, Option, Some, None, IsSome, option_map, unwrap_or, count_ones, true, false, if◌then◌else◌}
-use Rattle.std.specs.List.{insert}
 use Rattle.std.specs.Option.{option_or}
 use Rattle.basics.specs.Bits.{has_bit}
 use Rattle.sector_model.specs.declared.run.TheConstants.{BLOCK_SECTORS}
@@ -35,20 +34,6 @@ with_sector page offset sector = record {
   mask = page.mask + 2 ^ offset;
   sectors =
       page.sectors ++ sector ∷ [];
-}
-
--- the page and sectors one after another from an offset above all of its own on
-abbrev pub with_run : PageState → (offset : ℕ) → List Sector → PageState
-with_run page offset sectors = record {
-  mask = page.mask + (2 ^ length sectors - 1) * 2 ^ offset;
-  sectors = page.sectors ++ sectors;
-}
-
--- the page and the sector of an offset that it lacked, between those of its own
-abbrev pub with_inserted : PageState → (offset : ℕ) → Sector → PageState
-with_inserted page offset sector = record {
-  mask = page.mask + 2 ^ offset;
-  sectors = insert page.sectors (rank page.mask offset) sector;
 }
 
 -- the page has a sector for each set bit, at most one for each sector of a block
@@ -92,3 +77,8 @@ IsOverwritten old block first sectors page = (offset : ℕ) → offset < BLOCK_S
 abbrev pub IsReplaced : PageState → (offset : ℕ) → Sector → PageState → Type 0
 IsReplaced old offset sector new = (k : ℕ) → k < BLOCK_SECTORS → sector_at new k
     ≡ (if k == offset then option_map (λ was. sector) (sector_at old k) else sector_at old k)
+
+-- the page has the sector at the offset, and elsewhere what it had
+abbrev pub IsPut : PageState → (offset : ℕ) → Sector → PageState → Type 0
+IsPut old offset sector new = (k : ℕ) → k < BLOCK_SECTORS
+    → sector_at new k ≡ (if k == offset then Some sector else sector_at old k)

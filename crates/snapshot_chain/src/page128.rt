@@ -146,10 +146,10 @@ impl Page128 {
         Ok(page)
     }
 
-    /// Adds sectors one after another from an offset of the block on, in place. It does so only to
-    /// a page of three sectors or more, and where the new ones are within the block, and either all
-    /// above those of the page or a single one that the page lacks; else it says false. It answers
-    /// only want of memory. An `Err` and a false change nothing.
+    /// Writes sectors one after another from an offset of the block on, in place. It does so only
+    /// to a page of three sectors or more, where the run is within the block and the page lacks
+    /// some of it; else it says false. It answers only want of memory. An `Err` and a false change
+    /// nothing.
     pub(crate) fn add_in_place(
         &mut self,
         alloc: Global,
@@ -161,18 +161,14 @@ impl Page128 {
             (λ added. IsAddedInPlace added offset sectors.now self.old self.new) }
         ensures err { OnErr result (self.new ≡ self.old) }
     {
+        let is_within = sectors.len() as u64 <= BLOCK_SECTORS - offset;
+        if !is_within || self.missing(0, offset, sectors) == 0 {
+            return Ok(false);
+        }
         let PageForm::Many(placed) = &mut self.form else {
             return Ok(false);
         };
-        if sectors.len() == 1 && !placed.has(offset) {
-            placed.insert(alloc, offset, &sectors[0])?;
-            return Ok(true);
-        }
-        let is_within = sectors.len() as u64 <= BLOCK_SECTORS - offset;
-        if offset == 0 || !is_within || !placed.are_below(offset) {
-            return Ok(false);
-        }
-        placed.append_run(alloc, offset, sectors)?;
+        placed.put_run(alloc, offset, sectors)?;
         Ok(true)
     }
 

@@ -1,8 +1,8 @@
 //! Sectors of one block, and a mask of the offsets at which they stand.
-ghost use Rattle.std.specs.Prelude.{◌≡◌, ◌+◌, ◌<◌, ◌≤◌, ◌^◌, ◌++◌, length, take, IfOk, OnOk, OnErr, IsTrue, ◌↔◌, false};
+ghost use Rattle.std.specs.Prelude.{◌≡◌, ◌+◌, ◌<◌, ◌≤◌, ◌^◌, length, vec_len, vec_capacity, IfOk, OnOk, OnErr, IsTrue, ◌↔◌};
 ghost use Rattle.std.specs.Option.{option_copied};
 ghost use Rattle.basics.specs.Bits.{has_bit};
-ghost use Rattle.snapshot_chain.specs.Page128.{PageState, IsPage, no_sectors, rank, sector_at, with_sector, with_run, with_inserted, IsReplaced};
+ghost use Rattle.snapshot_chain.specs.Page128.{PageState, IsPage, no_sectors, rank, sector_at, with_sector, IsReplaced, IsPut, IsRewritten};
 
 use crate::boxed_sector::BoxedSector;
 use sector_model::{BLOCK_SECTORS, NoMemory, Sector};
@@ -46,7 +46,7 @@ impl PlacedSectors {
     }
 
     /// Whether the offset has a sector.
-    pub(crate) fn has(&self, offset: u64) -> bool
+    fn has(&self, offset: u64) -> bool
         requires { offset < BLOCK_SECTORS }
         ensures has { result ≡ has_bit self.now.mask offset }
         ensures page { IsPage self.now }
@@ -86,68 +86,22 @@ impl PlacedSectors {
         Ok(())
     }
 
-    /// Whether each of the sectors stands below the offset.
-    pub(crate) fn are_below(&self, offset: u64) -> bool
-        requires { offset < BLOCK_SECTORS }
-        ensures below { IsTrue result ↔ (self.now.mask < 2 ^ offset) }
-        ensures page { IsPage self.now }
-    {
-        self.mask < 1u128 << offset
-    }
-
-    /// Adds sectors one after another from an offset on, which is above those of all others. Where
-    /// there is no room for them, it makes some for later ones too: half of what is there. An
-    /// `Err` changes nothing.
-    pub(crate) fn append_run(
+    /// Puts copies of sectors one after another from an offset on, where the page has sectors and
+    /// where it hasn't. It takes memory for all of them first; an `Err` changes nothing.
+    pub(crate) fn put_run(
         &mut self,
         alloc: Global,
         offset: u64,
         sectors: &[Sector],
     ) -> Result<(), NoMemory>
-        requires offset { (0 < offset) × (offset < BLOCK_SECTORS) }
-        requires within { offset + length sectors.now ≤ BLOCK_SECTORS }
-        requires above { self.old.mask < 2 ^ offset }
-        ensures ok { OnOk result (self.new ≡ with_run self.old offset sectors.now) }
+        requires { offset + length sectors.now ≤ BLOCK_SECTORS }
+        ensures ok { OnOk result
+            (IsRewritten (sector_at self.old) 0 offset sectors.now self.new) }
         ensures err { OnErr result (self.new ≡ self.old) }
     {
-        self.make_room(sectors.len())?;
-        push_copies(alloc, &mut self.sectors, sectors)?;
-        self.mask |= ((1u128 << sectors.len()) - 1) << offset;
-        Ok(())
-    }
-
-    /// Puts a copy of the sector at an offset that has none. An `Err` changes nothing.
-    pub(crate) fn insert(
-        &mut self,
-        alloc: Global,
-        offset: u64,
-        sector: &Sector,
-    ) -> Result<(), NoMemory>
-        requires offset { offset < BLOCK_SECTORS }
-        requires free { has_bit self.old.mask offset ≡ false }
-        ensures ok { OnOk result (self.new ≡ with_inserted self.old offset sector.now) }
-        ensures err { OnErr result (self.new ≡ self.old) }
-    {
-        let index = self.index_of(offset);
-        let boxed = BoxedSector::new(alloc, sector)?;
-        self.make_room(1)?;
-        self.sectors.insert(index, boxed)?;
-        self.mask += 1u128 << offset;
-        Ok(())
-    }
-
-    /// Makes room for so many sectors more, and where there is none, for some later ones besides,
-    /// but never for more than a block has.
-    fn make_room(&mut self, count: usize) -> Result<(), NoMemory>
-        requires { count ≤ BLOCK_SECTORS }
-        ensures { self.new ≡ self.old }
-    {
-        let len = self.sectors.len();
-        if self.sectors.capacity() - len < count {
-            let left = (BLOCK_SECTORS as usize).saturating_sub(len);
-            let later = left.saturating_sub(count).min(len / 2);
-            self.sectors.reserve_exact(count + later)?;
-        }
+        let copies = copies_of(alloc, sectors)?;
+        make_room(&mut self.sectors, sectors.len())?;
+        self.mask = put_all(self.mask, &mut self.sectors, offset, copies);
         Ok(())
     }
 
@@ -165,34 +119,71 @@ impl PlacedSectors {
     }
 }
 
-/// Adds a copy of each sector to the end of a list. An `Err` changes nothing.
-fn push_copies(
-    alloc: Global,
-    list: &mut Vec<BoxedSector>,
-    sectors: &[Sector],
-) -> Result<(), NoMemory>
-    ensures ok { OnOk result (list.new.items ≡ list.old.items ++ sectors.now) }
-    ensures err { OnErr result (list.new.items ≡ list.old.items) }
+/// A copy of each of the sectors. It answers only want of memory.
+fn copies_of(alloc: Global, sectors: &[Sector]) -> Result<Vec<BoxedSector>, NoMemory>
+    ensures { IfOk result (λ copies. copies.items ≡ sectors.now) }
 {
-    let len = list.len();
-    let pushed = try_copies(alloc, list, sectors);
-    if pushed.is_err() {
-        list.truncate(len);
+    let mut copies = Vec::with_capacity(alloc, sectors.len())?;
+    for sector in sectors {
+        copies.push(BoxedSector::new(alloc, sector)?)?;
     }
-    pushed
+    Ok(copies)
 }
 
-/// Adds copies of the sectors to the end of a list, as far as memory goes.
-fn try_copies(
-    alloc: Global,
-    list: &mut Vec<BoxedSector>,
-    sectors: &[Sector],
-) -> Result<(), NoMemory>
-    ensures ok { OnOk result (list.new.items ≡ list.old.items ++ sectors.now) }
-    ensures front { take (length list.old.items) list.new.items ≡ list.old.items }
+/// Makes room for so many sectors more, and where there is none, for some later ones besides: half
+/// of what is there, but never for more than a block has.
+fn make_room(list: &mut Vec<BoxedSector>, count: usize) -> Result<(), NoMemory>
+    requires { count ≤ BLOCK_SECTORS }
+    ensures items { list.new.items ≡ list.old.items }
+    ensures room { OnOk result (vec_len list.new + count ≤ vec_capacity list.new) }
 {
-    for sector in sectors {
-        list.push(BoxedSector::new(alloc, sector)?)?;
+    let len = list.len();
+    if list.capacity() - len < count {
+        let left = (BLOCK_SECTORS as usize).saturating_sub(len);
+        let later = left.saturating_sub(count).min(len / 2);
+        list.reserve_exact(count + later)?;
     }
     Ok(())
+}
+
+/// Puts sectors one after another from an offset on into the list of a page, which has room for
+/// them. It gives the page's mask then, and takes no memory.
+fn put_all(mask: u128, list: &mut Vec<BoxedSector>, offset: u64, sectors: Vec<BoxedSector>) -> u128
+    requires within { offset + length sectors.items ≤ BLOCK_SECTORS }
+    requires page { IsPage (record { mask = mask; sectors = list.old.items }) }
+    requires room { vec_len list.old + length sectors.items ≤ vec_capacity list.old }
+    ensures page { IsPage (record { mask = result; sectors = list.new.items }) }
+    ensures sectors { IsRewritten
+        (sector_at (record { mask = mask; sectors = list.old.items })) 0 offset sectors.items
+        (record { mask = result; sectors = list.new.items }) }
+{
+    let mut mask = mask;
+    let mut rest = sectors;
+    while let Some(sector) = rest.pop() {
+        mask = put_one(mask, list, offset + rest.len() as u64, sector);
+    }
+    mask
+}
+
+/// Puts a sector at an offset into the list of a page, which has room for one. It gives the page's
+/// mask then, and takes no memory.
+fn put_one(mask: u128, list: &mut Vec<BoxedSector>, offset: u64, sector: BoxedSector) -> u128
+    requires within { offset < BLOCK_SECTORS }
+    requires page { IsPage (record { mask = mask; sectors = list.old.items }) }
+    requires room { vec_len list.old < vec_capacity list.old }
+    ensures page { IsPage (record { mask = result; sectors = list.new.items }) }
+    ensures sectors { IsPut (record { mask = mask; sectors = list.old.items }) offset sector
+        (record { mask = result; sectors = list.new.items }) }
+    ensures room { vec_capacity list.old ≤ vec_capacity list.new }
+    ensures len { vec_len list.new ≤ vec_len list.old + 1 }
+{
+    let bit = 1u128 << offset;
+    let index = (mask & (bit - 1)).count_ones() as usize;
+    if mask & bit != 0 {
+        list[index] = sector;
+        return mask;
+    }
+    let put: Result<_, _> = list.insert(index, sector);
+    put.unwrap();
+    mask + bit
 }
