@@ -6,7 +6,7 @@ use Rattle.std.specs.Option.{option_or}
 use Rattle.std.proofs.lemmas.Bool.{cases_eq, cases_lt, false≢true}
 use Rattle.sector_model.specs.declared.sector.Sector.{Sector}
 use Rattle.snapshot_chain.specs.Page128.{PageState, run_at}
-use Rattle.snapshot_chain.specs.Layer.{LayerState, slot_of, sector_in, HasSame, IsWrittenIf, IsAddedAt}
+use Rattle.snapshot_chain.specs.Layer.{LayerState, slot_of, sector_in, HasSame, IsWrittenIf, IsPutAt}
 use Rattle.snapshot_chain.proofs.Slots.{run_behind}
 use Rattle.snapshot_chain.proofs.Writes.{run_before, run_from}
 
@@ -27,7 +27,7 @@ or_nothing o a none = rw none refl
 pub written_if : (added : Bool) (old new : LayerState) (block first offset : ℕ) (xs : List Sector)
     → first ≡ 128 * block + offset → offset < 128
     → ((b : ℕ) → b ≢ block → slot_of new b ≡ slot_of old b)
-    → IsAddedAt added offset xs (slot_of old block) (slot_of new block)
+    → IsPutAt added offset xs (slot_of old block) (slot_of new block)
     → IsWrittenIf added old new first xs
 written_if added old new block first offset xs at inside others is =
     by added (slot_of old block) (slot_of new block) refl refl is
@@ -51,7 +51,7 @@ written_if added old new block first offset xs at inside others is =
         rw (at, none) (run_shifted (128 * block) offset k xs)
 
     by : (added : Bool) (was grown : Option PageState) → slot_of old block ≡ was
-        → slot_of new block ≡ grown → IsAddedAt added offset xs was grown
+        → slot_of new block ≡ grown → IsPutAt added offset xs was grown
         → IsWrittenIf added old new first xs
     by false None grown was is (kept, none) = same (is ∙ none ∙ sym was)
     by true None grown was is (kept, none) = absurd (false≢true (sym kept))

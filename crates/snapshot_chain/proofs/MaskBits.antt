@@ -30,6 +30,20 @@ clear_above m p above = bit_at_above m p p above (omega arith)
 with_bit : (m p : ℕ) → m + 2 ^ p ≡ (m / 2 ^ p + 1) * 2 ^ p + m % 2 ^ p
 with_bit m p = omega (arith, add-mul (m / 2 ^ p) 1 (2 ^ p), div-add-mod' m (2 ^ p))
 
+above_more : (m p : ℕ) → (m + 2 ^ p) / 2 ^ p ≡ m / 2 ^ p + 1
+above_more m p = ap (λ n. n / 2 ^ p) (with_bit m p)
+    ∙ div-mul-add (m / 2 ^ p + 1) (2 ^ p) (m % 2 ^ p) (mod_below m (2 ^ p) (pow_pos p))
+
+below_same : (m p : ℕ) → (m + 2 ^ p) % 2 ^ p ≡ m % 2 ^ p
+below_same m p = ap (λ n. n % 2 ^ p) (with_bit m p)
+    ∙ mod-mul-add (m / 2 ^ p + 1) (2 ^ p) (m % 2 ^ p) (mod_below m (2 ^ p) (pow_pos p))
+
+-- the lowest bits of the low ones
+pub low_of_low : (m j k : ℕ) → j ≤ k → m % 2 ^ k % 2 ^ j ≡ m % 2 ^ j
+low_of_low m j k le = let at : (k - j) + j ≡ k = omega (arith, le) in
+    ap (λ n. m % 2 ^ n % 2 ^ j) (sym at) ∙ mod-mod-pow m (k - j) j
+
+-- the bits, where one is set by adding it
 pub bit_below : (m p k : ℕ) → k < p → bit_at (m + 2 ^ p) k ≡ bit_at m k
 bit_below m p k less =
     ap (λ n. bit_at n k) (with_bit m p)
@@ -38,10 +52,7 @@ bit_below m p k less =
     ∙ ap (λ n. bit_at n k) (div-add-mod' m (2 ^ p))
 
 pub bit_set : (m p : ℕ) → bit_at m p ≡ 0 → bit_at (m + 2 ^ p) p ≡ 1
-bit_set m p clear =
-    ap (λ n. n % 2) (ap (λ n. n / 2 ^ p) (with_bit m p)
-    ∙ div-mul-add (m / 2 ^ p + 1) (2 ^ p) (m % 2 ^ p) (mod_below m (2 ^ p) (pow_pos p)))
-    ∙ omega (arith, clear)
+bit_set m p clear = ap (λ n. n % 2) (above_more m p) ∙ omega (arith, clear)
 
 -- nothing changes above the bit
 pub same_above : (m p k : ℕ) → bit_at m p ≡ 0 → p < k → (m + 2 ^ p) / 2 ^ k ≡ m / 2 ^ k
@@ -49,9 +60,7 @@ same_above m p k clear less =
     halves (m + 2 ^ p) ∙ ap (λ n. n / 2 ^ (k - p - 1)) one ∙ sym (halves m)
   where
     one : (m + 2 ^ p) / 2 ^ p / 2 ≡ m / 2 ^ p / 2
-    one = ap (λ n. n / 2) (ap (λ n. n / 2 ^ p) (with_bit m p)
-        ∙ div-mul-add (m / 2 ^ p + 1) (2 ^ p) (m % 2 ^ p) (mod_below m (2 ^ p) (pow_pos p)))
-        ∙ omega (arith, clear)
+    one = ap (λ n. n / 2) (above_more m p) ∙ omega (arith, clear)
 
     power : 2 ^ k ≡ 2 ^ p * (2 * 2 ^ (k - p - 1))
     power = let at : k ≡ p + (1 + (k - p - 1)) = omega (arith, less) in
@@ -80,29 +89,19 @@ count_odd n even =
 
 pub count_more : (m p : ℕ) → bit_at m p ≡ 0 → count_ones (m + 2 ^ p) ≡ count_ones m + 1
 count_more m p clear =
-    let up : (m + 2 ^ p) / 2 ^ p ≡ m / 2 ^ p + 1 = ap (λ n. n / 2 ^ p) (with_bit m p)
-    ∙ div-mul-add (m / 2 ^ p + 1) (2 ^ p) (m % 2 ^ p) (mod_below m (2 ^ p) (pow_pos p)) in
-    let same : (m + 2 ^ p) % 2 ^ p ≡ m % 2 ^ p = ap (λ n. n % 2 ^ p) (with_bit m p)
-    ∙ mod-mul-add (m / 2 ^ p + 1) (2 ^ p) (m % 2 ^ p) (mod_below m (2 ^ p) (pow_pos p)) in
     omega (
       arith,
       count_parts (m + 2 ^ p) p,
       count_parts m p,
-      ap count_ones up,
-      ap count_ones same,
+      ap count_ones (above_more m p),
+      ap count_ones (below_same m p),
       count_odd (m / 2 ^ p) clear,
     )
 
 pub rank_below : (m p k : ℕ) → k ≤ p → rank (m + 2 ^ p) k ≡ rank m k
 rank_below m p k le =
-    ap count_ones (cut (m + 2 ^ p)
-    ∙ ap (λ n. n % 2 ^ k) (ap (λ n. n % 2 ^ p) (with_bit m p)
-    ∙ mod-mul-add (m / 2 ^ p + 1) (2 ^ p) (m % 2 ^ p) (mod_below m (2 ^ p) (pow_pos p)))
-    ∙ sym (cut m))
-  where
-    cut : (n : ℕ) → n % 2 ^ k ≡ n % 2 ^ p % 2 ^ k
-    cut n = let at : (p - k) + k ≡ p = omega (arith, le) in
-        sym (mod-mod-pow n (p - k) k) ∙ ap (λ q. n % 2 ^ q % 2 ^ k) at
+    ap count_ones (sym (low_of_low (m + 2 ^ p) k p le) ∙ ap (λ n. n % 2 ^ k) (below_same m p)
+    ∙ low_of_low m k p le)
 
 pub rank_behind : (m p k : ℕ) → bit_at m p ≡ 0 → p < k → rank (m + 2 ^ p) k ≡ rank m k + 1
 rank_behind m p k clear less =
@@ -119,7 +118,4 @@ rank_all m k = omega (arith, count_parts m k)
 
 pub rank_grows : (m p k : ℕ) → p ≤ k → rank m p ≤ rank m k
 rank_grows m p k le =
-    let at : (k - p) + p ≡ k = omega (arith, le) in
-    let cut : m % 2 ^ k % 2 ^ p ≡ m % 2 ^ p =
-    ap (λ n. m % 2 ^ n % 2 ^ p) (sym at) ∙ mod-mod-pow m (k - p) p in
-    omega (arith, count_parts (m % 2 ^ k) p, ap count_ones cut)
+    omega (arith, count_parts (m % 2 ^ k) p, ap count_ones (low_of_low m p k le))

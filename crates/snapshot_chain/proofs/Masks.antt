@@ -16,7 +16,7 @@ use Rattle.basics.proofs.ItemAt.{slice_get-front, slice_get-last, slice_get-set_
 use Rattle.sector_model.specs.declared.sector.Sector.{Sector}
 use Rattle.sector_model.proofs.Touched.{any_at}
 use Rattle.basics.specs.Bits.{has_bit}
-use Rattle.snapshot_chain.proofs.MaskBits.{bit_below, bit_set, bit_is_set, clear_above, count_parts, count_more, rank_below}
+use Rattle.snapshot_chain.proofs.MaskBits.{bit_below, bit_set, bit_is_set, clear_above, count_parts, count_more, rank_below, low_of_low}
 use Rattle.snapshot_chain.specs.Page128.{PageState, no_sectors, rank, sector_at, with_sector, IsPage, IsReplaced}
 
 -- one more bit above the others
@@ -103,10 +103,11 @@ pub rank_apart : (m j k : ℕ) → j < k → bit_at m j ≡ 1 → rank m j < ran
 rank_apart m j k less set =
     let low : bit_at (m % 2 ^ k) j ≡ 1 = sym (bit_at_cat_low (m / 2 ^ k) k (m % 2 ^ k) j less)
     ∙ ap (λ n. bit_at n j) (div-add-mod' m (2 ^ k)) ∙ set in
-    let at : k ≡ (k - j) + j = omega (arith, less) in
-    let cut : m % 2 ^ k % 2 ^ j ≡ m % 2 ^ j =
-    ap (λ n. m % 2 ^ n % 2 ^ j) at ∙ mod-mod-pow m (k - j) j in
-    omega (arith, rank_less (m % 2 ^ k) j low, ap count_ones cut)
+    omega (
+      arith,
+      rank_less (m % 2 ^ k) j low,
+      ap count_ones (low_of_low m j k (omega (arith, less))),
+    )
 
 pub here_some : {X : Type 0} (xs : List X) (i : ℕ) (x : X) → i < length xs
     → option_map (λ was. x) (slice_get xs i) ≡ Some x

@@ -8,7 +8,7 @@ use Rattle.std.specs.List.{list_any, range_with_len}
 use Rattle.sector_model.specs.declared.run.TheConstants.{BLOCK_SECTORS}
 use Rattle.sector_model.specs.declared.sector.Sector.{Sector}
 use Rattle.snapshot_chain.specs.declared.layer.TheConstants.{SPREAD}
-use Rattle.snapshot_chain.specs.Page128.{PageState, no_sectors, sector_at, run_at, IsAddedInPlace}
+use Rattle.snapshot_chain.specs.Page128.{PageState, no_sectors, sector_at, run_at, IsPutInPlace}
 
 abbrev pub LayerState : Type 0
 LayerState = List (ℕ × PageState)
@@ -65,15 +65,16 @@ IsWritten old new first sectors = (block offset : ℕ) → offset < BLOCK_SECTOR
     ≡ option_or (run_at first sectors (BLOCK_SECTORS * block + offset))
     (sector_in old block offset)
 
--- the page of a block took sectors in place, or is as it was; none took some
-abbrev pub IsAddedAt : (added : Bool) (offset : ℕ) → List Sector
+-- the page of a block took sectors in place, or is as it was; without a page the answer is false,
+-- and there is none after
+abbrev pub IsPutAt : (added : Bool) (offset : ℕ) → List Sector
     → (old new : Option PageState) → Type 0
-IsAddedAt added offset sectors None new = (added ≡ false) × (new ≡ None)
-IsAddedAt added offset sectors (Some old) None = ⊥
-IsAddedAt added offset sectors (Some old) (Some new) =
-    IsAddedInPlace added offset sectors old new
+IsPutAt added offset sectors None new = (added ≡ false) × (new ≡ None)
+IsPutAt added offset sectors (Some old) None = ⊥
+IsPutAt added offset sectors (Some old) (Some new) =
+    IsPutInPlace added offset sectors old new
 
--- the same in place, or the layer is as it was
+-- the run is written, or the layer has the same sectors
 abbrev pub IsWrittenIf : (added : Bool) (old new : LayerState) (first : ℕ) → List Sector → Type 0
 IsWrittenIf true old new first sectors = IsWritten old new first sectors
 IsWrittenIf false old new first sectors = HasSame old new

@@ -60,11 +60,11 @@ IsGrown old block first sectors None = (offset : ℕ) → offset < BLOCK_SECTORS
     → IsSome (run_at first sectors (BLOCK_SECTORS * block + offset)) → IsSome (old offset)
 
 -- the page has the run, which lies in its block, or is as it was
-abbrev pub IsAddedInPlace : (added : Bool) → (offset : ℕ) → List Sector → (old new : PageState)
+abbrev pub IsPutInPlace : (added : Bool) → (offset : ℕ) → List Sector → (old new : PageState)
     → Type 0
-IsAddedInPlace true offset sectors old new = IsRewritten (sector_at old) 0 offset sectors new
+IsPutInPlace true offset sectors old new = IsRewritten (sector_at old) 0 offset sectors new
     × (offset + length sectors ≤ BLOCK_SECTORS)
-IsAddedInPlace false offset sectors old new = new ≡ old
+IsPutInPlace false offset sectors old new = new ≡ old
 
 -- each sector that was there is the run's where the run has one, and no other is there
 abbrev pub IsOverwritten : (old : ℕ → Option Sector) (block first : ℕ) → List Sector

@@ -2,7 +2,7 @@
 ghost use Rattle.std.specs.Prelude.{◌≡◌, ◌≢◌, ◌+◌, ◌*◌, ◌<◌, ◌≤◌, ◌^◌, [], length, ◌||◌, ◌⊎◌, IfOk, OnOk, OnErr, IsSome, None, Some, option_map, unwrap_or, ℕ};
 ghost use Rattle.std.specs.Option.{option_copied, option_or};
 ghost use Rattle.snapshot_chain.specs.Page128.{PageState, no_sectors, run_at, IsGrown};
-ghost use Rattle.snapshot_chain.specs.Layer.{key_of, page_of, slot_of, sector_of, sector_in, HasSame, IsWritten, IsWrittenIf, IsAddedAt, IsWrittenOver, AreGrown, KeepsSlots, AddsSlots, IsSlotAdded, IsWithin, IsRoomFor, IsRoomAt, IsOpenAt, IsMerged, after_taking, TakesPages, LayerState, has_sector};
+ghost use Rattle.snapshot_chain.specs.Layer.{key_of, page_of, slot_of, sector_of, sector_in, HasSame, IsWritten, IsWrittenIf, IsPutAt, IsWrittenOver, AreGrown, KeepsSlots, AddsSlots, IsSlotAdded, IsWithin, IsRoomFor, IsRoomAt, IsOpenAt, IsMerged, after_taking, TakesPages, LayerState, has_sector};
 ghost use Rattle.std.specs.BTreeSet.{contains};
 ghost use Rattle.std.specs.Ordering.{nat_cmp};
 
@@ -73,13 +73,14 @@ impl Layer {
         ensures within { (c : ℕ) → first + length sectors.now ≤ c → IsWithin c self.old
             → IsWithin c self.new }
     {
-        if self.add_in_place(alloc, first, sectors)? {
+        if self.put_in_place(alloc, first, sectors)? {
             return Ok(());
         }
         self.write_pages(alloc, first, sectors)
     }
 
-    /// Writes sectors, where those for which a page of the layer has no room make it anew.
+    /// Writes sectors page by page: a page that lacks some of its part is made anew, and the others
+    /// are written over.
     fn write_pages(&mut self, alloc: Global, first: u64, sectors: &[Sector]) -> Result<(), NoMemory>
         requires { first + length sectors.now < 2 ^ 64 }
         ensures ok { OnOk result (IsWritten self.old self.new first sectors.now) }
@@ -94,10 +95,10 @@ impl Layer {
         Ok(())
     }
 
-    /// Adds sectors from sector `first` of the disk on to the page of their block, in place, if the
-    /// page takes them (`Page128::add_in_place`). Says false where it doesn't. An `Err` and a false
+    /// Writes sectors from sector `first` of the disk on into the page of their block, in place, if
+    /// the page takes them (`Page128::put_in_place`). Says false where it doesn't. An `Err` and a false
     /// change nothing that the layer holds.
-    fn add_in_place(
+    fn put_in_place(
         &mut self,
         alloc: Global,
         first: u64,
@@ -108,11 +109,11 @@ impl Layer {
         ensures err { OnErr result (HasSame self.old self.new) }
         ensures slots { KeepsSlots self.new self.old }
     {
-        self.add_at(alloc, first / BLOCK_SECTORS, first % BLOCK_SECTORS, sectors)
+        self.put_at(alloc, first / BLOCK_SECTORS, first % BLOCK_SECTORS, sectors)
     }
 
-    /// Adds sectors from an offset of a block on to the block's page, in place, if it takes them.
-    fn add_at(
+    /// Writes sectors from an offset of a block on into the block's page, in place, if it takes them.
+    fn put_at(
         &mut self,
         alloc: Global,
         block: u64,
@@ -120,7 +121,7 @@ impl Layer {
         sectors: &[Sector],
     ) -> Result<bool, NoMemory>
         requires { offset < BLOCK_SECTORS }
-        ensures here { IfOk result (λ added. IsAddedAt added offset sectors.now
+        ensures here { IfOk result (λ added. IsPutAt added offset sectors.now
             (slot_of self.old block) (slot_of self.new block)) }
         ensures err { OnErr result (slot_of self.new block ≡ slot_of self.old block) }
         ensures others { (other : ℕ) → other ≢ block
@@ -128,7 +129,7 @@ impl Layer {
         ensures slots { KeepsSlots self.new self.old }
     {
         match self.pages.get_mut(&key_of(block)) {
-            Some(page) => page.add_in_place(alloc, offset, sectors),
+            Some(page) => page.put_in_place(alloc, offset, sectors),
             None => Ok(false),
         }
     }

@@ -1,7 +1,8 @@
-//! A page of a layer: the written sectors of one block, each once and no others.
+//! A page of a layer: the written sectors of one block, each once and no others, since a guest that
+//! writes here and there shall not take memory for whole blocks.
 ghost use Rattle.std.specs.Prelude.{◌≡◌, ◌+◌, ◌*◌, ◌<◌, ◌≤◌, ◌^◌, [], length, IsTrue, IsSome, is_some, ◌↔◌, IfOk, OnErr, None, ℕ};
 ghost use Rattle.std.specs.Option.{option_copied};
-ghost use Rattle.snapshot_chain.specs.Page128.{PageState, IsPage, no_sectors, sector_at, run_at, with_sector, IsJoined, IsRewritten, IsGrown, IsOverwritten, IsReplaced, IsAddedInPlace};
+ghost use Rattle.snapshot_chain.specs.Page128.{PageState, IsPage, no_sectors, sector_at, run_at, with_sector, IsJoined, IsRewritten, IsGrown, IsOverwritten, IsReplaced, IsPutInPlace};
 ghost use Rattle.snapshot_chain.specs.PageForm.{page_state, IsOfBlock};
 
 use crate::boxed_sector::BoxedSector;
@@ -114,7 +115,7 @@ impl Page128 {
                 PageForm::Pair(Box::new(alloc, pair)?)
             }
             PageForm::Pair(pair) => {
-                let mut placed = Box::into_inner(pair).placed(alloc, room)?;
+                let mut placed = Box::into_inner(pair).into_placed(alloc, room)?;
                 placed.append(offset, boxed)?;
                 PageForm::Many(Box::new(alloc, placed)?)
             }
@@ -146,11 +147,11 @@ impl Page128 {
         Ok(page)
     }
 
-    /// Writes sectors one after another from an offset of the block on, in place. It does so only
-    /// to a page of three sectors or more, where the run is within the block and the page lacks
-    /// some of it; else it says false. It answers only want of memory. An `Err` and a false change
-    /// nothing.
-    pub(crate) fn add_in_place(
+    /// Writes sectors one after another from an offset of the block on, in place. It does so where
+    /// they are within the block, and the page has a sector at each of their offsets, or three
+    /// sectors or more; else it says false. It answers only want of memory, and takes none where
+    /// each has one. An `Err` and a false change nothing.
+    pub(crate) fn put_in_place(
         &mut self,
         alloc: Global,
         offset: u64,
@@ -158,12 +159,16 @@ impl Page128 {
     ) -> Result<bool, NoMemory>
         requires { offset < BLOCK_SECTORS }
         ensures ok { IfOk result
-            (λ added. IsAddedInPlace added offset sectors.now self.old self.new) }
+            (λ added. IsPutInPlace added offset sectors.now self.old self.new) }
         ensures err { OnErr result (self.new ≡ self.old) }
     {
         let is_within = sectors.len() as u64 <= BLOCK_SECTORS - offset;
-        if !is_within || self.missing(0, offset, sectors) == 0 {
+        if !is_within {
             return Ok(false);
+        }
+        if self.missing(0, offset, sectors) == 0 {
+            self.overwrite(0, offset, sectors);
+            return Ok(true);
         }
         let PageForm::Many(placed) = &mut self.form else {
             return Ok(false);

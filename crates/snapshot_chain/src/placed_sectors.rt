@@ -1,4 +1,5 @@
-//! Sectors of one block, and a mask of the offsets at which they stand.
+//! Sectors of one block, and a mask of the offsets at which they stand: the count of the bits below
+//! an offset is the place of its sector, so no offset is kept with a sector.
 ghost use Rattle.std.specs.Prelude.{◌≡◌, ◌+◌, ◌<◌, ◌≤◌, ◌^◌, length, vec_len, vec_capacity, IfOk, OnOk, OnErr, IsTrue, ◌↔◌};
 ghost use Rattle.std.specs.Option.{option_copied};
 ghost use Rattle.basics.specs.Bits.{has_bit};
@@ -131,7 +132,7 @@ fn copies_of(alloc: Global, sectors: &[Sector]) -> Result<Vec<BoxedSector>, NoMe
 }
 
 /// Makes room for so many sectors more, and where there is none, for some later ones besides: half
-/// of what is there, but never for more than a block has.
+/// of what is there, as far as a block has more sectors.
 fn make_room(list: &mut Vec<BoxedSector>, count: usize) -> Result<(), NoMemory>
     requires { count ≤ BLOCK_SECTORS }
     ensures items { list.new.items ≡ list.old.items }
@@ -147,7 +148,8 @@ fn make_room(list: &mut Vec<BoxedSector>, count: usize) -> Result<(), NoMemory>
 }
 
 /// Puts sectors one after another from an offset on into the list of a page, which has room for
-/// them. It gives the page's mask then, and takes no memory.
+/// them. It gives the page's mask then, and takes no memory. The list stands by itself here, since
+/// what a page stands for doesn't tell its room.
 fn put_all(mask: u128, list: &mut Vec<BoxedSector>, offset: u64, sectors: Vec<BoxedSector>) -> u128
     requires within { offset + length sectors.items ≤ BLOCK_SECTORS }
     requires page { IsPage (record { mask = mask; sectors = list.old.items }) }

@@ -1,5 +1,5 @@
-//! Two sectors of one block, the page of a guest that writes here and there: a list of two would
-//! take more memory than the sectors need.
+//! Two sectors of one block. They take 24 bytes besides the sectors, where a list of two takes 64:
+//! much for a guest that writes two sectors here and two there.
 ghost use Rattle.std.specs.Prelude.{◌≡◌, ◌<◌, IfOk};
 ghost use Rattle.std.specs.Option.{option_copied};
 ghost use Rattle.snapshot_chain.specs.Page128.{PageState, IsPage, sector_at, IsReplaced};
@@ -11,7 +11,7 @@ use sector_model::{BLOCK_SECTORS, NoMemory, Sector};
 use std::alloc::Global;
 use std::marker::Model;
 
-/// Two sectors at two offsets of a block. They take less memory than a list of two.
+/// Two sectors at two offsets of a block.
 #[derive(Debug, Drop)]
 pub(crate) struct SectorPair {
     low: u8,
@@ -65,7 +65,7 @@ impl SectorPair {
     }
 
     /// The two as a list that has room for some sectors. It answers only want of memory.
-    pub(crate) fn placed(self, alloc: Global, room: usize) -> Result<PlacedSectors, NoMemory>
+    pub(crate) fn into_placed(self, alloc: Global, room: usize) -> Result<PlacedSectors, NoMemory>
         ensures { IfOk result (λ placed. placed ≡ self) }
     {
         let SectorPair {

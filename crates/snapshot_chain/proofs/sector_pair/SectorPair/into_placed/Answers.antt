@@ -1,6 +1,6 @@
 -- The upper one stands above the lower one.
 use Rattle.snapshot_chain.proofs.Pairs.{lone_below}
-use Rattle.snapshot_chain.proofs.sector_pair.SectorPair.placed.Goals as goal
+use Rattle.snapshot_chain.proofs.sector_pair.SectorPair.into_placed.Goals as goal
 
 pub append-requires-2-clause-above : goal.append-requires-2-clause-above
 append-requires-2-clause-above c =
