@@ -6,7 +6,6 @@ use Rattle.std.specs.List.{slice_get, list_any, range_with_len}
 use Rattle.std.specs.Option.{option_copied, option_map, option_or}
 use Rattle.std.proofs.Math.Pow.{pow_mono}
 use native.Mathlib.Nat.{mod-eq_of_lt}
-use lib.Pow.{mod-mod-pow}
 use Rattle.std.proofs.lemmas.Nat.{one_shl, and_mask, zero_from_ones, pow-add, div-add-mod'}
 use Rattle.std.proofs.lemmas.Nat.Bits.{bit_at_cat_low, bit_at_above, bit_at-lt, and_pow, bit_at-trailing_zeros}
 use Rattle.std.specs.Int.Bits.{or_shifted_r}

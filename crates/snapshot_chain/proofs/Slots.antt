@@ -10,7 +10,7 @@ use Rattle.std.proofs.lemmas.Option.{slice_get_past}
 use Rattle.snapshot_chain.proofs.Writes.{run_from}
 use Rattle.snapshot_chain.proofs.Masks.{empty_none}
 use Rattle.basics.proofs.Options.{or_none, neither}
-use Rattle.snapshot_chain.proofs.Options.{over_both, over_some}
+use Rattle.snapshot_chain.proofs.Options.{over_some}
 
 -- ---- slots that were added
 
@@ -75,24 +75,20 @@ some_still old new block here others b some = elim (cases_eq b block) [
 
 -- ---- a write
 
-pub written : (first : ℕ) (xs : List Sector) (old slots put new grown : LayerState)
-    → AreGrown old first xs grown → AddsSlots grown old slots
-    → ((b : ℕ) → slot_of put b ≡ option_or (slot_of grown b) (slot_of slots b))
-    → IsWrittenOver put new first xs → IsWritten old new first xs
-written first xs old slots put new grown are added puts over block offset within =
-    over block offset within
-    ∙ ap (λ (o : Option PageState). option_map
-    (unwrap_or (run_at first xs (128 * block + offset))) (sector_of o offset)) (puts block)
+pub written : (first : ℕ) (xs : List Sector) (old slots over new grown : LayerState)
+    → AreGrown old first xs grown → AddsSlots grown old slots → IsWrittenOver slots over first xs
+    → ((b : ℕ) → slot_of new b ≡ option_or (slot_of grown b) (slot_of over b))
+    → IsWritten old new first xs
+written first xs old slots over new grown are added overs puts block offset within =
+    ap (λ (o : Option PageState). sector_of o offset) (puts block)
     ∙ by (slot_of grown block) (are block offset within)
   where
     by : (page : Option PageState) → IsGrownAt old block first xs offset page
-        → option_map (unwrap_or (run_at first xs (128 * block + offset)))
-        (sector_of (option_or page (slot_of slots block)) offset)
+        → sector_of (option_or page (slot_of over block)) offset
         ≡ option_or (run_at first xs (128 * block + offset)) (sector_in old block offset)
-    by (Some page) is = ap (option_map (unwrap_or (run_at first xs (128 * block + offset)))) is
-        ∙ over_both (run_at first xs (128 * block + offset)) (sector_in old block offset)
-    by None is =
-        ap (option_map (unwrap_or (run_at first xs (128 * block + offset))))
+    by (Some page) is = is
+    by None is = overs block offset within
+        ∙ ap (option_map (unwrap_or (run_at first xs (128 * block + offset))))
         (slots_same grown old slots added block offset within)
         ∙ over_some (run_at first xs (128 * block + offset)) (sector_in old block offset) is
 
@@ -101,14 +97,14 @@ put_of : (page slot : Option PageState) → IsSome (option_or page slot)
 put_of None slot some = inr some
 put_of (Some page) slot some = inl refl
 
-pub written_within : (c : ℕ) (old slots put new grown : LayerState) → AddsSlots grown old slots
-    → ((b : ℕ) → slot_of put b ≡ option_or (slot_of grown b) (slot_of slots b))
-    → KeepsSlots new put → IsWithin c grown → IsWithin c old → IsWithin c new
-written_within c old slots put new grown added puts kept more was block some =
-    elim
-    (put_of (slot_of grown block) (slot_of slots block) (rw (puts block) at (kept block some))) [
+pub written_within : (c : ℕ) (old slots over new grown : LayerState) → AddsSlots grown old slots
+    → KeepsSlots over slots
+    → ((b : ℕ) → slot_of new b ≡ option_or (slot_of grown b) (slot_of over b))
+    → IsWithin c grown → IsWithin c old → IsWithin c new
+written_within c old slots over new grown added kept puts more was block some =
+    elim (put_of (slot_of grown block) (slot_of over block) (rw (puts block) at some)) [
       | inl page ↦ more block page
-      | inr slot ↦ slots_within c grown old slots added more was block slot
+      | inr slot ↦ slots_within c grown old slots added more was block (kept block slot)
     ]
 
 -- the pages of one block more

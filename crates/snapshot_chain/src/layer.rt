@@ -90,14 +90,14 @@ impl Layer {
     {
         let grown = self.grown_pages(alloc, first, sectors)?;
         self.make_slots(&grown)?;
-        self.put_pages(grown);
         self.overwrite(first, sectors);
+        self.put_pages(grown);
         Ok(())
     }
 
     /// Writes sectors from sector `first` of the disk on into the page of their block, in place, if
-    /// the page takes them (`Page128::put_in_place`). Says false where it doesn't. An `Err` and a false
-    /// change nothing that the layer holds.
+    /// the page takes them (`Page128::put_in_place`). Says false where it doesn't. An `Err` and a
+    /// false change nothing that the layer holds.
     fn put_in_place(
         &mut self,
         alloc: Global,
@@ -112,7 +112,8 @@ impl Layer {
         self.put_at(alloc, first / BLOCK_SECTORS, first % BLOCK_SECTORS, sectors)
     }
 
-    /// Writes sectors from an offset of a block on into the block's page, in place, if it takes them.
+    /// Writes sectors from an offset of a block on into the block's page, in place, if that takes
+    /// them.
     fn put_at(
         &mut self,
         alloc: Global,
@@ -173,6 +174,7 @@ impl Layer {
         requires { first + length sectors.now < 2 ^ 64 }
         ensures sectors { IsWrittenOver self.old self.new first sectors.now }
         ensures slots { KeepsSlots self.new self.old }
+        ensures kept { KeepsSlots self.old self.new }
     {
         let end = first + sectors.len() as u64;
         for block in first / BLOCK_SECTORS..end.div_ceil(BLOCK_SECTORS) {
@@ -189,6 +191,7 @@ impl Layer {
         ensures others { (other : ℕ) → other ≢ block
             → slot_of self.new other ≡ slot_of self.old other }
         ensures slots { KeepsSlots self.new self.old }
+        ensures kept { KeepsSlots self.old self.new }
     {
         if let Some(page) = self.pages.get_mut(&key_of(block)) {
             page.overwrite(block, first, sectors);

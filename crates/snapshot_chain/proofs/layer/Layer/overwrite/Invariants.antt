@@ -13,4 +13,5 @@ invariant-loop-block l = record {
       (sector_in l.initial.self block offset);
   behind : (block : ℕ) → l.block ≤ block → slot_of l.self block ≡ slot_of l.initial.self block;
   slots : KeepsSlots l.self l.initial.self;
+  kept : KeepsSlots l.initial.self l.self;
 }

@@ -1,5 +1,5 @@
 -- The run is put into the page's list.
-use Rattle.std.proofs.Common.{◌≤◌, ◌+◌, ◌*◌, ◌∙◌, length, arith}
+use Rattle.std.proofs.Common.{◌+◌, ◌*◌, ◌∙◌, arith}
 use Rattle.snapshot_chain.specs.Page128.{sector_at, run_at}
 use Rattle.snapshot_chain.proofs.Options.{over_some}
 use Rattle.snapshot_chain.proofs.page128.Page128.put_in_place.Goals as goal
