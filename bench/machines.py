@@ -3,9 +3,10 @@
 each sector that is written, from the process's peak.
 
 Usage: bench/machines.py [LINES]. It needs Linux and the built program (./warm_migrate </dev/null), and at least 100 lines.
-The program is pinned to core 0, and started in a folder of its own, without a journal. The least of five runs counts. The
-first number of a row is with lines from a file and replies to a file; the second with a pipe at either end, whose other
-ends are a `cat` each on other cores, so that each reply wakes its reader."""
+The program is pinned to core 0, and started in a folder of its own, without a journal. The least of twelve runs counts,
+since a shared machine may be slow for a while. The first number of a row is with lines from a file and replies to a
+file; the second with a pipe at either end, whose other ends are a `cat` each on other cores, so that each reply wakes
+its reader."""
 import itertools
 import os
 import pathlib
@@ -17,7 +18,7 @@ import time
 
 PROGRAM = pathlib.Path(__file__).resolve().parent.parent / "crates/migrate_main/out/migrate_main"
 LINES = int(sys.argv[1]) if len(sys.argv) > 1 else 200_000
-TURNS = 5
+TURNS = 12
 LOGGED = 1 << 16
 HOST = '{"cmd":"host","name":"h"}\n'
 
