@@ -221,6 +221,24 @@ fn a_record_that_stands_twice_is_strange(rt: HostRuntime) -> Result<(), Fail> {
     Ok(())
 }
 
+/// Whether the first stage may be done where it wrote so many sectors.
+fn stage_done(rt: &HostRuntime, written: u64) -> Result<bool, Fail> {
+    let mut state = state_after(rt, 8)?;
+    let done = Record::StageDone {
+        mig: 1,
+        disk: 0,
+        written,
+    };
+    Ok(state.apply(&done).is_ok())
+}
+
+#[test]
+fn a_stage_writes_at_most_twice_the_largest_disk(rt: HostRuntime) -> Result<(), Fail> {
+    assert!(rt; stage_done(&rt, 8_388_608)?);
+    assert!(rt; !stage_done(&rt, 8_388_609)?);
+    Ok(())
+}
+
 fn jobs_after(rt: &HostRuntime, count: usize, now: u64) -> Result<JobList, Fail> {
     Ok(state_after(rt, count)?.ready_jobs(Moment(now))?)
 }

@@ -1,3 +1,4 @@
+//! The definitions on small logs, refusals in their order, and the laws that the layers above call.
 ghost use Rattle.std.specs.Prelude.{◌≡◌, ◌∷◌, [], Some, None, Ok, Err, true, false, take, IfOk};
 ghost use Rattle.sector_model.specs.Sector.{filled, zero_sector};
 ghost use Rattle.log_model.specs.declared.entry.Owner.{Owner};
@@ -228,7 +229,7 @@ fn a_full_log_is_spent(rt: HostRuntime) -> Result<(), Fail> {
         link.write(3, 0, 0, &[Sector::filled(1)]),
         Err(WriteRefused::LogFull)
     );
-    assert_eq!(rt; link.log().len(), MAX_LOG_ENTRIES);
+    assert_eq!(rt; link.log().len(), 262_144);
     Ok(())
 }
 

@@ -1,3 +1,4 @@
+//! The streams as source and sink, the exit status of each end, and the limit of an input.
 ghost use Rattle.std.specs.Prelude.{◌≡◌};
 
 use crate::input::StandardInput;
@@ -45,6 +46,22 @@ impl Write for Narrow {
     }
 }
 
+/// A writer that keeps what it was given, and refuses to flush it.
+#[derive(Drop)]
+struct Unflushed<'a> {
+    held: &'a mut Vec<u8>,
+}
+
+impl Write for Unflushed<'_> {
+    fn write(&mut self, buf: &[u8]) -> io::Result<usize> {
+        self.held.write(buf)
+    }
+
+    fn flush(&mut self) -> io::Result<()> {
+        Err(Error::from(ErrorKind::Other))
+    }
+}
+
 /// A reader of one line without an LF, which has so many bytes, each of them 0.
 #[derive(Drop)]
 struct Zeros {
@@ -76,10 +93,19 @@ fn exit_of<R: Read + Drop, W: Write + Drop>(
     writer: W,
 ) -> Result<u8, Fail> {
     let disk = MemDisk::new(rt.alloc(), &[], 1000, &[])?;
+    Ok(exit_over(rt, reader, writer, disk))
+}
+
+/// The same, over the disk of a journal.
+fn exit_over<R: Read + Drop, W: Write + Drop>(
+    rt: &HostRuntime,
+    reader: R,
+    writer: W,
+    disk: MemDisk,
+) -> u8 {
     let mut input = StandardInput::new(reader);
     let mut output = StandardOutput::new(writer);
-    let exit = run(rt, rt.alloc(), &[], &mut input, &mut output, disk);
-    Ok(exit.code)
+    run(rt, rt.alloc(), &[], &mut input, &mut output, disk).code
 }
 
 #[test]
@@ -124,6 +150,16 @@ fn a_refusal_of_the_writer_is_a_fault(rt: HostRuntime) {
 }
 
 #[test]
+fn a_put_flushes_what_it_wrote(rt: HostRuntime) -> Result<(), Fail> {
+    let mut held = Vec::new(rt.alloc());
+    let mut output = StandardOutput::new(Unflushed { held: &mut held });
+    assert_eq!(rt; output.put(b"abc"), Err(Failed));
+    assert_eq!(rt; output.faults(), 1);
+    assert_eq!(rt; held.as_slice(), b"abc".as_slice());
+    Ok(())
+}
+
+#[test]
 fn a_word_is_refused_by_the_usage_line(rt: HostRuntime) -> Result<(), Fail> {
     let words = vec![in rt.alloc(); String::from_str(rt.alloc(), "--help")?]?;
     let mut held = Vec::new(rt.alloc());
@@ -148,12 +184,11 @@ fn each_end_has_its_exit_status(rt: HostRuntime) -> Result<(), Fail> {
 }
 
 #[test]
-fn a_file_that_is_no_journal_is_refused(rt: HostRuntime) -> Result<(), Fail> {
-    let disk = MemDisk::new(rt.alloc(), b"0123456789", 1000, &[])?;
-    let mut input = StandardInput::new(Broken);
-    let mut output = StandardOutput::new(Broken);
-    let exit = run(&rt, rt.alloc(), &[], &mut input, &mut output, disk);
-    assert_eq!(rt; exit.code, 5);
+fn a_journal_that_cannot_be_opened_ends_the_program(rt: HostRuntime) -> Result<(), Fail> {
+    let strange = MemDisk::new(rt.alloc(), b"0123456789", 1000, &[])?;
+    assert_eq!(rt; exit_over(&rt, Broken, Broken, strange), 5);
+    let failing = MemDisk::new(rt.alloc(), &[], 1000, &[1])?;
+    assert_eq!(rt; exit_over(&rt, Broken, Broken, failing), 3);
     Ok(())
 }
 

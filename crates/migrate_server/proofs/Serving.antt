@@ -37,6 +37,8 @@ use Rattle.answers.specs.declared.refusal.Refusal.{Refusal}
 use Rattle.answers.specs.declared.refusal.Refusal.TheVariants.{Long}
 use Rattle.migrate_server.specs.declared.serve.NoReply.{NoReply}
 use Rattle.migrate_server.specs.declared.serve.NoReply.TheVariants.{Fault, Unkept}
+use Rattle.migrate_server.specs.declared.serve.NotPut.{NotPut}
+use Rattle.migrate_server.specs.declared.serve.NotPut.TheVariants.{Fault as PutFault, NoMemory as NoPutMemory}
 use Rattle.migrate_server.specs.declared.status.Status.{Status}
 use Rattle.migrate_server.specs.declared.status.Status.TheVariants as status
 use Rattle.migrate_server.specs.declared.serve.Stop.{Stop}
@@ -47,7 +49,7 @@ use Rattle.answers.specs.Answer.{Answer, answer_line}
 use Rattle.migrate_server.specs.Line.{AsksToQuit, Means, refused_by, quits, is_space, is_blank, is_lf, lines_of, ended_lines, before_first_line, requests_among}
 use Rattle.migrate_server.specs.LineBuffer.{Holds}
 use Rattle.migrate_server.specs.Reader.{ReaderState, HasNoLf, IsIdle, TakesLine, TakesEnd, HasNoLine, budget}
-use Rattle.migrate_server.specs.Serve.{IsAnswered, IsStopped, HasReply, TellsQuit, ServesLine, FailsInReply, LacksMemory, LineStops, StopsBeforeReply, LacksReply, LacksBytes, bytes_of_reply, stop_without_line, stop_unkept, stop_without_reply, status_served}
+use Rattle.migrate_server.specs.Serve.{IsAnswered, IsStopped, HasReply, TellsQuit, ServesLine, FailsInReply, LacksMemory, LineStops, StopsBeforeReply, LacksReply, LacksBytes, no_reply_unput, bytes_of_reply, stop_without_line, stop_unkept, stop_without_reply, status_served}
 use Rattle.migrate_server.specs.Serves.{Serves, TakesFor, NoneQuits, QuitsLast, QuitsFor, ComesTo, LeavesFor, CutsNext, CutFor}
 use Rattle.migrate_server.specs.Session.{State, state_of, serving, LineIsCut, Session, Step}
 use Rattle.migrate_server.specs.World.{Server, Desk}
@@ -117,19 +119,19 @@ has_reply line (Asks command) (Some answer) old new means h = (means.some, (Asks
 has_reply line (Refuses why) (Some answer) old new means h = (means.0, (Refuses why, means, h))
 
 -- its reply wasn't written, or not whole
-pub lacks_reply : (why : NoReply) (line : List ℕ) (answer : Answer) (sink sink_after : SinkState)
+pub lacks_reply : (why : NotPut) (line : List ℕ) (answer : Answer) (sink sink_after : SinkState)
     (old new : Server) → HasReply line (Some answer) (state_of old) (state_of new)
     → IsUnfailed old.journal new.journal → LacksBytes why (answer_line answer) sink sink_after
-    → LacksReply why line sink sink_after old new
-lacks_reply Fault line answer sink sink_after old new has unfailed part = record {
+    → LacksReply (no_reply_unput why) line sink sink_after old new
+lacks_reply PutFault line answer sink sink_after old new has unfailed part = record {
   reply = answer;
   answers = has;
   unfailed = unfailed;
   part = part.0;
   rises = part.1;
 }
-lacks_reply (Unkept why) line answer sink sink_after old new has unfailed same =
-    (same.1, inl (same.0, inr (record { reply = answer; answers = has; unfailed = unfailed })))
+lacks_reply NoPutMemory line answer sink sink_after old new has unfailed same =
+    (same, inl (refl, inr (record { reply = answer; answers = has; unfailed = unfailed })))
 
 -- it has no answer
 pub stopped : (line : List ℕ) (what : Line) (why : NotKept) (sink : SinkState) (old new : Server)

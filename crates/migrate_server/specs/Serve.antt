@@ -25,6 +25,8 @@ use Rattle.migrate_server.specs.declared.reader.NoLine.{NoLine}
 use Rattle.migrate_server.specs.declared.reader.NoLine.TheVariants.{Fault as LineFault, Limit, NoMemory as NoLineMemory}
 use Rattle.migrate_server.specs.declared.serve.NoReply.{NoReply}
 use Rattle.migrate_server.specs.declared.serve.NoReply.TheVariants.{Fault, Unkept}
+use Rattle.migrate_server.specs.declared.serve.NotPut.{NotPut}
+use Rattle.migrate_server.specs.declared.serve.NotPut.TheVariants.{Fault as PutFault, NoMemory as NoPutMemory}
 use Rattle.migrate_server.specs.declared.serve.Stop.{Stop}
 use Rattle.migrate_server.specs.declared.serve.Stop.TheVariants.{ReadFault, JournalFault, WriteFault, InputLimit, JournalFull, NoMemory as NoServingMemory}
 use Rattle.migrate_server.specs.declared.status.Status.{Status}
@@ -131,11 +133,16 @@ LacksReply Fault line sink sink_after old new = FailsInReply line sink sink_afte
 LacksReply (Unkept why) line sink sink_after old new =
     StopsBeforeReply why line sink sink_after old new
 
+-- why a line has no reply where its answer wasn't put
+abbrev pub no_reply_unput : NotPut → NoReply
+no_reply_unput PutFault = Fault
+no_reply_unput NoPutMemory = Unkept NoMemory
+
 -- what a sink has of these bytes that were to be put
-abbrev pub LacksBytes : NoReply → (bytes : List ℕ) (sink sink_after : SinkState) → Type 0
-LacksBytes Fault bytes sink sink_after =
+abbrev pub LacksBytes : NotPut → (bytes : List ℕ) (sink sink_after : SinkState) → Type 0
+LacksBytes PutFault bytes sink sink_after =
     AppendsPrefix sink.held sink_after.held bytes × HasRisen sink.faults sink_after.faults
-LacksBytes (Unkept why) bytes sink sink_after = (why ≡ NoMemory) × (sink_after ≡ sink)
+LacksBytes NoPutMemory bytes sink sink_after = sink_after ≡ sink
 
 -- ---- the whole input
 

@@ -100,6 +100,40 @@ impl From<NoMemory> for NoReply {
     }
 }
 
+/// Why an answer wasn't put, or not whole.
+#[derive(Clone, Copy, Debug, PartialEq, Eq)]
+pub(crate) enum NotPut {
+    /// The sink failed.
+    Fault,
+    /// Memory ran out before anything was put.
+    NoMemory,
+}
+
+impl From<NoMemory> for NotPut {
+    ghost use Rattle.std.specs.Prelude.{◌≡◌};
+    ghost use Rattle.migrate_server.specs.declared.serve.NotPut.TheVariants.{NoMemory as Wanting};
+
+    ghost from_gives = { λ _ why. why ≡ Wanting };
+
+    fn from(_refused: NoMemory) -> NotPut {
+        NotPut::NoMemory
+    }
+}
+
+impl From<NotPut> for NoReply {
+    ghost use Rattle.std.specs.Prelude.{◌≡◌};
+    ghost use Rattle.migrate_server.specs.Serve.{no_reply_unput};
+
+    ghost from_gives = { λ why no_reply. no_reply ≡ no_reply_unput why };
+
+    fn from(why: NotPut) -> NoReply {
+        match why {
+            NotPut::Fault => NoReply::Fault,
+            NotPut::NoMemory => NoReply::Unkept(NotKept::NoMemory),
+        }
+    }
+}
+
 impl From<NoReply> for Stop {
     ghost use Rattle.std.specs.Prelude.{◌≡◌};
     ghost use Rattle.migrate_server.specs.Serve.{stop_without_reply};
@@ -193,7 +227,7 @@ fn serve_line<K: Sink, D: Disk, T: VolumeStore>(
 }
 
 /// Puts the reply that tells an answer.
-fn put_answer<K: Sink>(alloc: Global, answer: Answer, out: &mut K) -> Result<(), NoReply>
+fn put_answer<K: Sink>(alloc: Global, answer: Answer, out: &mut K) -> Result<(), NotPut>
     ensures written { OnOk result
         (Appends (K.state out.old).held (K.state out.new).held (answer_line answer)) }
     ensures steady { OnOk result ((K.state out.new).faults ≡ (K.state out.old).faults) }
@@ -203,7 +237,7 @@ fn put_answer<K: Sink>(alloc: Global, answer: Answer, out: &mut K) -> Result<(),
     let line = line_for(alloc, answer)?;
     match out.put(&line) {
         Ok(()) => Ok(()),
-        Err(_) => Err(NoReply::Fault),
+        Err(_) => Err(NotPut::Fault),
     }
 }
 

@@ -1,3 +1,5 @@
+//! `migrate` over a source, a sink, a journal's disk and a store of volumes in memory: moves here,
+//! machines and plans in the modules below.
 ghost use Rattle.std.specs.Prelude.{IfOk};
 ghost use Rattle.fleet.specs.Sound.{AllAreIn};
 

@@ -74,7 +74,7 @@ impl Volume for MemVolume {
         self.held.sectors.len() as u64
     }
 
-    /// Fails exactly where it was told to, and then changes only its counts.
+    /// Fails exactly where it was told to. Then only its counts change, and the buffer is as it was.
     fn read(&mut self, first: u64, buf: &mut [Sector]) -> Result<(), VolumeFailed>
         requires { first + length buf.old ≤ length self.old.held.contents.sectors }
         ensures given { OnOk result
@@ -88,6 +88,7 @@ impl Volume for MemVolume {
         ensures left { self.new ≡ record self.old {
           held = record self.old.held { calls = after_call self.old.held.calls (is_ok result) };
         } }
+        ensures unfilled { OnErr result (buf.new ≡ buf.old) }
     {
         self.held.calls.next()?;
         let first = first as usize;

@@ -1,8 +1,7 @@
+//! Volumes and stores in memory: what they hold, which calls fail, and how names are lent.
 ghost use Rattle.std.specs.Prelude.{◌≤◌, length};
 
-use crate::{
-    MemVolumes, Name, StoreRefused, VOLUME_CALLS, Volume, VolumeFailed, VolumeName, VolumeStore,
-};
+use crate::{MemVolumes, Name, StoreRefused, Volume, VolumeFailed, VolumeName, VolumeStore};
 use basics::MAX_NAME_BYTES;
 use sector_model::{NoMemory, Sector};
 use std::alloc::Global;
@@ -65,9 +64,10 @@ fn a_volume_is_lent_once(rt: HostRuntime) -> Result<(), Fail> {
     Ok(())
 }
 
+/// The calls of volumes are counted from 2^32 on.
 #[test]
 fn the_calls_that_were_named_fail(rt: HostRuntime) -> Result<(), Fail> {
-    let mut store = MemVolumes::new(rt.alloc(), 0, &[2, VOLUME_CALLS + 2])?;
+    let mut store = MemVolumes::new(rt.alloc(), 0, &[2, (1 << 32) + 2])?;
     let name = given(rt.alloc(), "t")?;
     let mut volume = store.create(&name, 1)?;
     volume.flush()?;

@@ -12,7 +12,7 @@ use Rattle.turn_lock.specs.declared.view.Beginning.{Beginning}
 use Rattle.turn_lock.specs.declared.view.Chief.{Chief}
 use Rattle.turn_lock.specs.declared.view.View.{View}
 use Rattle.turn_lock.specs.View.{is_live, waits}
-use Rattle.turn_lock.specs.Rule.{Whereabouts, seated, ended, due, free, Fits, Leads, InSlot, Kept}
+use Rattle.turn_lock.specs.Rule.{Whereabouts, seated, ended, due, free, Fits, Leads, InSlot, RuleHolds}
 use Rattle.turn_lock.proofs.Seats.{bit, at_within, there, one_place, count_same, count_within}
 
 abbrev pub seat_number : Whereabouts → ℕ
@@ -108,7 +108,7 @@ module _ {X F E : Type 0} (frame : X → F) (story_of : X → List E) (who : E �
   M = Me (Option X) (View F E)
 
   abbrev pub K : Beginning F → St → Type 0
-  K = Kept frame story_of who
+  K = RuleHolds frame story_of who
 
   -- the seat with the number 0 is the seat 0
   pub first_is : (b : Beginning F) (s : St) (r : K b s) (id : ℕ) (v : View F E)

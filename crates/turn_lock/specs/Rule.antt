@@ -85,7 +85,7 @@ module _ {X F E : Type 0} (frame : X → F) (story_of : X → List E) (who : E �
         × ((id : ℕ) × (v : View F E) × (get_elem? views id ≡ some v)
         × (is_live v ≡ true) × (v.holds ≡ true)))
 
-  pub record Kept (b : Beginning F) (s : State (Option X) (View F E)) : Type 0 where
+  pub record RuleHolds (b : Beginning F) (s : State (Option X) (View F E)) : Type 0 where
     pub story : List E
     -- where each number is, which seat has each ticket, and how many tickets were served
     pub place : ℕ → Whereabouts

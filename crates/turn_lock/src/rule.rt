@@ -5,7 +5,7 @@
 //! (`Unite`, and then `Compare`); every pass draws a ticket (`DrawTicket`), looks at the word of
 //! the served tickets (`Look`), takes the value out of the slot and puts one in, and serves the
 //! next (`Serve`).
-ghost use Rattle.turn_lock.specs.Rule.{Kept, beginning_of, first_view};
+ghost use Rattle.turn_lock.specs.Rule.{RuleHolds, beginning_of, first_view};
 ghost use Rattle.turn_lock.specs.View.{DrawsNumber, Compares, DrawsTicket, LooksAtServed, Serves, parted, split_view, united, spent};
 
 use crate::story::Storied;
@@ -21,7 +21,7 @@ pub struct History<V> {
 }
 
 impl<V: Storied> TableRule<Option<V>, View<V::Frame, V::Entry>, Snapshot<V>> for History<V> {
-    ghost holds = { λ key. Kept V.frame V.story V.who (beginning_of V.frame V.story key.value) };
+    ghost holds = { λ key. RuleHolds V.frame V.story V.who (beginning_of V.frame V.story key.value) };
 
     ghost first = { λ key. first_view V.frame V.story key.value };
 }

@@ -344,6 +344,19 @@ fn a_full_stage_goes_through_gap_and_area(rt: HostRuntime) -> Result<(), Fail> {
 }
 
 #[test]
+fn a_piece_has_at_most_128_sectors(rt: HostRuntime) -> Result<(), Fail> {
+    let mut page = Page::new(rt.alloc())?;
+    page.push(run(0, 256));
+    page.cover(256);
+    let mut stage = StageState::begin(256, false);
+    stage.area_page(&page);
+    assert_eq!(rt; stage.piece(&page), Piece::Copy(run(0, 128)));
+    stage.copied(run(0, 128));
+    assert_eq!(rt; stage.piece(&page), Piece::Copy(run(128, 128)));
+    Ok(())
+}
+
+#[test]
 fn a_partial_stage_copies_its_area_alone(rt: HostRuntime) -> Result<(), Fail> {
     let page = page(rt.alloc())?;
     let mut stage = StageState::begin(256, false);

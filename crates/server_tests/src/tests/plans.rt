@@ -116,6 +116,17 @@ fn a_file_of_few_bytes_becomes_a_journal(rt: HostRuntime) -> Result<(), Fail> {
     Ok(())
 }
 
+/// A plan's record has the minutes between two copies behind its name.
+#[test]
+fn a_plan_copies_every_hour_where_no_interval_is_asked(rt: HostRuntime) -> Result<(), Fail> {
+    let run = served(&rt, lines_of(rt.alloc(), &PLANNED)?.as_str())?;
+    assert_eq!(rt;
+        bytes_of(run.disk)?,
+        *b"WARMJNL1\x01\0\0\0\x13\x01\0\0\0\x01\x01p\0\0\0\x3c\0\0\0\x01\0\0\0\x01\0"
+    );
+    Ok(())
+}
+
 /// A plan of a machine that goes on being written is made and started, and looked at.
 const ORDERED: [Exchange; 9] = [
     HOST,
