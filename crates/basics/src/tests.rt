@@ -1,3 +1,4 @@
+//! Names, texts, numbers in their order, and the counts of calls and faults.
 use crate::{Calls, Failed, Name, NumberList, Sequence, Text, is_name};
 use std::test::Fail;
 

@@ -1,3 +1,5 @@
+//! A tracker beside plain lists of what was touched, for drawn calls and for the bounds of words,
+//! blocks and pages.
 ghost use Rattle.std.specs.Prelude.{◌≡◌, ◌+◌, ◌<◌, ◌≤◌, OnOk, IfOk};
 
 use crate::{TrackRefused, Tracker};

@@ -1,3 +1,5 @@
+//! Sources, sinks and disks in memory: what they hold, which calls fail, and what a crash may
+//! leave.
 ghost use Rattle.std.specs.Prelude.{◌≡◌, ◌<◌, length, OnOk, OnErr};
 ghost use Rattle.std.specs.Io.KnownBytes.{Appends};
 ghost use Rattle.basics.specs.Faults.{HasCause};

@@ -1,3 +1,4 @@
+//! A file as a disk: it is made by the first call, keeps its bytes, and an error is a fault.
 use crate::{Disk, Failed, FileDisk, NamedFile};
 use std::fs;
 use std::test::Fail;

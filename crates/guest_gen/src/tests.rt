@@ -1,3 +1,4 @@
+//! The first numbers and writes of known seeds, and writes at the end of their disk.
 ghost use Rattle.std.specs.Prelude.{◌≡◌, ◌∷◌, []};
 ghost use Rattle.basics.specs.Generator.{advance};
 ghost use Rattle.guest_gen.specs.Script.{offered};

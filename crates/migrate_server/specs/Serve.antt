@@ -7,7 +7,7 @@ use Rattle.edge_traits.specs.Sink.{SinkState, AppendsPrefix}
 use Rattle.basics.specs.Faults.{HasRisen}
 use Rattle.answers.specs.Answer.{Answer, answer_line}
 use Rattle.cmd_json.specs.declared.command.Command.{Command}
-use Rattle.cmd_json.specs.declared.command.Command.TheVariants.{Plan, Start, Cutover, Status as PlanStatus}
+use Rattle.cmd_json.specs.declared.command.Command.TheVariants.{Move, Host, Vm, Enable, Write, Snapshot, Remove, Query, Read, Power, Reset, Inventory, Plan, Start, Run, Cutover, Cancel, Status as PlanStatus, Target, Digest, Restart, Quit}
 use Rattle.fleet.specs.Fleet.{FleetState}
 use Rattle.journal.specs.Journal.{JournalState, outcomes}
 use Rattle.record_keeping.specs.Keeping.{IsUnfailed, KeepsFront}
@@ -47,7 +47,24 @@ is_on_plans (Plan name vms interval) = true
 is_on_plans (Start plan) = true
 is_on_plans (Cutover plan at) = true
 is_on_plans PlanStatus = true
-is_on_plans _ = false
+is_on_plans (Move name sectors writes) = false
+is_on_plans (Host name limit) = false
+is_on_plans (Vm name host disks) = false
+is_on_plans (Enable vm) = false
+is_on_plans (Write vm disk first count fill) = false
+is_on_plans (Snapshot vm) = false
+is_on_plans (Remove vm snapshot) = false
+is_on_plans (Query vm snapshot disk since start) = false
+is_on_plans (Read vm disk first count snapshot) = false
+is_on_plans (Power vm on) = false
+is_on_plans (Reset vm disk) = false
+is_on_plans Inventory = false
+is_on_plans (Run at workers guests disturb) = false
+is_on_plans (Cancel vm) = false
+is_on_plans (Target volume first count) = false
+is_on_plans (Digest volume) = false
+is_on_plans Restart = false
+is_on_plans Quit = false
 
 -- ---- a command that has no answer
 

@@ -1,3 +1,4 @@
+//! The definitions on small disks and volumes, and runs, areas, pages and lists of sectors.
 ghost use Rattle.std.specs.Prelude.{◌≡◌, ◌≤◌, ◌*◌, ◌<◌, List, [], ◌∷◌, ℕ, All, Some, None, true, false};
 ghost use Rattle.std.specs.List.Sorted.{IsStrictlyIncreasing};
 ghost use Rattle.sector_model.specs.Sector.{filled, zero_sector};

@@ -43,14 +43,14 @@ present c history = fold_writes c (writes_in history)
 abbrev pub before_freeze : ℕ → List DiskEvent → List DiskEvent
 before_freeze s history = take (position_or_len (freezes s) history) history
 
-abbrev pub frozen : ℕ → ℕ → List DiskEvent → List Sector
+abbrev pub frozen : (c s : ℕ) → List DiskEvent → List Sector
 frozen c s history = present c (before_freeze s history)
 
 -- the blocks that were written before snapshot s, ascending, and their areas
-abbrev pub touched_before : ℕ → ℕ → List DiskEvent → List ℕ
+abbrev pub touched_before : (c s : ℕ) → List DiskEvent → List ℕ
 touched_before c s history = touched_blocks c (writes_in (before_freeze s history))
 
-abbrev pub allocated : ℕ → ℕ → List DiskEvent → List Run
+abbrev pub allocated : (c s : ℕ) → List DiskEvent → List Run
 allocated c s history = areas_of c (touched_before c s history)
 
 -- the live snapshots: those that were frozen and not merged since, in the order of their freezes

@@ -10,7 +10,7 @@ use Rattle.snapshot_chain.specs.Chain.{Snapshot}
 use Rattle.snapshot_chain.specs.Layer.{LayerState, sector_in, IsWithin, IsMerged}
 
 -- the newest layer's sector, else what the layers below have
-abbrev pub found : List LayerState → ℕ → ℕ → Option Sector
+abbrev pub found : List LayerState → (block offset : ℕ) → Option Sector
 found [] block offset = None
 found (layer ∷ layers) block offset =
     option_or (found layers block offset) (sector_in layer block offset)
@@ -31,7 +31,7 @@ has_found layers block =
 abbrev pub blocks_in : ℕ → List LayerState → List ℕ
 blocks_in c layers = blocks_where c (has_found layers)
 
-abbrev pub snapshot_in : ℕ → ℕ → List LayerState → Snapshot
+abbrev pub snapshot_in : (c id : ℕ) → List LayerState → Snapshot
 snapshot_in c id layers = record {
   id = id;
   contents = contents_in c layers;

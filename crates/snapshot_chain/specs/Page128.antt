@@ -74,11 +74,11 @@ IsOverwritten old block first sectors page = (offset : ℕ) → offset < BLOCK_S
     ≡ option_map (unwrap_or (run_at first sectors (BLOCK_SECTORS * block + offset))) (old offset)
 
 -- the sector at the offset is another, if there was one
-abbrev pub IsReplaced : PageState → (offset : ℕ) → Sector → PageState → Type 0
+abbrev pub IsReplaced : (old : PageState) → (offset : ℕ) → Sector → (new : PageState) → Type 0
 IsReplaced old offset sector new = (k : ℕ) → k < BLOCK_SECTORS → sector_at new k
     ≡ (if k == offset then option_map (λ was. sector) (sector_at old k) else sector_at old k)
 
 -- the page has the sector at the offset, and elsewhere what it had
-abbrev pub IsPut : PageState → (offset : ℕ) → Sector → PageState → Type 0
+abbrev pub IsPut : (old : PageState) → (offset : ℕ) → Sector → (new : PageState) → Type 0
 IsPut old offset sector new = (k : ℕ) → k < BLOCK_SECTORS
     → sector_at new k ≡ (if k == offset then Some sector else sector_at old k)

@@ -1,3 +1,4 @@
+//! A chain beside plain images for drawn calls, its refusals, and how little a read looks up.
 ghost use Rattle.std.specs.Prelude.{◌≡◌, ◌+◌, ◌<◌, ◌≤◌, length, OnOk, ℕ};
 ghost use Rattle.snapshot_chain.specs.Reading.{blocks_met};
 

@@ -1,3 +1,4 @@
+//! What a disk tells of its blocks and identifiers, before and after resets and removals.
 ghost use Rattle.std.specs.Prelude.{◌≡◌, ◌+◌, ◌≤◌, IfOk, OnOk};
 ghost use Rattle.source_disk.specs.SourceDisk.{epoch_of, IsFree};
 
