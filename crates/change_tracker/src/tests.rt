@@ -3,6 +3,7 @@
 ghost use Rattle.std.specs.Prelude.{◌≡◌, ◌+◌, ◌<◌, ◌≤◌, OnOk, IfOk};
 
 use crate::{TrackRefused, Tracker};
+use basics::advance;
 use change_id::{ChangeId, Since, pack};
 use sector_model::{BLOCK_SECTORS, PAGE_AREAS, Page, Run};
 use std::alloc::Global;
@@ -276,9 +277,7 @@ fn run_on(rt: &impl Abort, alloc: Global, capacity: u64, seed: u64) -> Result<()
     let mut plain = Plain::new(alloc, capacity);
     let mut state = seed;
     for id in 0..30u32 {
-        state = state
-            .wrapping_mul(6364136223846793005)
-            .wrapping_add(1442695040888963407);
+        state = advance(state);
         reserve_another(&mut tracker, capacity, state >> 7)?;
         act(rt, &mut tracker, &mut plain, capacity, id, state >> 7)?;
         compare_all(rt, &tracker, &plain, (state >> 24) % capacity, &mut page)?;

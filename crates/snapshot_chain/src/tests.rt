@@ -3,6 +3,7 @@ ghost use Rattle.std.specs.Prelude.{◌≡◌, ◌+◌, ◌<◌, ◌≤◌, leng
 ghost use Rattle.snapshot_chain.specs.Reading.{blocks_met};
 
 use crate::{Chain, ChainRefused, Steps, reads_the_fold};
+use basics::advance;
 use sector_model::{Run, Sector};
 use std::alloc::Global;
 use std::marker::Brand;
@@ -21,25 +22,25 @@ fn ranges_meet_their_blocks()
     ensures shifted { blocks_met 1 128 ≡ 2 }
 {}
 
-/// A disk kept without layers: a byte for each sector, now and at each live snapshot.
+/// A disk kept without layers, now and at each live snapshot.
 #[derive(Drop)]
 struct Plain {
-    now: Image,
-    frozen: Vec<(u32, Image)>,
+    now: PlainDisk,
+    frozen: Vec<(u32, PlainDisk)>,
 }
 
 /// A byte for each sector, and for each whether its block was written.
 #[derive(Drop)]
-struct Image {
+struct PlainDisk {
     bytes: Vec<u8>,
     touched: Vec<bool>,
 }
 
-impl Image {
-    fn copy(&self) -> Result<Image, Fail> {
+impl PlainDisk {
+    fn copy(&self) -> Result<PlainDisk, Fail> {
         let bytes = self.bytes.clone()?;
         let touched = self.touched.clone()?;
-        Ok(Image { bytes, touched })
+        Ok(PlainDisk { bytes, touched })
     }
 
     fn write(&mut self, first: u64, count: u64, byte: u8) {
@@ -108,7 +109,7 @@ fn compare(
     alloc: Global,
     chain: &Chain,
     id: Option<u32>,
-    plain: &Image,
+    plain: &PlainDisk,
 ) -> Result<(), Fail> {
     let mut buf = vec![in alloc; Sector::filled(77); plain.bytes.len()]?;
     chain.read(id, 0, buf.as_mut_slice())?;
@@ -123,7 +124,7 @@ fn compare(
 }
 
 /// Compares the areas of a snapshot with a plain image.
-fn compare_areas(rt: &impl Abort, chain: &Chain, id: u32, plain: &Image) -> Result<(), Fail> {
+fn compare_areas(rt: &impl Abort, chain: &Chain, id: u32, plain: &PlainDisk) -> Result<(), Fail> {
     let areas = chain.allocated(id)?;
     for (at, touched) in plain.touched.iter().enumerate() {
         let at = at as u64;
@@ -143,7 +144,7 @@ fn run_on(rt: &impl Abort, alloc: Global, capacity: u64, seed: u64) -> Result<()
 {
     let mut chain = Chain::new(alloc, capacity)?;
     let mut plain = Plain {
-        now: Image {
+        now: PlainDisk {
             bytes: vec![in alloc; 0u8; capacity as usize]?,
             touched: vec![in alloc; false; capacity as usize]?,
         },
@@ -151,9 +152,7 @@ fn run_on(rt: &impl Abort, alloc: Global, capacity: u64, seed: u64) -> Result<()
     };
     let mut state = seed;
     for id in 0..40u32 {
-        state = state
-            .wrapping_mul(6364136223846793005)
-            .wrapping_add(1442695040888963407);
+        state = advance(state);
         act(alloc, &mut chain, &mut plain, capacity, id, state >> 7)?;
         compare(rt, alloc, &chain, None, &plain.now)?;
         for (snapshot, image) in &plain.frozen {

@@ -167,10 +167,10 @@ module _ (d : SourceDiskState) (id : ℕ) (log : List Entry) (stands : StandsFor
         λ c. OnOk result (IfOk
         (tracker.answered d.tracker.machine d.tracker.disk d.tracker.capacity id since
         (steps_of (number_of d) log)) (λ areas. page ≡ page_from c areas start)) in
-        let Told : Result (List Run) (Option ChangeId) → Type 0 =
+        let Gives : Result (List Run) (Option ChangeId) → Type 0 =
         λ answer. OnOk result
         (IfOk answer (λ areas. page ≡ page_from (capacity_of d) areas start)) in
-        subst Told same_answer
+        subst Gives same_answer
         (subst Sized stands.in_step.capacity
         (answers (steps_of (number_of d) log) stands.tracker))
 
@@ -197,8 +197,8 @@ pub named_after : (d : SourceDiskState) (t : TrackerState) → t ≡ (with_freez
 named_after d t reserved id result named log who owner stands =
     let h = steps_of (number_of d) log in
     let Stands : TrackerState → Type 0 = λ x. tracker.StandsFor x h in
-    let Told : Option ChangeId → Type 0 = λ is. IfOk result (λ told. told ≡ is) in
-    subst Told (ap (λ x. tracker.id_at x.machine x.disk id (h ++ tracker.Frozen id ∷ [])) reserved
+    let Gives : Option ChangeId → Type 0 = λ is. IfOk result (λ told. told ≡ is) in
+    subst Gives (ap (λ x. tracker.id_at x.machine x.disk id (h ++ tracker.Frozen id ∷ [])) reserved
     ∙ named_by d id who owner log)
     (named h (subst Stands (sym reserved)
     (trackers.room_is_no_part d.tracker h d.tracker.mark_room true stands.tracker)))
