@@ -234,8 +234,8 @@ fn stage_done(rt: &HostRuntime, written: u64) -> Result<bool, Fail> {
 
 #[test]
 fn a_stage_writes_at_most_twice_the_largest_disk(rt: HostRuntime) -> Result<(), Fail> {
-    assert!(rt; stage_done(&rt, 8_388_608)?);
-    assert!(rt; !stage_done(&rt, 8_388_609)?);
+    assert!(rt; stage_done(&rt, 1 << 30)?);
+    assert!(rt; !stage_done(&rt, (1 << 30) + 1)?);
     Ok(())
 }
 
