@@ -1,4 +1,4 @@
-//! The line of each answer that tells something besides its text.
+//! The line of a reply, and of a refusal for each kind of what it carries.
 use crate::{Answer, Refusal, line_for};
 use basics::{Name, NoMemory, Text};
 use change_id::IdRefused;

@@ -1,5 +1,5 @@
-//! A tracker beside plain lists of what was touched, for drawn calls and for the bounds of words,
-//! blocks and pages.
+//! A tracker beside plain lists of what was touched, for drawn calls; worked answers at the bounds
+//! of words, blocks and pages, and behind a reset; and its refusals.
 ghost use Rattle.std.specs.Prelude.{◌≡◌, ◌+◌, ◌<◌, ◌≤◌, OnOk, IfOk};
 
 use crate::{TrackRefused, Tracker};

@@ -1,5 +1,6 @@
-//! The records of one migration from its plan to its end: what each leaves, and that one which is
-//! missing or stands twice makes a record strange.
+//! The records of one migration from its plan to its end: what each leaves, that one which is
+//! missing or stands twice makes a record strange, how much a stage may write, and which jobs and
+//! task there are.
 use crate::*;
 use checkpoints::Checkpoint;
 use phase_table::Phase;

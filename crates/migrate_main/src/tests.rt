@@ -1,4 +1,4 @@
-//! The streams as source and sink, the exit status of each end, and the limit of an input.
+//! The streams as source and sink, the exit statuses 0 to 6, and the limit of an input.
 ghost use Rattle.std.specs.Prelude.{◌≡◌};
 
 use crate::input::StandardInput;
@@ -176,7 +176,7 @@ fn a_word_is_refused_by_the_usage_line(rt: HostRuntime) -> Result<(), Fail> {
 }
 
 #[test]
-fn each_end_has_its_exit_status(rt: HostRuntime) -> Result<(), Fail> {
+fn streams_that_end_or_fail_have_their_exit_status(rt: HostRuntime) -> Result<(), Fail> {
     assert_eq!(rt; exit_of(&rt, b"".as_slice(), Broken)?, 0);
     assert_eq!(rt; exit_of(&rt, Broken, Broken)?, 2);
     assert_eq!(rt; exit_of(&rt, b"{\"cmd\":\"fly\"}\n".as_slice(), Broken)?, 4);

@@ -6,6 +6,7 @@ ghost use Rattle.fleet.specs.Sound.{AllAreIn};
 mod machines;
 mod plans;
 
+use self::machines::{lines_of, replies_of};
 use basics::NoMemory;
 use edge_traits::{Disk, Failed, MemDisk, MemSink, MemSource, Source};
 use migrate_server::{Devices, Fleet, Gate, Outcome, Status, migrate};
@@ -239,8 +240,13 @@ fn a_failing_store_is_told_and_the_next_line_answered(rt: HostRuntime) -> Result
         failing_calls: &[1],
         ..SOUND
     };
-    let run = served_in(&rt, &setting, &[], MOVE.as_bytes())?;
-    assert_eq!(rt; held(&run), FAILED.as_bytes());
+    let exchanges = [
+        (MOVE.trim_end(), FAILED.trim_end()),
+        ("x", r#"{"error":"json","ok":false}"#),
+    ];
+    let lines = lines_of(rt.alloc(), &exchanges)?;
+    let run = served_in(&rt, &setting, &[], lines.as_bytes())?;
+    assert_eq!(rt; held(&run), replies_of(rt.alloc(), &exchanges)?.as_bytes());
     assert_eq!(rt; run.status, Status::Ok);
     assert_eq!(rt; run.volumes.faults(), 1);
     Ok(())

@@ -74,7 +74,7 @@ impl Volume for MemVolume {
         self.held.sectors.len() as u64
     }
 
-    /// Fails exactly where it was told to. Then only its counts change, and the buffer is as it was.
+    /// Fails exactly where it was told to. Then only its counts change, and the buffer stays.
     fn read(&mut self, first: u64, buf: &mut [Sector]) -> Result<(), VolumeFailed>
         requires { first + length buf.old ≤ length self.old.held.contents.sectors }
         ensures given { OnOk result

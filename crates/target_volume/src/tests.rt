@@ -1,4 +1,5 @@
-//! Volumes and stores in memory: what they hold, which calls fail, and how names are lent.
+//! Volumes and stores in memory: what they hold, which calls fail, that a name is taken once and a
+//! volume lent once.
 ghost use Rattle.std.specs.Prelude.{◌≤◌, length};
 
 use crate::{MemVolumes, Name, StoreRefused, Volume, VolumeFailed, VolumeName, VolumeStore};
@@ -64,7 +65,7 @@ fn a_volume_is_lent_once(rt: HostRuntime) -> Result<(), Fail> {
     Ok(())
 }
 
-/// The calls of volumes are counted from 2^32 on.
+/// Call k of the first volume has the number 2^32 + k.
 #[test]
 fn the_calls_that_were_named_fail(rt: HostRuntime) -> Result<(), Fail> {
     let mut store = MemVolumes::new(rt.alloc(), 0, &[2, (1 << 32) + 2])?;

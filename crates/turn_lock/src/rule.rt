@@ -21,7 +21,8 @@ pub struct History<V> {
 }
 
 impl<V: Storied> TableRule<Option<V>, View<V::Frame, V::Entry>, Snapshot<V>> for History<V> {
-    ghost holds = { λ key. RuleHolds V.frame V.story V.who (beginning_of V.frame V.story key.value) };
+    ghost holds = { λ key.
+        RuleHolds V.frame V.story V.who (beginning_of V.frame V.story key.value) };
 
     ghost first = { λ key. first_view V.frame V.story key.value };
 }

@@ -1,5 +1,5 @@
-//! Four threads over one turn: their entries stand once and in each one's order, passes come and
-//! go beside them, and one turn lies behind another.
+//! Four threads over one turn: their entries stand once and in each one's order, also where passes
+//! come and go beside them. Two threads over a turn whose value reaches another turn.
 ghost use Rattle.std.specs.Prelude.{◌≡◌, ℕ, false, true, length, Some, IfOk, ◌<◌, ◌+◌, All};
 ghost use Rattle.turn_lock.specs.Story.{AddsUnder};
 ghost use Rattle.turn_lock.specs.Pass.{IsFreeAt, IsPassOf};

@@ -344,7 +344,7 @@ fn a_full_stage_goes_through_gap_and_area(rt: HostRuntime) -> Result<(), Fail> {
 }
 
 #[test]
-fn a_piece_has_at_most_128_sectors(rt: HostRuntime) -> Result<(), Fail> {
+fn an_area_is_copied_in_pieces_of_128_sectors(rt: HostRuntime) -> Result<(), Fail> {
     let mut page = Page::new(rt.alloc())?;
     page.push(run(0, 256));
     page.cover(256);
@@ -353,6 +353,16 @@ fn a_piece_has_at_most_128_sectors(rt: HostRuntime) -> Result<(), Fail> {
     assert_eq!(rt; stage.piece(&page), Piece::Copy(run(0, 128)));
     stage.copied(run(0, 128));
     assert_eq!(rt; stage.piece(&page), Piece::Copy(run(128, 128)));
+    Ok(())
+}
+
+#[test]
+fn a_gap_is_zeroed_in_pieces_of_128_sectors(rt: HostRuntime) -> Result<(), Fail> {
+    let mut page = Page::new(rt.alloc())?;
+    page.cover(256);
+    let mut stage = StageState::begin(256, true);
+    stage.area_page(&page);
+    assert_eq!(rt; stage.piece(&page), Piece::Zero(run(0, 128)));
     Ok(())
 }
 
